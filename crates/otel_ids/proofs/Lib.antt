@@ -1,0 +1,10 @@
+pub mod Cuts
+pub mod Faults
+pub mod Readings
+pub mod Turns
+pub mod Walks
+pub mod Header
+pub mod Numbers
+pub mod Numerals
+pub mod FlagBits
+pub mod Alike

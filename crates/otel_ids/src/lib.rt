@@ -1,0 +1,19 @@
+//! Ids, flags, trace states and span contexts: what the headers of a distributed trace carry (W3C trace-context-2).
+#![tactic(auto)]
+
+mod error;
+pub mod laws;
+mod list_member;
+mod members;
+mod reading;
+mod span_context;
+mod trace_context;
+mod trace_state;
+
+pub use error::TraceStateError;
+pub use span_context::SpanContext;
+pub use trace_context::{SpanId, TraceFlags, TraceId};
+pub use trace_state::{TraceState, TraceStateIter};
+
+#[cfg(test)]
+mod tests;
