@@ -1,0 +1,5 @@
+pub mod Decided
+pub mod Joined
+pub mod Sorting
+pub mod Views
+pub mod Walk

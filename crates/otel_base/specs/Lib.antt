@@ -1,0 +1,13 @@
+pub mod Attribute
+pub mod AttributeLaws
+pub mod KeyOrder
+pub mod KeyOrderLaws
+pub mod Scope
+pub mod ScopeLaws
+pub mod Seen
+pub mod Severity
+pub mod Text
+pub mod Tree
+pub mod TreeCode
+pub mod TreeLaws
+pub mod View

@@ -1,0 +1,111 @@
+//! The name of an attribute, of a context entry or of a baggage entry.
+ghost use Rattle.std.specs.Prelude.{◌≡◌, IfOk, string_bytes, Some};
+ghost use Rattle.std.specs.Rc.{rc_str_bytes};
+
+use crate::text::Text;
+use std::alloc::{AllocError, Global};
+use std::fmt;
+use std::marker::Model;
+use std::rc::RcStr;
+
+/// The key of an attribute, a context entry or a baggage entry (the Rust crate's `Key`).
+///
+/// It means its text, the list of its UTF-8 bytes, whether that is owned, static or shared. Equality, order (by the
+/// bytes), hash and `Display` look at the text alone, so ordered and hashed maps may be keyed by it.
+#[derive(PartialEq, Eq, PartialOrd, Ord, Hash, Debug, Drop)]
+pub struct Key {
+    text: Text,
+}
+
+impl Model for Key {
+    ghost use Rattle.std.specs.Prelude.{List, ℕ};
+
+    ghost Value = { List ℕ };
+
+    ghost view = { λ k. k.text };
+
+    ghost inverse = { λ t. record { text = t } };
+}
+
+impl Key {
+    /// The key of an owned text. Takes no memory.
+    pub fn new(value: String) -> Key
+        ensures { result ≡ string_bytes value }
+    {
+        Key {
+            text: Text::from(value),
+        }
+    }
+
+    /// The key of a static text. Neither it nor its clones take memory.
+    pub fn from_static_str(value: &'static str) -> Key
+        ensures { result ≡ value.now }
+    {
+        Key::from(value)
+    }
+
+    /// The text.
+    pub fn as_str(&self) -> &str
+        ensures { result.now ≡ self.now }
+    {
+        self.text.as_str()
+    }
+
+    /// The text as an owned `String` (the Rust crate's `From<Key> for String`).
+    ///
+    /// A key made from a `String` gives it back without taking memory; a static or shared text is copied.
+    pub fn into_string(self, alloc: Global) -> Result<String, AllocError>
+        ensures { IfOk result (λ s. string_bytes s ≡ self) }
+    {
+        self.text.into_string(alloc)
+    }
+}
+
+impl Clone for Key {
+    ghost is_clone = { λ s copy. copy ≡ s };
+
+    /// A key of the same text. Only an owned text takes memory.
+    fn clone(&self) -> Result<Key, AllocError> {
+        Ok(Key {
+            text: self.text.clone()?,
+        })
+    }
+}
+
+impl From<&'static str> for Key {
+    ghost from_gives = { λ s k. k ≡ s.now };
+
+    /// The key of a static text.
+    fn from(value: &'static str) -> Key {
+        let text = Text::from(value);
+        Key { text }
+    }
+}
+
+impl From<String> for Key {
+    ghost from_gives = { λ s k. k ≡ string_bytes s };
+
+    /// The key of an owned text.
+    fn from(value: String) -> Key {
+        Key::new(value)
+    }
+}
+
+impl From<RcStr> for Key {
+    ghost from_gives = { λ s k. k ≡ rc_str_bytes s };
+
+    /// The key of a shared text.
+    fn from(value: RcStr) -> Key {
+        let text = Text::from(value);
+        Key { text }
+    }
+}
+
+impl fmt::Display for Key {
+    ghost output = { λ k. Some k };
+
+    /// Writes the text; width and fill are ignored.
+    fn fmt<W: fmt::Write>(&self, f: &mut fmt::Formatter<W>) -> fmt::Result {
+        fmt::Display::fmt(&self.text, f)
+    }
+}

@@ -1,0 +1,287 @@
+//! Instrumentation scopes: which library or module made a span or a log record.
+ghost use Rattle.std.specs.Prelude.{◌≡◌, IsTrue, ◌↔◌, IfOk, IsOk, Some, None, [], ◌++◌, map, option_map, fold, length};
+ghost use Rattle.std.specs.Cmp.{partial_equiv_from_equiv};
+ghost use Rattle.std.specs.Cmp.Lexicographic.{pointwise};
+ghost use Rattle.std.specs.Option.{option_eq};
+ghost use Rattle.std.specs.List.{slice_get, flat_map};
+ghost use Rattle.std.specs.Slice.Iter.{iter_rest};
+ghost use Rattle.otel_base.specs.Seen.{pair_of, pair_eq, pair_hash};
+ghost use Rattle.otel_base.specs.Scope.{IsSameScope, scope_eq, texts_eq};
+ghost use Rattle.otel_base.specs.KeyOrder.{IsKeyOrder, in_key_order, position_cmp, scope_hash};
+ghost use Rattle.otel_base.specs.ScopeLaws.{scope_eq-IsEquivalence, scope_hash-respects};
+
+use crate::attribute::KeyValue;
+use crate::string_value::StringValue;
+use std::alloc::{AllocError, Global};
+use std::cmp::Ordering;
+use std::hash::{Hash, Hasher};
+use std::marker::Model;
+use std::slice::Iter;
+
+/// A library or module that makes spans or log records (the Rust crate's `InstrumentationScope`).
+///
+/// Two scopes are equal where their names, versions and schema URLs agree and, for every key, the list of the values
+/// under that key, in given order, agrees. Equality and hash take no memory and are linear in the attributes.
+#[derive(Drop)]
+pub struct InstrumentationScope {
+    name: StringValue,
+    version: Option<StringValue>,
+    schema_url: Option<StringValue>,
+    attributes: Vec<KeyValue>,
+    // The positions of the attributes in the order of their keys, those of one key in given order.
+    positions: Vec<usize>,
+}
+
+impl Model for InstrumentationScope {
+    ghost use Rattle.std.specs.Prelude.{map};
+    ghost use Rattle.otel_base.specs.Seen.{pair_of};
+    ghost use Rattle.otel_base.specs.Scope.{Scope};
+    ghost use Rattle.otel_base.specs.KeyOrder.{IsKeyOrder};
+
+    ghost Value = { Scope };
+
+    ghost view = { λ s. record {
+      name = s.name;
+      version = s.version;
+      schema_url = s.schema_url;
+      attributes = map pair_of s.attributes.items;
+    } };
+
+    ghost invariant = { λ s. IsKeyOrder (map pair_of s.attributes.items) s.positions.items };
+}
+
+impl InstrumentationScope {
+    /// Starts a scope of this name, without version, schema URL and attributes.
+    pub fn builder(name: StringValue) -> InstrumentationScopeBuilder
+        ensures { result ≡ record { name = name; version = None; schema_url = None; attributes = [] } }
+    {
+        InstrumentationScopeBuilder {
+            name,
+            version: None,
+            schema_url: None,
+            attributes: None,
+        }
+    }
+
+    /// The name of the library or module.
+    pub fn name(&self) -> &str
+        ensures { result.now ≡ self.now.name }
+    {
+        self.name.as_str()
+    }
+
+    /// The version of the library or module, if one was given.
+    pub fn version(&self) -> Option<&str>
+        ensures { option_map (λ v. v.now) result ≡ self.now.version }
+    {
+        match &self.version {
+            Some(version) => Some(version.as_str()),
+            None => None,
+        }
+    }
+
+    /// The URL of the schema that the telemetry obeys, if one was given.
+    pub fn schema_url(&self) -> Option<&str>
+        ensures { option_map (λ v. v.now) result ≡ self.now.schema_url }
+    {
+        match &self.schema_url {
+            Some(url) => Some(url.as_str()),
+            None => None,
+        }
+    }
+
+    /// The attributes in given order, repeated keys included.
+    pub fn attributes(&self) -> Iter<'_, KeyValue>
+        ensures { map pair_of (iter_rest result) ≡ self.now.attributes }
+    {
+        self.attributes.iter()
+    }
+
+    // Whether name, version and schema URL agree.
+    fn has_texts_of(&self, other: &InstrumentationScope) -> bool
+        ensures { result ≡ texts_eq self.now other.now }
+    {
+        self.name == other.name
+            && self.version == other.version
+            && self.schema_url == other.schema_url
+    }
+}
+
+impl Clone for InstrumentationScope {
+    ghost is_clone = { λ s copy. copy ≡ s };
+
+    /// A scope of the same parts, its attributes in given order.
+    fn clone(&self) -> Result<InstrumentationScope, AllocError> {
+        Ok(InstrumentationScope {
+            name: self.name.clone()?,
+            version: self.version.clone()?,
+            schema_url: self.schema_url.clone()?,
+            attributes: self.attributes.clone()?,
+            positions: self.positions.clone()?,
+        })
+    }
+}
+
+fn attribute_at(attributes: &[KeyValue], position: usize) -> Option<&KeyValue>
+    ensures { option_map (λ a. pair_of a.now) result ≡ slice_get (map pair_of attributes.now) position }
+{
+    attributes.get(position)
+}
+
+// Whether both lists, each walked by its positions, give the same attributes.
+fn same_in_order(
+    left: &[KeyValue],
+    left_positions: &[usize],
+    right: &[KeyValue],
+    right_positions: &[usize],
+) -> bool
+    ensures { result ≡ pointwise (option_eq pair_eq) (map (slice_get (map pair_of left.now)) left_positions.now) (map (slice_get (map pair_of right.now)) right_positions.now) }
+{
+    if left_positions.len() != right_positions.len() {
+        return false;
+    }
+    for (place, position) in left_positions.iter().enumerate() {
+        if attribute_at(left, *position) != attribute_at(right, right_positions[place]) {
+            return false;
+        }
+    }
+    true
+}
+
+impl PartialEq for InstrumentationScope {
+    ghost eq = { scope_eq };
+
+    ghost laws = { partial_equiv_from_equiv scope_eq-IsEquivalence };
+
+    /// Whether both are the same scope. Takes no memory.
+    fn eq(&self, other: &InstrumentationScope) -> bool
+        ensures value { result ≡ scope_eq self.now other.now }
+        ensures same { IsTrue result ↔ IsSameScope self.now other.now }
+    {
+        self.has_texts_of(other)
+            && same_in_order(
+                &self.attributes,
+                &self.positions,
+                &other.attributes,
+                &other.positions,
+            )
+    }
+}
+
+impl Eq for InstrumentationScope {
+    ghost laws = { scope_eq-IsEquivalence };
+}
+
+// The attributes at the positions, one after another.
+fn hash_in_order<H: Hasher>(attributes: &[KeyValue], positions: &[usize], state: &mut H)
+    requires { IsKeyOrder (map pair_of attributes.now) positions.now }
+    ensures { state.new ≡ fold H.write state.old (flat_map pair_hash (in_key_order (map pair_of attributes.now))) }
+{
+    for position in positions {
+        attributes[*position].hash(state);
+    }
+}
+
+impl Hash for InstrumentationScope {
+    ghost hash_input = { scope_hash };
+
+    ghost respects_eq = { scope_hash-respects };
+
+    /// Feeds the texts, then the attributes in the order of their keys. Takes no memory.
+    fn hash<H: Hasher>(&self, state: &mut H) {
+        self.name.hash(state);
+        self.version.hash(state);
+        self.schema_url.hash(state);
+        hash_in_order(&self.attributes, &self.positions, state);
+    }
+}
+
+/// The parts of an instrumentation scope while they are given (the Rust crate's `InstrumentationScopeBuilder`).
+#[derive(Drop)]
+pub struct InstrumentationScopeBuilder {
+    name: StringValue,
+    version: Option<StringValue>,
+    schema_url: Option<StringValue>,
+    attributes: Option<Vec<KeyValue>>,
+}
+
+impl Model for InstrumentationScopeBuilder {
+    ghost use Rattle.otel_base.specs.Scope.{Scope};
+    ghost use Rattle.otel_base.specs.Seen.{given_pairs};
+
+    ghost Value = { Scope };
+
+    ghost view = { λ s. record {
+      name = s.name;
+      version = s.version;
+      schema_url = s.schema_url;
+      attributes = given_pairs s.attributes;
+    } };
+}
+
+// How the keys at two positions compare; a position without an attribute is below the others.
+fn by_key(attributes: &[KeyValue], a: usize, b: usize) -> Ordering
+    ensures { result ≡ position_cmp (map pair_of attributes.now) a b }
+{
+    let first = attributes.get(a).map(|x| &x.key);
+    let second = attributes.get(b).map(|x| &x.key);
+    first.cmp(&second)
+}
+
+// The positions of the attributes in the order of their keys, those of one key in given order.
+fn key_order(alloc: Global, attributes: &[KeyValue]) -> Result<Vec<usize>, AllocError>
+    ensures order { IfOk result (λ v. IsKeyOrder (map pair_of attributes.now) v.items) }
+    ensures empty { length attributes.now ≡ 0 → IsOk result }
+{
+    let mut positions = Vec::with_capacity(alloc, attributes.len())?;
+    for position in 0..attributes.len() {
+        positions.push(position)?;
+    }
+    positions.sort_by(|a, b| by_key(attributes, *a, *b))?;
+    Ok(positions)
+}
+
+impl InstrumentationScopeBuilder {
+    /// Sets the version; the last call wins.
+    pub fn with_version(mut self, version: StringValue) -> InstrumentationScopeBuilder
+        ensures { result ≡ record self { version = Some version } }
+    {
+        self.version = Some(version);
+        self
+    }
+
+    /// Sets the schema URL; the last call wins.
+    pub fn with_schema_url(mut self, schema_url: StringValue) -> InstrumentationScopeBuilder
+        ensures { result ≡ record self { schema_url = Some schema_url } }
+    {
+        self.schema_url = Some(schema_url);
+        self
+    }
+
+    /// Sets the attributes in place of those of an earlier call. Their order, and repeated keys, are kept.
+    pub fn with_attributes(mut self, attributes: Vec<KeyValue>) -> InstrumentationScopeBuilder
+        ensures { result ≡ record self { attributes = map pair_of attributes.items } }
+    {
+        self.attributes = Some(attributes);
+        self
+    }
+
+    /// The scope of the given parts.
+    ///
+    /// Puts the positions of the attributes into the order of their keys, once. Without attributes it takes no memory;
+    /// after a want of memory the parts are gone.
+    pub fn build(self, alloc: Global) -> Result<InstrumentationScope, AllocError>
+        ensures built { IfOk result (λ s. s ≡ self) }
+        ensures without_memory { self.attributes ≡ [] → IsOk result }
+    {
+        let attributes = self.attributes.unwrap_or(Vec::new(alloc));
+        let positions = key_order(alloc, &attributes)?;
+        Ok(InstrumentationScope {
+            name: self.name,
+            version: self.version,
+            schema_url: self.schema_url,
+            attributes,
+            positions,
+        })
+    }
+}

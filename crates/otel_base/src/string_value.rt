@@ -1,0 +1,115 @@
+//! The text of a value.
+ghost use Rattle.std.specs.Prelude.{◌≡◌, IfOk, IsOk, IsTrue, string_bytes, Some};
+ghost use Rattle.std.specs.Rc.{rc_str_bytes};
+ghost use Rattle.otel_base.specs.Attribute.{datum_text, is_text};
+ghost use Rattle.otel_base.specs.Seen.{datum_of};
+
+use crate::attribute::Value;
+use crate::text::Text;
+use std::alloc::{AllocError, Global};
+use std::fmt;
+use std::marker::Model;
+use std::rc::RcStr;
+
+/// A text as a value (the Rust crate's `StringValue`).
+///
+/// It means its text, the list of its UTF-8 bytes, whether that is owned, static or shared. Equality, order (by the
+/// bytes), hash and `Display` look at the text alone.
+#[derive(PartialEq, Eq, PartialOrd, Hash, Debug, Drop)]
+pub struct StringValue {
+    text: Text,
+}
+
+impl Model for StringValue {
+    ghost use Rattle.std.specs.Prelude.{List, ℕ};
+
+    ghost Value = { List ℕ };
+
+    ghost view = { λ k. k.text };
+
+    ghost inverse = { λ t. record { text = t } };
+}
+
+impl StringValue {
+    /// The text.
+    pub fn as_str(&self) -> &str
+        ensures { result.now ≡ self.now }
+    {
+        self.text.as_str()
+    }
+
+    /// The text as an owned `String` (the Rust crate's `From<StringValue> for String`).
+    ///
+    /// A value made from a `String` gives it back without taking memory; a static or shared text is copied.
+    pub fn into_string(self, alloc: Global) -> Result<String, AllocError>
+        ensures { IfOk result (λ s. string_bytes s ≡ self) }
+    {
+        self.text.into_string(alloc)
+    }
+
+    /// The `Display` text of a value (the Rust crate's `From<Value> for StringValue`).
+    ///
+    /// A text is handed on without taking memory.
+    pub fn from_value(alloc: Global, value: Value) -> Result<StringValue, AllocError>
+        ensures text { IfOk result (λ s. s ≡ datum_text (datum_of value)) }
+        ensures without_memory { IsTrue (is_text (datum_of value)) → IsOk result }
+    {
+        match value {
+            Value::String(text) => Ok(text),
+            other => Ok(StringValue::from(format!(in alloc; "{other}")?)),
+        }
+    }
+}
+
+impl Clone for StringValue {
+    ghost is_clone = { λ s copy. copy ≡ s };
+
+    /// A value of the same text. Only an owned text takes memory.
+    fn clone(&self) -> Result<StringValue, AllocError> {
+        Ok(StringValue {
+            text: self.text.clone()?,
+        })
+    }
+}
+
+impl From<&'static str> for StringValue {
+    ghost from_gives = { λ s k. k ≡ s.now };
+
+    /// The value of a static text.
+    fn from(value: &'static str) -> StringValue {
+        StringValue {
+            text: Text::from(value),
+        }
+    }
+}
+
+impl From<String> for StringValue {
+    ghost from_gives = { λ s k. k ≡ string_bytes s };
+
+    /// The value of an owned text.
+    fn from(value: String) -> StringValue {
+        StringValue {
+            text: Text::from(value),
+        }
+    }
+}
+
+impl From<RcStr> for StringValue {
+    ghost from_gives = { λ s k. k ≡ rc_str_bytes s };
+
+    /// The value of a shared text.
+    fn from(value: RcStr) -> StringValue {
+        StringValue {
+            text: Text::from(value),
+        }
+    }
+}
+
+impl fmt::Display for StringValue {
+    ghost output = { λ k. Some k };
+
+    /// Writes the text; width and fill are ignored.
+    fn fmt<W: fmt::Write>(&self, f: &mut fmt::Formatter<W>) -> fmt::Result {
+        fmt::Display::fmt(&self.text, f)
+    }
+}
