@@ -1,0 +1,12 @@
+pub mod BaggageCuts
+pub mod BaggageEscapeSet
+pub mod BaggageEscapes
+pub mod BaggageMembers
+pub mod BaggagePuts
+pub mod BaggageTrims
+pub mod BaggageWritten
+pub mod Entries
+pub mod LiveLemmas
+pub mod SlotLemmas
+pub mod Spans
+pub mod StackLoop

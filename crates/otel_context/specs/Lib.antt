@@ -1,0 +1,12 @@
+pub mod Baggage
+pub mod BaggageAttribute
+pub mod BaggageHeader
+pub mod BaggageLaws
+pub mod BaggageRoom
+pub mod BaggageText
+pub mod Context
+pub mod ContextCode
+pub mod Fields
+pub mod Slots
+pub mod Stack
+pub mod StackCode

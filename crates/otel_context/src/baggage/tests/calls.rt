@@ -1,0 +1,133 @@
+//! Each public call with ample memory.
+
+use super::{baggage_of, metadata_of, printed, text_of};
+use crate::baggage::{Baggage, BaggageMetadata, KeyValueMetadata};
+use otel_base::{Array, Key, KeyValue, StringValue, Value};
+use std::cmp::Ordering;
+use std::test::Fail;
+
+#[test]
+fn an_insert_drops_the_old_metadata(rt: HostRuntime) -> Result<(), Fail> {
+    let mut baggage = baggage_of(rt.alloc(), &[("k", "1", "m")])?;
+    let old = baggage.insert(Key::from("k"), StringValue::from("2"))?;
+    assert_eq!(rt; text_of(old.as_ref()), "1");
+    assert_eq!(rt; printed(rt.alloc(), &baggage)?.as_str(), "k=2");
+    Ok(())
+}
+
+#[test]
+fn look_ups_give_the_pair(rt: HostRuntime) -> Result<(), Fail> {
+    let baggage = baggage_of(rt.alloc(), &[("k", "1", "m"), ("l", "2", "")])?;
+    assert_eq!(rt; text_of(baggage.get("k")), "1");
+    assert_eq!(rt; text_of(baggage.get("m")), "none");
+    assert_eq!(rt; metadata_of(baggage.get_with_metadata("k")), "m");
+    Ok(())
+}
+
+#[test]
+fn replacement_and_removal_give_the_old_pair(rt: HostRuntime) -> Result<(), Fail> {
+    let mut baggage = baggage_of(rt.alloc(), &[("k", "1", "m")])?;
+    let metadata = BaggageMetadata::new(rt.alloc(), "n")?;
+    let old = baggage.insert_with_metadata(Key::from("k"), StringValue::from("2"), metadata)?;
+    assert_eq!(rt; metadata_of(old.as_ref()), "m");
+    assert_eq!(rt; metadata_of(baggage.remove("k").as_ref()), "n");
+    assert!(rt; baggage.remove("k").is_none());
+    Ok(())
+}
+
+#[test]
+fn from_pairs_skips_what_is_refused(rt: HostRuntime) -> Result<(), Fail> {
+    let mut pairs = Vec::new(rt.alloc());
+    for (key, value) in [("a", "1"), ("a b", "2"), ("c", "3")] {
+        let pair = (StringValue::from(value), BaggageMetadata::default());
+        pairs.push((Key::from(key), pair))?;
+    }
+    let baggage = Baggage::from_pairs(rt.alloc(), pairs)?;
+    assert_eq!(rt; printed(rt.alloc(), &baggage)?.as_str(), "a=1,c=3");
+    Ok(())
+}
+
+#[test]
+fn attributes_are_held_as_texts(rt: HostRuntime) -> Result<(), Fail> {
+    let numbers = Array::I64([1, -2].to_vec(rt.alloc())?);
+    let mut pairs = Vec::new(rt.alloc());
+    pairs.push(KeyValue::new(Key::from("t"), Value::Bool(true)))?;
+    pairs.push(KeyValue::new(Key::from("n"), Value::I64(-7)))?;
+    pairs.push(KeyValue::new(Key::from("s"), Value::from("x")))?;
+    pairs.push(KeyValue::new(Key::from("l"), Value::Array(numbers)))?;
+    let baggage = Baggage::from_key_values(rt.alloc(), pairs)?;
+    assert_eq!(rt;
+        printed(rt.alloc(), &baggage)?.as_str(),
+        "t=true,n=-7,s=x,l=%5B1%2C-2%5D"
+    );
+    Ok(())
+}
+
+#[test]
+fn the_last_triple_of_a_key_is_held(rt: HostRuntime) -> Result<(), Fail> {
+    let mut pairs = Vec::new(rt.alloc());
+    let plain = KeyValue::new(Key::from("a"), Value::I64(1));
+    pairs.push(KeyValueMetadata::from_key_value(rt.alloc(), plain)?)?;
+    let metadata = BaggageMetadata::new(rt.alloc(), "m")?;
+    pairs.push(KeyValueMetadata::new(Key::from("a"), StringValue::from("2"), metadata))?;
+    let baggage = Baggage::from_key_values_with_metadata(rt.alloc(), pairs)?;
+    assert_eq!(rt; printed(rt.alloc(), &baggage)?.as_str(), "a=2;m");
+    Ok(())
+}
+
+#[test]
+fn triples_are_cloned_and_compared(rt: HostRuntime) -> Result<(), Fail> {
+    let metadata = BaggageMetadata::new(rt.alloc(), "m")?;
+    let one = KeyValueMetadata::new(Key::from("a"), StringValue::from("1"), metadata);
+    let two = KeyValueMetadata::new(
+        Key::from("a"),
+        StringValue::from("1"),
+        BaggageMetadata::default(),
+    );
+    assert!(rt; one == one.clone()?);
+    assert!(rt; one != two);
+    Ok(())
+}
+
+#[test]
+fn metadata_is_ordered_by_its_bytes(rt: HostRuntime) -> Result<(), Fail> {
+    let empty = BaggageMetadata::default();
+    let a = BaggageMetadata::new(rt.alloc(), " a ")?;
+    assert!(rt; a == a.clone()?);
+    assert_eq!(rt; empty.partial_cmp(&a), Some(Ordering::Less));
+    assert_eq!(rt; empty.as_str(), "");
+    Ok(())
+}
+
+#[test]
+fn a_walk_goes_over_the_list_once(rt: HostRuntime) -> Result<(), Fail> {
+    let baggage = baggage_of(rt.alloc(), &[("a", "1", ""), ("b", "2", "m")])?;
+    let mut walk = baggage.iter();
+    assert_eq!(rt; walk.size_hint(), (2, Some(2)));
+    assert!(rt; walk.next().is_some());
+    assert!(rt; walk.next().is_some());
+    assert_eq!(rt; walk.size_hint(), (0, Some(0)));
+    assert!(rt; walk.next().is_none());
+    Ok(())
+}
+
+#[test]
+fn a_loop_goes_over_the_list_in_order(rt: HostRuntime) -> Result<(), Fail> {
+    let baggage = baggage_of(rt.alloc(), &[("a", "1", ""), ("b", "2", "m")])?;
+    let mut text = String::new(rt.alloc());
+    for (key, (value, metadata)) in &baggage {
+        text.push_str(key.as_str())?;
+        text.push_str(value.as_str())?;
+        text.push_str(metadata.as_str())?;
+    }
+    assert_eq!(rt; text.as_str(), "a1b2m");
+    Ok(())
+}
+
+#[test]
+fn every_type_prints_for_debugging(rt: HostRuntime) -> Result<(), Fail> {
+    let baggage = baggage_of(rt.alloc(), &[("a", "1", "m")])?;
+    let text = format!(in rt.alloc(); "{:?} {:?}", baggage, baggage.iter())?;
+    assert!(rt; text.contains("m"));
+    Ok(())
+}

@@ -1,0 +1,98 @@
+//! What the calls of a context give.
+use super::{name_of, named, text_of};
+use crate::{Baggage, Context};
+use otel_base::{AnyValue, Key, StringValue};
+use otel_ids::{SpanContext, SpanId, TraceFlags, TraceId, TraceState};
+use std::alloc::Global;
+use std::process::Abort;
+use std::test::Fail;
+
+fn one_pair(alloc: Global, key: &'static str, value: &'static str) -> Result<Baggage, Fail> {
+    let mut baggage = Baggage::new(alloc);
+    drop(baggage.insert(Key::from(key), StringValue::from(value))?);
+    Ok(baggage)
+}
+
+fn held_in<'a>(context: &'a Context, key: &str) -> &'a str {
+    match context.baggage() {
+        Some(baggage) => baggage.get(key).map_or("", |value| value.as_str()),
+        None => "",
+    }
+}
+
+fn remote(number: u64) -> SpanContext {
+    SpanContext::new(
+        TraceId::from(number as u128),
+        SpanId::from(number),
+        TraceFlags::SAMPLED,
+        true,
+        TraceState::NONE,
+    )
+}
+
+/// Asserts what stands in the four parts: the entry `name`, the baggage's `k`, the span's number, suppression.
+fn assert_parts(
+    rt: &impl Abort,
+    context: &Context,
+    parts: (&str, &str, u64, bool),
+) -> Result<(), Fail> {
+    let (name, value, span, suppressed) = parts;
+    assert_eq!(rt; name_of(context), name);
+    assert_eq!(rt; held_in(context, "k"), value);
+    assert_eq!(rt; context.span_context().span_id(), SpanId::from(span));
+    assert_eq!(rt; context.has_active_span(), span > 0);
+    assert_eq!(rt; context.span_number(), None);
+    assert_eq!(rt; context.is_telemetry_suppressed(), suppressed);
+    Ok(())
+}
+
+#[test]
+fn a_derivation_changes_one_part(rt: HostRuntime) -> Result<(), Fail> {
+    let alloc = rt.alloc();
+    let empty = Context::default();
+    assert_parts(&rt, &empty, ("base", "", 0, false))?;
+    assert!(rt; *empty.span_context() == SpanContext::NONE);
+    let entered = named(alloc, "a")?;
+    assert_parts(&rt, &entered, ("a", "", 0, false))?;
+    let suppressed = entered.with_telemetry_suppressed(alloc)?;
+    assert_parts(&rt, &suppressed, ("a", "", 0, true))?;
+    let loaded = suppressed.with_baggage(alloc, one_pair(alloc, "k", "1")?)?;
+    assert_parts(&rt, &loaded, ("a", "1", 0, true))?;
+    let active = loaded.with_remote_span_context(alloc, remote(7))?;
+    assert_parts(&rt, &active, ("a", "1", 7, true))?;
+    let renamed = active.with_value(alloc, Key::from("name"), AnyValue::from("b"))?;
+    assert_parts(&rt, &renamed, ("b", "1", 7, true))?;
+    let cleared = renamed.with_cleared_baggage(alloc)?;
+    assert_parts(&rt, &cleared, ("b", "", 7, true))?;
+    assert!(rt; cleared.baggage().is_none());
+    assert_parts(&rt, &cleared.clone()?, ("b", "", 7, true))?;
+    assert_parts(&rt, &entered, ("a", "", 0, false))?;
+    assert_parts(&rt, &loaded, ("a", "1", 0, true))
+}
+
+#[test]
+fn suppression_stays_with_entry_and_baggage(rt: HostRuntime) -> Result<(), Fail> {
+    let alloc = rt.alloc();
+    let context = Context::new()
+        .with_telemetry_suppressed(alloc)?
+        .with_value(alloc, Key::from("name"), AnyValue::from("a"))?
+        .with_baggage(alloc, one_pair(alloc, "k", "1")?)?;
+    assert_parts(&rt, &context, ("a", "1", 0, true))
+}
+
+#[test]
+fn entries_are_any_value_trees_under_any_text(rt: HostRuntime) -> Result<(), Fail> {
+    let alloc = rt.alloc();
+    let mut pairs = Vec::new(alloc);
+    pairs.push((Key::from("in"), AnyValue::from("x")))?;
+    let tree = AnyValue::map(alloc, pairs)?;
+    let context = Context::new()
+        .with_value(alloc, Key::from(""), AnyValue::from("nameless"))?
+        .with_value(alloc, Key::from("\u{e9}"), tree)?
+        .with_value(alloc, Key::from("n"), AnyValue::from(42i64))?;
+    assert_eq!(rt; text_of(&context, ""), "nameless");
+    assert!(rt; matches!(context.get("\u{e9}"), Some(AnyValue::Map(_))));
+    assert!(rt; matches!(context.get("n"), Some(AnyValue::Int(42))));
+    assert!(rt; context.get("e").is_none());
+    Ok(())
+}

@@ -1,0 +1,284 @@
+//! What a stack gives, by positions and by guards.
+use super::{name_of, named, text_of};
+use crate::counter::Counter;
+use crate::{Baggage, Context, ContextGuard, ContextStack, HasCurrent};
+use otel_base::{AnyValue, Key};
+use std::alloc::{AllocError, Global};
+use std::mem::size_of;
+use std::process::Abort;
+use std::test::Fail;
+
+/// An attach of a context of that name and the position that it gets, or a removal and the name that it gives.
+#[derive(Clone, Copy)]
+enum Step {
+    Attach(&'static str, u16),
+    Remove(u16, &'static str),
+}
+
+use Step::{Attach, Remove};
+
+/// A step, the name of the current context after it, and the newest position.
+type Row = (Step, &'static str, u16);
+
+/// Removals below the newest, then of the newest over an emptied slot, then an attach at a position given anew.
+const OUT_OF_ORDER: &[Row] = &[
+    (Attach("a", 1), "a", 1),
+    (Attach("b", 2), "b", 2),
+    (Attach("c", 3), "c", 3),
+    (Remove(2, "b"), "c", 3),
+    (Remove(3, "c"), "a", 1),
+    (Attach("d", 2), "d", 2),
+    (Remove(3, ""), "d", 2),
+];
+
+/// Nothing is live, then one is.
+const EMPTY_AT_FIRST: &[Row] = &[(Remove(1, ""), "base", 0), (Attach("a", 1), "a", 1)];
+
+const LOWER_FIRST: &[Row] = &[
+    (Attach("a", 1), "a", 1),
+    (Attach("b", 2), "b", 2),
+    (Remove(1, "a"), "b", 2),
+    (Remove(1, ""), "b", 2),
+    (Remove(2, "b"), "base", 0),
+];
+
+/// Positions where nothing is ever live.
+const STRANGE_POSITIONS: &[Row] = &[
+    (Attach("a", 1), "a", 1),
+    (Remove(0, ""), "a", 1),
+    (Remove(65535, ""), "a", 1),
+    (Remove(1000, ""), "a", 1),
+];
+
+/// Three emptied slots are stepped over at once.
+const THREE_EMPTIED: &[Row] = &[
+    (Attach("a", 1), "a", 1),
+    (Attach("b", 2), "b", 2),
+    (Attach("c", 3), "c", 3),
+    (Attach("d", 4), "d", 4),
+    (Attach("e", 5), "e", 5),
+    (Remove(2, "b"), "e", 5),
+    (Remove(3, "c"), "e", 5),
+    (Remove(4, "d"), "e", 5),
+    (Remove(5, "e"), "a", 1),
+    (Remove(1, "a"), "base", 0),
+];
+
+const TABLES: &[&[Row]] = &[
+    OUT_OF_ORDER,
+    EMPTY_AT_FIRST,
+    LOWER_FIRST,
+    STRANGE_POSITIONS,
+    THREE_EMPTIED,
+];
+
+/// Attaches by `push`, or by `attach` with the guard's position.
+fn attach(stack: &mut ContextStack, context: Context, by_guards: bool) -> Result<u16, AllocError> {
+    if by_guards {
+        let guard = stack.attach(context)?;
+        Ok(guard.into_position())
+    } else {
+        stack.push(context)
+    }
+}
+
+/// Removes by `pop_id`, or by `detach` with the guard of that position.
+fn remove(stack: &mut ContextStack, position: u16, by_guards: bool) -> Option<Context> {
+    if by_guards {
+        stack.detach(ContextGuard::new(position))
+    } else {
+        stack.pop_id(position)
+    }
+}
+
+/// The name of the context that a removal gives, or nothing.
+fn name_given(given: &Option<Context>) -> &str {
+    match given {
+        Some(context) => name_of(context),
+        None => "",
+    }
+}
+
+/// Plays one step, and asserts its answer.
+fn play(
+    rt: &impl Abort,
+    alloc: Global,
+    stack: &mut ContextStack,
+    step: Step,
+    by_guards: bool,
+) -> Result<(), Fail> {
+    match step {
+        Attach(name, position) => {
+            let context = named(alloc, name)?;
+            let given = attach(stack, context, by_guards)?;
+            assert_eq!(rt; given, position);
+        }
+        Remove(position, name) => {
+            let given = remove(stack, position, by_guards);
+            assert_eq!(rt; name_given(&given), name);
+        }
+    }
+    Ok(())
+}
+
+/// Asserts the name of the current context, and the newest position.
+fn assert_stands(rt: &impl Abort, stack: &ContextStack, current: &str, newest: u16) {
+    assert_eq!(rt; name_of(stack.current()), current);
+    assert_eq!(rt; stack.newest_position(), newest);
+}
+
+fn play_all(rt: &impl Abort, alloc: Global, rows: &[Row], by_guards: bool) -> Result<(), Fail> {
+    let mut stack = ContextStack::new(alloc)?;
+    for row in rows {
+        let (step, current, newest) = *row;
+        play(rt, alloc, &mut stack, step, by_guards)?;
+        assert_stands(rt, &stack, current, newest);
+    }
+    Ok(())
+}
+
+#[test]
+fn worked_rows(rt: HostRuntime) -> Result<(), Fail> {
+    for rows in TABLES {
+        play_all(&rt, rt.alloc(), rows, false)?;
+        play_all(&rt, rt.alloc(), rows, true)?;
+    }
+    Ok(())
+}
+
+/// Attaches a context of that name, and asserts the answer.
+fn assert_attached(
+    rt: &impl Abort,
+    stack: &mut ContextStack,
+    context: &Context,
+    position: u16,
+    by_guards: bool,
+) -> Result<(), Fail> {
+    let copy = context.clone()?;
+    assert_eq!(rt; attach(stack, copy, by_guards)?, position);
+    Ok(())
+}
+
+/// All positions are taken, one attach too many is refused, and the freed positions are given out only from the
+/// newest live one on.
+fn fill(rt: &impl Abort, alloc: Global, by_guards: bool) -> Result<(), Fail> {
+    let mut stack = ContextStack::new(alloc)?;
+    let a = named(alloc, "a")?;
+    let b = named(alloc, "b")?;
+    for position in 1..65535u16 {
+        assert_attached(rt, &mut stack, &a, position, by_guards)?;
+    }
+    assert_attached(rt, &mut stack, &b, 65535, by_guards)?;
+    assert_eq!(rt; name_of(stack.current()), "a");
+    for position in 1..65534u16 {
+        assert!(rt; remove(&mut stack, position, by_guards).is_some());
+    }
+    assert_eq!(rt; stack.newest_position(), 65534);
+    assert_attached(rt, &mut stack, &b, 65535, by_guards)?;
+    assert!(rt; remove(&mut stack, 65534, by_guards).is_some());
+    assert_eq!(rt; name_of(stack.current()), "base");
+    assert_attached(rt, &mut stack, &b, 1, by_guards)?;
+    assert_eq!(rt; name_of(stack.current()), "b");
+    Ok(())
+}
+
+#[test]
+fn every_position_by_push(rt: HostRuntime) -> Result<(), Fail> {
+    fill(&rt, rt.alloc(), false)
+}
+
+#[test]
+fn every_position_by_guards(rt: HostRuntime) -> Result<(), Fail> {
+    fill(&rt, rt.alloc(), true)
+}
+
+#[test]
+fn guards_tell_whether_they_are_attached(rt: HostRuntime) -> Result<(), Fail> {
+    let mut stack = ContextStack::new(rt.alloc())?;
+    let refused = ContextGuard::new(65535);
+    assert!(rt; !refused.is_attached());
+    assert_eq!(rt; refused.position(), 65535);
+    assert!(rt; stack.detach(refused).is_none());
+    let guard = stack.attach(Context::new()).expect(&rt, "memory");
+    assert!(rt; guard.is_attached());
+    assert_eq!(rt; guard.position(), 1);
+    assert!(rt; stack.pop_id(1).is_some());
+    assert!(rt; guard.is_attached());
+    assert!(rt; stack.detach(guard).is_none());
+    Ok(())
+}
+
+#[test]
+fn a_guard_removes_what_is_live_at_its_position_on_any_stack(rt: HostRuntime) -> Result<(), Fail> {
+    let alloc = rt.alloc();
+    let mut one = ContextStack::new(alloc)?;
+    let mut other = ContextStack::new(alloc)?;
+    let first = named(alloc, "a")?;
+    let second = named(alloc, "b")?;
+    let third = named(alloc, "x")?;
+    let a = one.attach(first).expect(&rt, "memory");
+    assert_eq!(rt; one.push(second).expect(&rt, "memory"), 2);
+    let x = other.attach(third).expect(&rt, "memory");
+    let given = one.detach(x);
+    assert_eq!(rt; name_given(&given), "a");
+    assert_eq!(rt; name_of(one.current()), "b");
+    assert!(rt; one.detach(a).is_none());
+    assert_eq!(rt; name_of(other.current()), "x");
+    let given = other.pop_id(1);
+    assert_eq!(rt; name_given(&given), "x");
+    Ok(())
+}
+
+/// The entries `a` and `b` of the current context.
+fn entries_of(stack: &ContextStack) -> (&str, bool) {
+    let context = stack.current();
+    (
+        text_of(context, "a"),
+        matches!(context.get("b"), Some(AnyValue::Int(42))),
+    )
+}
+
+#[test]
+fn a_context_keeps_the_entries_of_the_one_that_it_was_made_from(
+    rt: HostRuntime,
+) -> Result<(), Fail> {
+    let alloc = rt.alloc();
+    let mut stack = ContextStack::new(alloc)?;
+    let first = Context::new().with_value(alloc, Key::from("a"), AnyValue::from("1"))?;
+    assert_eq!(rt; stack.push(first)?, 1);
+    let second = stack.current_with_value(Key::from("b"), AnyValue::from(42i64))?;
+    assert_eq!(rt; stack.push(second)?, 2);
+    assert_eq!(rt; entries_of(&stack), ("1", true));
+    assert!(rt; stack.pop_id(1).is_some());
+    assert_eq!(rt; entries_of(&stack), ("1", true));
+    assert!(rt; stack.pop_id(2).is_some());
+    assert_eq!(rt; entries_of(&stack), ("", false));
+    Ok(())
+}
+
+#[test]
+fn calls_on_the_current_context(rt: HostRuntime) -> Result<(), Fail> {
+    let alloc = rt.alloc();
+    let mut stack = ContextStack::new(alloc)?;
+    let context = named(alloc, "a")?;
+    assert_eq!(rt; stack.push(context)?, 1);
+    assert_eq!(rt; stack.map_current(|context| name_of(context).len()), 1);
+    let loaded = stack.current_with_baggage(Baggage::new(alloc))?;
+    assert_eq!(rt; name_of(&loaded), "a");
+    assert!(rt; loaded.baggage().ok_or("no baggage")?.is_empty());
+    assert!(rt; !stack.is_current_telemetry_suppressed());
+    let guard = stack
+        .enter_telemetry_suppressed_scope()
+        .expect(&rt, "memory");
+    assert!(rt; stack.is_current_telemetry_suppressed());
+    assert_eq!(rt; name_of(stack.current()), "a");
+    let given = stack.detach(guard);
+    assert_eq!(rt; name_given(&given), "a");
+    assert!(rt; !stack.is_current_telemetry_suppressed());
+    Ok(())
+}
+
+#[test]
+fn a_counter_has_no_bytes(rt: HostRuntime) {
+    assert_eq!(rt; size_of::<Counter>(), 0);
+}
