@@ -1,0 +1,8 @@
+pub mod Maps
+pub mod Setting
+pub mod RunLemmas
+pub mod SurvivorLemmas
+pub mod CurrentLemmas
+pub mod RefusalLemmas
+pub mod WorkedLemmas
+pub mod LongLemmas

@@ -1,0 +1,109 @@
+-- How what several members set comes together.
+use Rattle.std.proofs.Common.{Result, OnOk, OnErr, ◌≤◌, ◌⊎◌, inl, inr, ◌≡◌, ℕ, ◌+◌, ◌<◌, List, [], ◌∷◌, ◌++◌, Bool, IsTrue, Option, None, Some, refl, sym, ap, subst, ◌∙◌, take, length, get_or, map, append_assoc, arith, drop, if◌then◌else◌}
+use Rattle.std.proofs.lemmas.List.{take_more, take-append-drop, append-nil, take_all, map-append}
+use Rattle.std.proofs.lemmas.List.Folds.{list_any_at}
+use Rattle.std.proofs.lemmas.List.Concat.{flat_map-append}
+use Rattle.std.specs.List.{flat_map, list_any}
+use Rattle.std.specs.Option.{option_or}
+use Rattle.std.specs.Str.{bytes_eq, str_to_ascii_lowercase}
+use Rattle.std.specs.FinMap as fin
+use Rattle.std.specs.Cmp.Lexicographic.{nat_list_cmp_total}
+use Rattle.opentelemetry.specs.Carrier.{Pairs, TextMap, at, last_value, Sets, SetsBeginning}
+
+option_or-assoc : {A : Type 0} (a b c : Option A) → option_or (option_or a b) c ≡ option_or a (option_or b c)
+option_or-assoc None b c = refl
+option_or-assoc (Some x) b c = refl
+
+option_or-none : {A : Type 0} (a : Option A) → a ≡ option_or a None
+option_or-none None = refl
+option_or-none (Some x) = refl
+
+last_value-append : (ps qs : Pairs) (k : List ℕ) → last_value (ps ++ qs) k ≡ option_or (last_value qs k) (last_value ps k)
+last_value-append [] qs k = option_or-none (last_value qs k)
+last_value-append (p ∷ ps) qs k =
+    let own : Option (List ℕ) = if bytes_eq (str_to_ascii_lowercase p.0) k then Some p.1 else None in
+    ap (λ o. option_or o own) (last_value-append ps qs k) ∙ option_or-assoc (last_value qs k) (last_value ps k) own
+
+pub sets_nothing : (m : TextMap) → Sets m [] m
+sets_nothing m = record { at_key = λ k. refl }
+
+pub sets_more : (a b c : TextMap) (ps qs : Pairs) → Sets a ps b → Sets b qs c → Sets a (ps ++ qs) c
+sets_more a b c ps qs s t = record {
+  at_key = λ k. t.at_key k ∙ ap (option_or (last_value qs k)) (s.at_key k)
+      ∙ sym (ap (λ o. option_or o (at a k)) (last_value-append ps qs k) ∙ option_or-assoc (last_value qs k) (last_value ps k) (at a k));
+}
+
+module _ {X A : Type 0} (f : X → List A) where
+  pub flat_map-take_more : (xs : List X) (i : ℕ) (x : X) → i < length xs → x ≡ get_or xs i x → flat_map f (take (i + 1) xs) ≡ flat_map f (take i xs) ++ f x
+  flat_map-take_more xs i x h is =
+      ap (flat_map f) (take_more xs i x h) ∙ flat_map-append f (take i xs) (get_or xs i x ∷ [])
+      ∙ ap (λ r. flat_map f (take i xs) ++ r) (append-nil (f (get_or xs i x)) ∙ ap f (sym is))
+
+  pub flat_map-split : (xs : List X) (i : ℕ) (x : X) → i < length xs → x ≡ get_or xs i x → flat_map f xs ≡ (flat_map f (take i xs) ++ f x) ++ flat_map f (drop (i + 1) xs)
+  flat_map-split xs i x h is =
+      ap (flat_map f) (sym (take-append-drop (i + 1) xs)) ∙ flat_map-append f (take (i + 1) xs) (drop (i + 1) xs)
+      ∙ ap (λ r. r ++ flat_map f (drop (i + 1) xs)) (flat_map-take_more xs i x h is)
+
+-- a member that fails leaves a beginning of what all would set
+pub begins_all : {X : Type 0} (f : X → Pairs) (xs ys : List X) (i : ℕ) (x : X) (a b c : TextMap) → xs ≡ ys → i < length xs → x ≡ get_or xs i x →
+    Sets a (flat_map f (take i xs)) b → SetsBeginning b (f x) c → SetsBeginning a (flat_map f ys) c
+begins_all f xs ys i x a b c same h is s t =
+    let first : Pairs = flat_map f (take i xs) in
+    let after : Pairs = flat_map f (drop (i + 1) xs) in
+    record {
+      done = first ++ t.done;
+      left = t.left ++ after;
+      split = ap (flat_map f) (sym same) ∙ flat_map-split f xs i x h is ∙ ap (λ r. (first ++ r) ++ after) t.split
+          ∙ ap (λ r. r ++ after) (sym (append_assoc first t.done t.left)) ∙ append_assoc (first ++ t.done) t.left after;
+      sets = sets_more a b c first t.done s t.sets;
+    }
+
+pub more_all : {X : Type 0} (f : X → Pairs) (xs : List X) (i : ℕ) (x : X) (a b c : TextMap) → i < length xs → x ≡ get_or xs i x →
+    Sets a (flat_map f (take i xs)) b → Sets b (f x) c → Sets a (flat_map f (take (i + 1) xs)) c
+more_all f xs i x a b c h is s t = rw (flat_map-take_more f xs i x h is) (sets_more a b c (flat_map f (take i xs)) (f x) s t)
+
+-- past the last member
+pub sets_all : {X : Type 0} (f : X → Pairs) (xs ys : List X) (i : ℕ) (a b : TextMap) → xs ≡ ys → length xs ≤ i → Sets a (flat_map f (take i xs)) b → Sets a (flat_map f ys) b
+sets_all f xs ys i a b same h s = rw (← same) (subst (λ zs. Sets a (flat_map f zs) b) (take_all i xs h) s)
+
+-- a refusal comes from a member that may refuse, or from the carrier
+pub refused_by_one : {X : Type 0} (p : X → Bool) (xs ys : List X) (i : ℕ) (x : X) (a b c : ℕ) → xs ≡ ys → i < length xs → x ≡ get_or xs i x → a ≤ b →
+    IsTrue (p x) ⊎ (b < c) → IsTrue (list_any p ys) ⊎ (a < c)
+refused_by_one p xs ys i x a b c same h is le (inl may) = inl (ap (list_any p) (sym same) ∙ list_any_at p xs i x h (ap p (sym is) ∙ may))
+refused_by_one p xs ys i x a b c same h is le (inr rose) = inr (omega arith)
+
+-- the same where the carrier is known by another name
+pub on_ok_moved : {T E : Type 0} (r : Result T E) (a b c d : TextMap) (ps : Pairs) → a ≡ c → b ≡ d → OnOk r (Sets a ps b) → OnOk r (Sets c ps d)
+on_ok_moved r a b c d ps p q h = subst (λ x. OnOk r (Sets c ps x)) q (subst (λ x. OnOk r (Sets x ps b)) p h)
+
+pub on_err_moved : {T E : Type 0} (r : Result T E) (a b c d : TextMap) (ps : Pairs) → a ≡ c → b ≡ d → OnErr r (SetsBeginning a ps b) → OnErr r (SetsBeginning c ps d)
+on_err_moved r a b c d ps p q h = subst (λ x. OnErr r (SetsBeginning c ps x)) q (subst (λ x. OnErr r (SetsBeginning x ps b)) p h)
+
+-- one more entry of a context
+pub sets_one_more : {Y : Type 0} (f : Y → List ℕ × List ℕ) (xs : List Y) (i : ℕ) (x : Y) (p : List ℕ × List ℕ) (a b c : TextMap) → i < length xs → x ≡ get_or xs i x → p ≡ f x →
+    Sets a (map f (take i xs)) b → Sets b (p ∷ []) c → Sets a (map f (take (i + 1) xs)) c
+sets_one_more f xs i x p a b c h is one s t =
+    let more : map f (take (i + 1) xs) ≡ map f (take i xs) ++ p ∷ [] =
+    ap (map f) (take_more xs i x h) ∙ map-append f (take i xs) (get_or xs i x ∷ []) ∙ ap (λ q. map f (take i xs) ++ q ∷ []) (sym (one ∙ ap f is)) in
+    rw more (sets_more a b c (map f (take i xs)) (p ∷ []) s t)
+
+-- a beginning of a context's entries
+pub begins_entries : {Y : Type 0} (f : Y → List ℕ × List ℕ) (xs : List Y) (i : ℕ) (ps : Pairs) (a b c : TextMap) → map f xs ≡ ps →
+    Sets a (map f (take i xs)) b → c ≡ b → SetsBeginning a ps c
+begins_entries f xs i ps a b c all s same = record {
+  done = map f (take i xs);
+  left = map f (drop i xs);
+  split = sym all ∙ ap (map f) (sym (take-append-drop i xs)) ∙ map-append f (take i xs) (drop i xs);
+  sets = subst (λ x. Sets a (map f (take i xs)) x) (sym same) s;
+}
+
+pub moved_ok : {T E : Type 0} (r : Result T E) (a b c d : TextMap) (ps : Pairs) → OnOk r (Sets a ps b) → a ≡ c → b ≡ d → OnOk r (Sets c ps d)
+moved_ok r a b c d ps h p q = on_ok_moved r a b c d ps p q h
+
+-- where no pair is set the map stays
+pub sets_none : (a b : TextMap) → Sets a [] b → b ≡ a
+sets_none a b s = fin.same_map nat_list_cmp_total (fin.slice_cmp-IsAntisymmetric fin.nat_cmp-IsAntisymmetric) b a (λ q. s.at_key q)
+
+-- past the last of no members the map is as it was
+pub sets_without : {X : Type 0} (f : X → Pairs) (xs ys : List X) (i : ℕ) (a b : TextMap) → xs ≡ ys → length xs ≤ i → Sets a (flat_map f (take i xs)) b → ys ≡ [] → b ≡ a
+sets_without f xs ys i a b same h s none = sets_none a b (rw none at (sets_all f xs ys i a b same h s))

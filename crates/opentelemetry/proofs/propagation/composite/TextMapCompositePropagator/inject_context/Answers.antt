@@ -1,0 +1,32 @@
+use Rattle.std.proofs.Common.{arith, refl}
+use Rattle.std.proofs.lemmas.Result.{err_from_is_err_and}
+use Rattle.opentelemetry.proofs.Setting.{sets_nothing, more_all, begins_all, sets_all, refused_by_one, sets_without}
+use Rattle.opentelemetry.proofs.propagation.composite.TextMapCompositePropagator.inject_context.Goals as goal
+
+pub loop-member-init : goal.loop-member-init
+loop-member-init g c = record { sets = sets_nothing _; count = omega arith }
+
+pub loop-member-preserved : goal.loop-member-preserved
+loop-member-preserved g c = record {
+  sets = more_all _ _ _ _ _ _ _ c.loop-member-test.true c.member-item.is c.loop-member.invariant.sets c.in_ok-inject_member.ensures.ok;
+  count = omega (arith, c.inject_member.ensures.count, c.loop-member.invariant.count);
+}
+
+pub returns-in_err-inject_member-clause-err : goal.returns-in_err-inject_member-clause-err
+returns-in_err-inject_member-clause-err g c =
+    let p = err_from_is_err_and c.from_residual.result c.from_residual.ensures.1 in
+    rw (p.1)
+    (begins_all _ _ _ _ _ _ _ _ c.deref-member-items.ensures.value c.loop-member-test.true c.member-item.is c.loop-member.invariant.sets c.in_err-inject_member.ensures.err)
+
+pub returns-in_err-inject_member-clause-refused : goal.returns-in_err-inject_member-clause-refused
+returns-in_err-inject_member-clause-refused g c =
+    let p = err_from_is_err_and c.from_residual.result c.from_residual.ensures.1 in
+    rw (p.1, p.2)
+    (λ h. refused_by_one _ _ _ _ _ _ _ _ c.deref-member-items.ensures.value c.loop-member-test.true c.member-item.is c.loop-member.invariant.count (c.in_err-inject_member.ensures.refused h))
+
+pub returns-clause-ok : goal.returns-clause-ok
+returns-clause-ok g c =
+    sets_all _ _ _ _ _ _ c.deref-member-items.ensures.value c.loop-member-test.false c.loop-member.invariant.sets
+
+pub returns-clause-empty : goal.returns-clause-empty
+returns-clause-empty g c = λ none. (refl, sets_without _ _ _ _ _ _ c.deref-member-items.ensures.value c.loop-member-test.false c.loop-member.invariant.sets none)

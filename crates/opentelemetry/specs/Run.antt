@@ -1,0 +1,90 @@
+-- What a run of attaches and detaches means, told by the numbers of its attaches (own).
+-- The attaches of a list of events are numbered from 0, in order. Each has an outcome, and the outcomes stand in that order.
+use Rattle.std.specs.Prelude.{◌≡◌, ◌≢◌, ◌⊎◌, ℕ, ◌+◌, ◌<◌, ◌≤◌, ◌==◌, if◌then◌else◌, Bool, true, false, List, [], ◌∷◌, length, take, filter, slice_get, Option, Some, None, IfSome}
+use Rattle.std.specs.List.{list_any, filter_map}
+use Rattle.otel_context.specs.Context.{ContextRecord, empty_context}
+use Rattle.otel_context.specs.Stack.{Live, newest_of}
+use Rattle.opentelemetry.specs.declared.carry.event.StackEvent.{StackEvent}
+use Rattle.opentelemetry.specs.declared.carry.event.StackEvent.TheVariants.{Attach, Detach}
+use Rattle.opentelemetry.specs.declared.carry.event.AttachOutcome.{AttachOutcome}
+use Rattle.opentelemetry.specs.declared.carry.event.AttachOutcome.TheVariants.{Attached, Full, NoMemory}
+
+abbrev pub is_attach : StackEvent → Bool
+is_attach (Attach context) = true
+is_attach (Detach number) = false
+
+-- how many of the events are attaches
+abbrev pub attaches_of : List StackEvent → ℕ
+attaches_of events = length (filter is_attach events)
+
+abbrev pub is_attached : AttachOutcome → Bool
+is_attached (Attached position) = true
+is_attached Full = false
+is_attached NoMemory = false
+
+-- how many of the outcomes are those of accepted attaches
+abbrev pub accepted_of : List AttachOutcome → ℕ
+accepted_of outcomes = length (filter is_attached outcomes)
+
+-- the event is the detach of this number
+abbrev pub detaches : ℕ → StackEvent → Bool
+detaches number (Attach context) = false
+detaches number (Detach other) = other == number
+
+-- what an attach of the context with this outcome makes live
+abbrev pub attachment_of : AttachOutcome → ContextRecord → Option (ℕ × ContextRecord)
+attachment_of (Attached position) context = Some (position, context)
+attachment_of Full context = None
+attachment_of NoMemory context = None
+
+-- What is left of each attach of the events, the first of which has the number `number`: its position and context where
+-- it was accepted and no event after it detaches it, else nothing.
+-- Of attach a, attach b, detach 0 with the outcomes `Attached 1`, `Attached 2` it is: nothing, then (2, b).
+abbrev pub left_by : ℕ → List StackEvent → List AttachOutcome → List (Option (ℕ × ContextRecord))
+left_by number [] outcomes = []
+left_by number (Detach other ∷ events) outcomes = left_by number events outcomes
+left_by number (Attach context ∷ events) [] = None ∷ left_by (number + 1) events []
+left_by number (Attach context ∷ events) (outcome ∷ outcomes) =
+    (if list_any (detaches number) events then None else attachment_of outcome context) ∷ left_by (number + 1) events outcomes
+
+-- the attachments that survive the events, in the order of their attaches
+abbrev pub survivors : List StackEvent → List AttachOutcome → Live
+survivors events outcomes = filter_map (λ left. left) (left_by 0 events outcomes)
+
+-- The attach of the number `number` survives the events, at this position and with this context: it is the event at
+-- `place`, its outcome is `Attached`, and no event after it detaches it.
+pub record Survives (events : List StackEvent) (outcomes : List AttachOutcome) (number position : ℕ) (context : ContextRecord) : Type 0 where
+  pub place : ℕ
+  pub attach : slice_get events place ≡ Some (Attach context)
+  pub number_is : attaches_of (take place events) ≡ number
+  pub accepted : slice_get outcomes number ≡ Some (Attached position)
+  pub kept : (later : ℕ) → place < later → slice_get events later ≢ Some (Detach number)
+
+-- the context is that of the latest attach that survives
+pub record IsLatest (events : List StackEvent) (outcomes : List AttachOutcome) (context : ContextRecord) : Type 0 where
+  pub number : ℕ
+  pub position : ℕ
+  pub survives : Survives events outcomes number position context
+  pub latest : (other place : ℕ) (its : ContextRecord) → Survives events outcomes other place its → other ≤ number
+
+-- no attach survives, and the context is the empty one
+pub record IsBase (events : List StackEvent) (outcomes : List AttachOutcome) (context : ContextRecord) : Type 0 where
+  pub none : (other place : ℕ) (its : ContextRecord) → ¬ Survives events outcomes other place its
+  pub empty : context ≡ empty_context
+
+-- The current context after the events: that of the latest accepted attach that is not yet detached, or the empty base.
+abbrev pub IsCurrent : List StackEvent → List AttachOutcome → ContextRecord → Type 0
+IsCurrent events outcomes context = IsLatest events outcomes context ⊎ IsBase events outcomes context
+
+-- The outcome of an attach where this is the newest position: `Full` exactly at 65534, want of memory from 8 on at most,
+-- else the position after it.
+abbrev pub IsOutcome : ℕ → AttachOutcome → Type 0
+IsOutcome newest (Attached position) = (newest < 65534) × (position ≡ newest + 1)
+IsOutcome newest Full = newest ≡ 65534
+IsOutcome newest NoMemory = (8 ≤ newest) × (newest < 65534)
+
+-- Each attach has an outcome, and it is one that the survivors of the events before it allow.
+pub record Legal (events : List StackEvent) (outcomes : List AttachOutcome) : Type 0 where
+  pub one_each : length outcomes ≡ attaches_of events
+  pub each : (place : ℕ) (context : ContextRecord) → slice_get events place ≡ Some (Attach context)
+      → IfSome (slice_get outcomes (attaches_of (take place events))) (IsOutcome (newest_of (survivors (take place events) outcomes)))

@@ -1,0 +1,126 @@
+//! A run of attaches and detaches over one stack, whose current context is then injected.
+ghost use Rattle.std.specs.Prelude.{◌≡◌, ◌≤◌, ◌∷◌, ◌++◌, [], List, IsTrue, IfOk, OnOk, OnErr};
+ghost use Rattle.otel_context.specs.Stack.{newest_of, current_of, IsLawful};
+ghost use Rattle.opentelemetry.specs.Carrier.{Sets, SetsBeginning, text_map};
+ghost use Rattle.opentelemetry.specs.Composite.{pairs_of, may_refuse_of};
+ghost use Rattle.opentelemetry.specs.Refusal.{is_refused};
+ghost use Rattle.opentelemetry.specs.Progress.{after_attach, Stands};
+ghost use Rattle.opentelemetry.specs.Run.{IsOutcome, IsCurrent, Legal, survivors, accepted_of};
+ghost use Rattle.opentelemetry.specs.declared.carry.event.StackEvent.{StackEvent as EventValue};
+
+use crate::context::{Context, ContextStack};
+use crate::propagation::{PropagationError, TextMapCompositePropagator};
+use std::alloc::{AllocError, Global};
+use std::collections::HashMap;
+
+mod event;
+pub mod laws;
+
+pub use event::{AttachOutcome, StackEvent};
+
+/// What a push answers where no position is left.
+const FULL: u16 = 65535;
+
+/// What a run leaves.
+#[derive(Drop)]
+pub struct RunReport {
+    /// The stack after the events.
+    pub stack: ContextStack,
+    /// What became of each attach, in order.
+    pub outcomes: Vec<AttachOutcome>,
+    /// The answer of the injection from the stack's current context.
+    pub injected: Result<(), PropagationError>,
+}
+
+/// Attaches the context, and tells what became of it.
+fn attach(stack: &mut ContextStack, context: Context) -> AttachOutcome
+    ensures outcome { IsLawful stack.old → IsOutcome (newest_of stack.old.live) result }
+    ensures after { IsLawful stack.old → stack.new ≡ after_attach stack.old result context }
+    ensures lawful { IsLawful stack.new }
+{
+    match stack.push(context) {
+        Ok(FULL) => AttachOutcome::Full,
+        Ok(position) => AttachOutcome::Attached(position),
+        Err(_) => AttachOutcome::NoMemory,
+    }
+}
+
+/// Does one event. `places` holds, for each attach so far, its position while it is live.
+fn serve(
+    stack: &mut ContextStack,
+    places: &mut Vec<Option<u16>>,
+    outcomes: &mut Vec<AttachOutcome>,
+    event: StackEvent,
+) -> Result<(), AllocError>
+    ensures { IfOk result (λ _. (done : List EventValue) → Stands done outcomes.old.items places.old.items stack.old
+        → Stands (done ++ event ∷ []) outcomes.new.items places.new.items stack.new) }
+{
+    match event {
+        StackEvent::Attach(context) => {
+            let outcome = attach(stack, context);
+            outcomes.push(outcome)?;
+            places.push(match outcome {
+                AttachOutcome::Attached(position) => Some(position),
+                AttachOutcome::Full | AttachOutcome::NoMemory => None,
+            })?;
+            Ok(())
+        }
+        StackEvent::Detach(number) => {
+            if number < places.len() {
+                let place = places[number];
+                if let Some(position) = place {
+                    places[number] = None;
+                    let _ = stack.pop_id(position);
+                }
+            }
+            Ok(())
+        }
+    }
+}
+
+/// Injects the context into a map of texts.
+fn send(
+    composite: &TextMapCompositePropagator,
+    context: &Context,
+    carrier: &mut HashMap<String, String>,
+) -> Result<(), PropagationError>
+    ensures ok { OnOk result (Sets (text_map carrier.old.entries) (pairs_of (λ m. pairs m) composite.now context.now) (text_map carrier.new.entries)) }
+    ensures err { OnErr result (SetsBeginning (text_map carrier.old.entries) (pairs_of (λ m. pairs m) composite.now context.now) (text_map carrier.new.entries)) }
+    ensures refused { IsTrue (is_refused result) → IsTrue (may_refuse_of (λ m. may_refuse m) composite.now) }
+{
+    composite.inject_context(context, carrier)
+}
+
+/// Does the events in order, from an empty stack on, and injects from the context that is then
+/// current.
+pub fn run(
+    alloc: Global,
+    events: Vec<StackEvent>,
+    composite: &TextMapCompositePropagator,
+    carrier: &mut HashMap<String, String>,
+) -> Result<RunReport, AllocError>
+    ensures live { IfOk result (λ report. report.stack.live ≡ survivors events.items report.outcomes.items) }
+    ensures current { IfOk result (λ report. IsCurrent events.items report.outcomes.items (current_of report.stack.live)) }
+    ensures legal { IfOk result (λ report. Legal events.items report.outcomes.items) }
+    ensures injected { IfOk result (λ report. OnOk report.injected
+        (Sets (text_map carrier.old.entries) (pairs_of (λ m. pairs m) composite.now (current_of report.stack.live)) (text_map carrier.new.entries))) }
+    ensures given_up { IfOk result (λ report. OnErr report.injected
+        (SetsBeginning (text_map carrier.old.entries) (pairs_of (λ m. pairs m) composite.now (current_of report.stack.live)) (text_map carrier.new.entries))) }
+    ensures refused { IfOk result (λ report. IsTrue (is_refused report.injected) → IsTrue (may_refuse_of (λ m. may_refuse m) composite.now)) }
+    ensures accepted { IfOk result (λ report. report.stack.accepted ≡ accepted_of report.outcomes.items) }
+    ensures stepped { IfOk result (λ report. report.stack.stepped ≤ report.stack.accepted) }
+    ensures err { OnErr result (text_map carrier.new.entries ≡ text_map carrier.old.entries) }
+{
+    let mut stack = ContextStack::new(alloc)?;
+    let mut outcomes = Vec::new(alloc);
+    let mut places = Vec::new(alloc);
+    for event in events {
+        serve(&mut stack, &mut places, &mut outcomes, event)?;
+    }
+    let injected = send(composite, stack.current(), carrier);
+    Ok(RunReport {
+        stack,
+        outcomes,
+        injected,
+    })
+}

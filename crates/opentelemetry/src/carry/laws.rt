@@ -1,0 +1,30 @@
+//! Laws about the words that the contract of a run uses. Each function does nothing: its contract is
+//! the law.
+ghost use Rattle.opentelemetry.specs.Laws.{RefusalsChangeNothing, SurvivorsAreThose};
+ghost use Rattle.opentelemetry.specs.LongRuns.{AttachesInOrder, FilledAndBegunAgain};
+ghost use Rattle.opentelemetry.specs.WorkedRuns.{DetachedAgain, DetachedBefore, OldestFirst, ThreeAndOne};
+
+/// What is left of an attach is its position and context exactly where it was accepted and no later
+/// event detaches it.
+pub fn survivors_are_those()
+    ensures { SurvivorsAreThose }
+{}
+
+/// A refused attach, and a detach of a number that doesn't survive, change nothing.
+pub fn refusals_change_nothing()
+    ensures { RefusalsChangeNothing }
+{}
+
+/// Four short runs, worked by hand: what is live after each, and which outcomes are legal.
+pub fn worked_runs()
+    ensures three_and_one { ThreeAndOne }
+    ensures detached_again { DetachedAgain }
+    ensures detached_before { DetachedBefore }
+    ensures oldest_first { OldestFirst }
+{}
+
+/// Runs of as many attaches as there are positions: which outcomes are legal, and what survives.
+pub fn long_runs()
+    ensures in_order { AttachesInOrder }
+    ensures begun_again { FilledAndBegunAgain }
+{}

@@ -1,0 +1,19 @@
+//! Contexts, baggage, ids and trace states, and the propagation of contexts through carriers of texts,
+//! after the Rust crate `opentelemetry`.
+#![tactic(auto)]
+
+pub mod baggage;
+pub mod carry;
+pub mod context;
+pub mod logs;
+pub mod propagation;
+pub mod trace;
+
+pub use otel_base::{
+    Array, InstrumentationScope, InstrumentationScopeBuilder, Key, KeyValue, StringValue, Value,
+};
+pub use otel_context::{Context, ContextGuard};
+pub use otel_ids::{SpanId, TraceFlags, TraceId};
+
+#[cfg(test)]
+mod tests;

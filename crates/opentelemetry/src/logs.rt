@@ -1,0 +1,2 @@
+//! Log values and severities.
+pub use otel_base::{AnyValue, Severity};

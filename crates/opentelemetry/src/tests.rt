@@ -1,0 +1,4 @@
+//! What no clause says: worked runs, odd carriers, odd members, texts, and each call once.
+mod injection;
+mod members;
+mod runs;

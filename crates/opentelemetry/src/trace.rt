@@ -1,0 +1,4 @@
+//! Ids, trace states and span contexts.
+pub use otel_ids::{
+    SpanContext, SpanId, TraceFlags, TraceId, TraceState, TraceStateError, TraceStateIter,
+};
