@@ -1,0 +1,6 @@
+-- What was read so far and what the input has left are together what it had.
+use Rattle.std.specs.Io.KnownBytes.{Consumes}
+use Rattle.otel_carry.proofs.input.read_whole.Given as goal
+
+abbrev pub invariant-loop : goal.invariant-loop
+invariant-loop g l = Consumes (g.R.Read.remaining l.fn.input) (g.R.Read.remaining l.input) l.bytes.items

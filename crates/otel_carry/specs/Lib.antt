@@ -1,0 +1,4 @@
+pub mod Events
+pub mod Failures
+pub mod Lines
+pub mod Members

@@ -1,0 +1,38 @@
+-- The lines of the program's input. A line is the list of its bytes.
+use Rattle.std.specs.Prelude.{◌≡◌, ◌≢◌, ℕ, ◌<◌, ◌≤◌, ◌^◌, ◌==◌, List, ◌∷◌, ◌++◌, length, Option, Some, None, codes, All}
+use Rattle.std.specs.List.{before_first}
+use Rattle.std.specs.Str.Parse.{IsNumeral, digits_value}
+use Rattle.otel_carry.specs.declared.lines.Line.{Line}
+use Rattle.otel_carry.specs.declared.lines.Line.TheVariants.{Attach, Detach}
+use Rattle.otel_carry.specs.declared.lines.Fault.{Fault}
+use Rattle.otel_carry.specs.declared.lines.Fault.TheVariants.{UnknownCommand, BadName, BadTraceState, BadNumber}
+
+-- a name is one or more bytes `!` to `~`
+abbrev pub IsName : List ℕ → Type 0
+IsName name = (0 < length name) × All (λ byte. (33 ≤ byte) × (byte ≤ 126)) name
+
+-- the text is one or more decimal digits that write n, as `007` writes 7
+abbrev pub IsNumber : List ℕ → ℕ → Type 0
+IsNumber text n = IsNumeral 10 text × (digits_value 10 text ≡ n)
+
+-- what stands before the first space, as `a` in `a v=1`: all of the text where it has no space
+abbrev pub first_word : List ℕ → List ℕ
+first_word text = before_first (λ byte. byte == 32) text
+
+-- the text names this attach: its name alone, or its name, a space and its trace state
+abbrev pub IsAttach : List ℕ → Line → Type 0
+IsAttach text (Attach name None) = IsName name.now × (text ≡ name.now)
+IsAttach text (Attach name (Some state)) = IsName name.now × (text ≡ name.now ++ (32 ∷ state.now))
+IsAttach text (Detach number) = ⊥
+
+-- the line asks for this
+abbrev pub Reads : List ℕ → Line → Type 0
+Reads line (Attach name state) = (rest : List ℕ) × (line ≡ codes "attach " ++ rest) × IsAttach rest (Attach name state)
+Reads line (Detach number) = (digits : List ℕ) × (line ≡ codes "detach " ++ digits) × IsNumber digits number
+
+-- the line has this fault: it begins with neither word; or with `attach ` and no name; or with `detach ` and no number
+abbrev pub IsFault : List ℕ → Fault → Type 0
+IsFault line UnknownCommand = (rest : List ℕ) → (line ≢ codes "attach " ++ rest) × (line ≢ codes "detach " ++ rest)
+IsFault line BadName = (rest : List ℕ) × (line ≡ codes "attach " ++ rest) × ¬ IsName (first_word rest)
+IsFault line BadTraceState = ⊥
+IsFault line BadNumber = (rest : List ℕ) × (line ≡ codes "detach " ++ rest) × ((n : ℕ) → n < 2 ^ 64 → ¬ IsNumber rest n)

@@ -1,0 +1,50 @@
+-- What the program's propagators set, and the contexts that its attaches make.
+use Rattle.std.specs.Prelude.{ℕ, List, [], ◌∷◌, true, false, Option, Some, None, option_map, codes}
+use Rattle.std.specs.Option.{option_map_or}
+use Rattle.std.specs.FinMap as map
+use Rattle.otel_ids.specs.Reading.{Pair}
+use Rattle.otel_ids.specs.State.{header}
+use Rattle.otel_base.specs.Tree.{Tree, whole, text, truth, bytes, list, map as map_tree}
+use Rattle.otel_context.specs.Context.{ContextRecord, span_context_of}
+use Rattle.opentelemetry.specs.Carrier.{Pairs}
+
+-- the text of a value tree that is one
+abbrev pub text_in : Option Tree → Option (List ℕ)
+text_in None = None
+text_in (Some (whole n)) = None
+text_in (Some (text t)) = Some t
+text_in (Some (truth b)) = None
+text_in (Some (bytes bs)) = None
+text_in (Some (list ts)) = None
+text_in (Some (map_tree es)) = None
+
+-- the name of a context: its entry `name`, where that is a text (own)
+abbrev pub name_in : ContextRecord → Option (List ℕ)
+name_in context = text_in (map.get context.entries (codes "name"))
+
+-- the pairs of `NameMember`: `Context-Name` with the context's name, where it has one (own)
+abbrev pub name_pairs : ContextRecord → Pairs
+name_pairs context = option_map_or (λ name. (codes "Context-Name", name) ∷ []) (name_in context) []
+
+-- the pairs of a trace state: `tracestate` with its header, unless it is empty
+-- (W3C trace-context, section 3.3.1: an empty header isn't sent)
+abbrev pub pairs_of_state : List Pair → Pairs
+pairs_of_state [] = []
+pairs_of_state (p ∷ ps) = (codes "tracestate", header (p ∷ ps)) ∷ []
+
+-- the pairs of `StateMember`: those of the trace state of the context's span context (own)
+abbrev pub state_pairs : ContextRecord → Pairs
+state_pairs context = pairs_of_state (span_context_of context).trace_state
+
+-- The context of an attach: the empty one with the entry `name`, and where a trace state is given with a remote span
+-- context whose ids are both `id` and whose one flag is `sampled` (own).
+abbrev pub context_for : List ℕ → Option (List Pair) → ℕ → ContextRecord
+context_for name state id = record {
+  entries = map.insert map.empty (codes "name") (text name);
+  baggage = None;
+  span = option_map (λ pairs. record {
+    context = record { trace_id = id; span_id = id; trace_flags = 1; is_remote = true; trace_state = pairs };
+    number = None;
+  }) state;
+  suppressed = false;
+}

@@ -1,0 +1,60 @@
+//! Why there is nothing to report.
+ghost use Rattle.std.specs.Prelude.{◌≡◌};
+ghost use Rattle.otel_carry.specs.Failures.{status_of};
+ghost use Rattle.otel_carry.specs.declared.failure.Failure.TheVariants.{NoMemory};
+
+use crate::lines::Fault;
+use std::alloc::{AllocError, AllocFailed};
+use std::fmt;
+
+/// Why there is nothing to report. It prints the one line that the program then writes.
+#[derive(Clone, Copy, Debug, PartialEq, Eq)]
+pub enum Failure {
+    /// A read failed, or no read told the end of the input.
+    Unreadable,
+    /// The input isn't UTF-8.
+    NotUtf8,
+    /// The first faulty line: its number, 1 for the first, and what is wrong with it.
+    Line(usize, Fault),
+    /// A growth was refused.
+    NoMemory,
+}
+
+impl Failure {
+    /// The status that the program ends with: 2 where the input is at fault, else 1.
+    pub fn status(self) -> u8
+        ensures { result ≡ status_of self }
+    {
+        match self {
+            Failure::Unreadable | Failure::NoMemory => 1,
+            Failure::NotUtf8 | Failure::Line(_, _) => 2,
+        }
+    }
+}
+
+impl fmt::Display for Failure {
+    fn fmt<W: fmt::Write>(&self, f: &mut fmt::Formatter<W>) -> fmt::Result {
+        match self {
+            Failure::Unreadable => f.write_str("input: cannot be read"),
+            Failure::NotUtf8 => f.write_str("input: not UTF-8"),
+            Failure::Line(number, fault) => write!(f, "line {number}: {fault}"),
+            Failure::NoMemory => f.write_str("no memory"),
+        }
+    }
+}
+
+impl From<AllocError> for Failure {
+    ghost from_gives = { λ _ failure. failure ≡ NoMemory };
+
+    fn from(_error: AllocError) -> Failure {
+        Failure::NoMemory
+    }
+}
+
+impl<T: Drop> From<AllocFailed<T>> for Failure {
+    ghost from_gives = { λ _ failure. failure ≡ NoMemory };
+
+    fn from(_failed: AllocFailed<T>) -> Failure {
+        Failure::NoMemory
+    }
+}

@@ -1,0 +1,32 @@
+//! The program's input, read whole.
+ghost use Rattle.std.specs.Prelude.{IfOk, IfSome, IfErr, ◌≡◌, ◌⊎◌};
+
+use crate::failure::Failure;
+use std::alloc::Global;
+use std::io::Read;
+
+/// How many times the input is read at most, so that a reader that never ends is given up.
+const READS: u32 = 1_048_576;
+
+/// The room that each read has, in bytes.
+const ROOM: usize = 4096;
+
+/// All bytes that the input has left.
+///
+/// It is read at most 1,048,576 times, each time with room for 4,096 bytes. It is `Unreadable` where a read fails, or where
+/// none of these told the end.
+pub fn read_whole<R: Read + Drop>(alloc: Global, mut input: R) -> Result<Vec<u8>, Failure>
+    ensures whole { IfOk result (λ bytes. IfSome (R.remaining input) (λ left. bytes.items ≡ left)) }
+    ensures failure { IfErr result (λ failure. (failure ≡ Failure.Unreadable) ⊎ (failure ≡ Failure.NoMemory)) }
+{
+    let mut bytes = Vec::new(alloc);
+    let mut room = [0u8; ROOM];
+    for _ in 0..READS {
+        match input.read(&mut room) {
+            Ok(0) => return Ok(bytes),
+            Ok(count) => bytes.extend_from_slice(&room[..count])?,
+            Err(_) => return Err(Failure::Unreadable),
+        }
+    }
+    Err(Failure::Unreadable)
+}

@@ -1,0 +1,94 @@
+//! The lines that the program reads: an attach, or a detach.
+ghost use Rattle.std.specs.Prelude.{◌≡◌, ◌↔◌, ◌<◌, ◌^◌, ℕ, IfOk, IfErr, IsTrue};
+ghost use Rattle.otel_carry.specs.Lines.{Reads, IsFault, IsAttach, IsName, IsNumber, first_word};
+
+use std::fmt;
+
+/// What a line asks for.
+#[derive(Clone, Copy)]
+pub enum Line<'a> {
+    /// `attach NAME` or `attach NAME STATE`: attach a context of this name, and with this trace state where one is given.
+    Attach {
+        /// One or more bytes `!` to `~`.
+        name: &'a str,
+        /// All that stands after the second space.
+        state: Option<&'a str>,
+    },
+    /// `detach N`: detach the attach of this number, 0 for the first of the input.
+    Detach(usize),
+}
+
+/// Why a line can't be carried out. It prints the words that the program says of the line.
+#[derive(Clone, Copy, Debug, PartialEq, Eq)]
+pub enum Fault {
+    /// The line begins neither with `attach ` nor with `detach `.
+    UnknownCommand,
+    /// The name of an attach is empty, or has a byte that isn't one of `!` to `~`.
+    BadName,
+    /// The trace state of an attach is none by the W3C's rules.
+    BadTraceState,
+    /// The number of a detach isn't one or more decimal digits, or is too large for a `usize`.
+    BadNumber,
+}
+
+impl fmt::Display for Fault {
+    fn fmt<W: fmt::Write>(&self, f: &mut fmt::Formatter<W>) -> fmt::Result {
+        f.write_str(match self {
+            Fault::UnknownCommand => "unknown command",
+            Fault::BadName => "bad name",
+            Fault::BadTraceState => "bad trace state",
+            Fault::BadNumber => "bad number",
+        })
+    }
+}
+
+/// What the line asks for. It takes no memory, and doesn't look into a trace state, so `BadTraceState` isn't answered here.
+pub fn parse(line: &str) -> Result<Line<'_>, Fault>
+    ensures line { IfOk result (Reads line.now) }
+    ensures fault { IfErr result (IsFault line.now) }
+{
+    if let Some(attach) = line.strip_prefix("attach ") {
+        return attach_of(attach);
+    }
+    if let Some(detach) = line.strip_prefix("detach ") {
+        return detach_of(detach);
+    }
+    Err(Fault::UnknownCommand)
+}
+
+/// What `attach ` is followed by.
+fn attach_of(rest: &str) -> Result<Line<'_>, Fault>
+    ensures line { IfOk result (IsAttach rest.now) }
+    ensures fault { IfErr result (λ fault. (fault ≡ Fault.BadName) × ¬ IsName (first_word rest.now)) }
+{
+    let (name, state) = match rest.split_once(' ') {
+        Some((name, state)) => (name, Some(state)),
+        None => (rest, None),
+    };
+    if is_name(name) {
+        Ok(Line::Attach { name, state })
+    } else {
+        Err(Fault::BadName)
+    }
+}
+
+fn is_name(name: &str) -> bool
+    ensures { IsTrue result ↔ IsName name.now }
+{
+    !name.is_empty() && name.bytes().all(|byte| byte.is_ascii_graphic())
+}
+
+/// What `detach ` is followed by.
+fn detach_of(digits: &str) -> Result<Line<'_>, Fault>
+    ensures line { IfOk result (λ line. (n : ℕ) × (line ≡ Line.Detach n) × IsNumber digits.now n) }
+    ensures fault { IfErr result (λ fault. (fault ≡ Fault.BadNumber) × ((n : ℕ) → n < 2 ^ 64 → ¬ IsNumber digits.now n)) }
+{
+    // `parse` would take a sign.
+    if digits.starts_with('+') {
+        return Err(Fault::BadNumber);
+    }
+    match digits.parse::<usize>() {
+        Ok(number) => Ok(Line::Detach(number)),
+        Err(_) => Err(Fault::BadNumber),
+    }
+}

@@ -1,0 +1,37 @@
+//! Reads attaches and detaches from standard input, runs them, and prints where the contexts came to stand.
+#![tactic(auto)]
+
+mod carry;
+mod events;
+mod failure;
+mod input;
+mod lines;
+mod members;
+mod report;
+#[cfg(test)]
+mod tests;
+
+use members::{NameMember, StateMember};
+use opentelemetry::propagation::{TextMapCompositePropagator, TextMapPropagator};
+use std::alloc::{AllocError, Global};
+use std::io::{Stdin, Stdout};
+use std::process::ExitCode;
+
+/// Carries out the input with a composite of the members of this program.
+fn serve(alloc: Global, input: Stdin, output: Stdout) -> Result<u8, AllocError> {
+    let mut members: Vec<Box<dyn TextMapPropagator>> = Vec::new(alloc);
+    members.push(Box::new(alloc, NameMember { alloc })?)?;
+    members.push(Box::new(alloc, StateMember { alloc })?)?;
+    let composite = TextMapCompositePropagator::new(alloc, members)?;
+    Ok(carry::carry(alloc, input, output, &composite))
+}
+
+fn main(rt: HostRuntime) -> ExitCode {
+    match serve(rt.alloc(), rt.stdin(), rt.stdout()) {
+        Ok(status) => ExitCode::from(status),
+        Err(_) => {
+            let _ = rt.println("no memory");
+            ExitCode::FAILURE
+        }
+    }
+}

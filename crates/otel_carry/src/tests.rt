@@ -1,0 +1,286 @@
+//! What the program writes, and its status, for inputs and outputs in memory.
+use crate::carry::carry;
+use crate::events::events_of;
+use crate::members::{NameMember, StateMember};
+use opentelemetry::carry::StackEvent;
+use opentelemetry::propagation::{
+    Injector, PropagationError, TextMapCompositePropagator, TextMapPropagator,
+};
+use opentelemetry::trace::{SpanContext, TraceState};
+use opentelemetry::{Context, SpanId, TraceFlags, TraceId};
+use std::alloc::{AllocError, Global};
+use std::io::{self, ErrorKind, Read, Write};
+use std::process::Abort;
+use std::test::Fail;
+
+/// Carries out the input with the program's own members.
+fn status_of<R: Read + Drop, W: Write + Drop>(
+    alloc: Global,
+    input: R,
+    output: W,
+) -> Result<u8, AllocError> {
+    let mut members: Vec<Box<dyn TextMapPropagator>> = Vec::new(alloc);
+    members.push(Box::new(alloc, NameMember { alloc })?)?;
+    members.push(Box::new(alloc, StateMember { alloc })?)?;
+    let composite = TextMapCompositePropagator::new(alloc, members)?;
+    Ok(carry(alloc, input, output, &composite))
+}
+
+/// Checks what the program writes for this input, and its status.
+fn sees(
+    rt: &impl Abort,
+    alloc: Global,
+    input: &[u8],
+    text: &str,
+    status: u8,
+) -> Result<(), AllocError> {
+    let mut output = Vec::new(alloc);
+    assert_eq!(rt;
+        status_of(alloc, input, &mut output)?,
+        status,
+        "the status for {input:?}"
+    );
+    let written = str::from_utf8(&output).unwrap_or("not UTF-8");
+    assert_eq!(rt; written, text, "what is written for {input:?}");
+    Ok(())
+}
+
+#[test]
+fn reports_a_run(rt: HostRuntime) -> Result<(), Fail> {
+    for (input, report) in [
+        (
+            "attach a\nattach b\nattach c\ndetach 1\ndetach 2\nattach d\n",
+            "attach 0: position 1\nattach 1: position 2\nattach 2: position 3\nattach 3: position 2\ncurrent: d\ncontext-name=d\n",
+        ),
+        (
+            "attach a\nattach b\ndetach 0\n",
+            "attach 0: position 1\nattach 1: position 2\ncurrent: b\ncontext-name=b\n",
+        ),
+        ("", "current: base\n"),
+        ("\n\n", "current: base\n"),
+        ("detach 0\n", "current: base\n"),
+        ("detach 007\ndetach 18446744073709551615", "current: base\n"),
+        (
+            "detach 0\nattach a",
+            "attach 0: position 1\ncurrent: a\ncontext-name=a\n",
+        ),
+        (
+            "attach !~\n",
+            "attach 0: position 1\ncurrent: !~\ncontext-name=!~\n",
+        ),
+        (
+            "attach a v=1\n",
+            "attach 0: position 1\ncurrent: a\ncontext-name=a\ntracestate=v=1\n",
+        ),
+        (
+            "attach a \n",
+            "attach 0: position 1\ncurrent: a\ncontext-name=a\n",
+        ),
+        (
+            "attach a  v=1 ,,\tw= 2\t\n",
+            "attach 0: position 1\ncurrent: a\ncontext-name=a\ntracestate=v=1,w= 2\n",
+        ),
+        (
+            "attach a v=1\nattach b w=2\ndetach 1\n",
+            "attach 0: position 1\nattach 1: position 2\ncurrent: a\ncontext-name=a\ntracestate=v=1\n",
+        ),
+    ] {
+        sees(&rt, rt.alloc(), input.as_bytes(), report, 0)?;
+    }
+    Ok(())
+}
+
+#[test]
+fn tells_the_first_faulty_line(rt: HostRuntime) -> Result<(), Fail> {
+    for (input, fault) in [
+        ("attach", "line 1: unknown command\n"),
+        ("detach", "line 1: unknown command\n"),
+        (
+            "Attach a\nattach a\ndetach x\n",
+            "line 1: unknown command\n",
+        ),
+        ("attach a\n\nattach \n", "line 3: bad name\n"),
+        ("attach  v=1", "line 1: bad name\n"),
+        ("attach a\r\n", "line 1: bad name\n"),
+        ("attach \u{e9} v", "line 1: bad name\n"),
+        ("attach a\u{7f}", "line 1: bad name\n"),
+        ("attach a v=1,b", "line 1: bad trace state\n"),
+        ("attach a A=1", "line 1: bad trace state\n"),
+        ("detach x", "line 1: bad number\n"),
+        ("detach ", "line 1: bad number\n"),
+        ("detach +1", "line 1: bad number\n"),
+        ("detach -1", "line 1: bad number\n"),
+        ("detach 1 ", "line 1: bad number\n"),
+        ("detach 18446744073709551616", "line 1: bad number\n"),
+        ("detach 99999999999999999999", "line 1: bad number\n"),
+    ] {
+        sees(&rt, rt.alloc(), input.as_bytes(), fault, 2)?;
+    }
+    // That the input is UTF-8 is tested before its lines.
+    sees(
+        &rt,
+        rt.alloc(),
+        b"attach\nattach \xff\n",
+        "input: not UTF-8\n",
+        2,
+    )?;
+    Ok(())
+}
+
+#[test]
+fn numbers_the_span_contexts(rt: HostRuntime) -> Result<(), Fail> {
+    let events = events_of(rt.alloc(), "attach a\ndetach 0\nattach b v=1\n")?;
+    let state = TraceState::from_str(rt.alloc(), "v=1")?;
+    let wanted = SpanContext::new(
+        TraceId::from(2),
+        SpanId::from(2),
+        TraceFlags::SAMPLED,
+        true,
+        state,
+    );
+    assert_eq!(rt; events.len(), 3);
+    for (index, event) in events.iter().enumerate() {
+        if let StackEvent::Attach(context) = event {
+            assert_eq!(rt; context.has_active_span(), index == 2);
+            assert!(rt; index != 2 || *context.span_context() == wanted);
+        }
+    }
+    Ok(())
+}
+
+/// A stack holds 65,534 attachments: the next one is told to be too many.
+#[test]
+fn tells_a_full_stack(rt: HostRuntime) -> Result<(), Fail> {
+    let mut input = String::new(rt.alloc());
+    let mut report = String::new(rt.alloc());
+    for number in 0..65_534 {
+        input.push_str("attach a\n")?;
+        writeln!(report, "attach {number}: position {}", number + 1)?;
+    }
+    input.push_str("attach b\n")?;
+    report.push_str("attach 65534: full\ncurrent: a\ncontext-name=a\n")?;
+    let mut output = Vec::new(rt.alloc());
+    assert_eq!(rt; status_of(rt.alloc(), input.as_bytes(), &mut output)?, 0);
+    assert!(rt; output.as_slice() == report.as_bytes());
+    Ok(())
+}
+
+/// Gives one `\n` a read, so many times, and then ends or fails.
+#[derive(Drop)]
+struct Newlines {
+    left: u32,
+    fails: bool,
+}
+
+impl Read for Newlines {
+    fn read(&mut self, buf: &mut [u8]) -> io::Result<usize> {
+        if self.left == 0 && self.fails {
+            return Err(io::Error::from(ErrorKind::Other));
+        }
+        if self.left == 0 || buf.is_empty() {
+            return Ok(0);
+        }
+        self.left -= 1;
+        buf[0] = b'\n';
+        Ok(1)
+    }
+}
+
+#[test]
+fn gives_up_a_reader_that_fails_or_never_ends(rt: HostRuntime) -> Result<(), Fail> {
+    // The last of the 1,048,576 reads may be the one that tells the end.
+    for (left, fails, text, status) in [
+        (0, true, "input: cannot be read\n", 1),
+        (1, true, "input: cannot be read\n", 1),
+        (1_048_575, false, "current: base\n", 0),
+        (1_048_576, false, "input: cannot be read\n", 1),
+        (u32::MAX, false, "input: cannot be read\n", 1),
+    ] {
+        let mut output = Vec::new(rt.alloc());
+        assert_eq!(rt;
+            status_of(rt.alloc(), Newlines { left, fails }, &mut output)?,
+            status
+        );
+        assert_eq!(rt; str::from_utf8(&output), Ok(text));
+    }
+    Ok(())
+}
+
+/// Takes so many writes, and then fails.
+#[derive(Drop)]
+struct Narrow {
+    left: u32,
+}
+
+impl Write for Narrow {
+    fn write(&mut self, buf: &[u8]) -> io::Result<usize> {
+        if self.left == 0 {
+            return Err(io::Error::from(ErrorKind::Other));
+        }
+        self.left -= 1;
+        Ok(buf.len())
+    }
+
+    fn flush(&mut self) -> io::Result<()> {
+        Ok(())
+    }
+}
+
+#[test]
+fn ends_with_status_1_where_a_write_fails(rt: HostRuntime) -> Result<(), Fail> {
+    let mut long = String::new(rt.alloc());
+    for _ in 0..1000 {
+        long.push_str("attach a\n")?;
+    }
+    for (input, status) in [("attach a\n", 0), ("attach", 2), (long.as_str(), 0)] {
+        let mut failed = 0;
+        for left in 0..100 {
+            let met = status_of(rt.alloc(), input.as_bytes(), Narrow { left })?;
+            if met != 1 {
+                assert_eq!(rt; met, status);
+                break;
+            }
+            failed = left + 1;
+        }
+        assert!(rt;
+            failed > 0 && failed < 100,
+            "{failed} writes failed in turn"
+        );
+    }
+    Ok(())
+}
+
+/// Refuses to set anything.
+#[derive(Drop)]
+struct Refusing;
+
+impl TextMapPropagator for Refusing {
+    ghost use Rattle.std.specs.Prelude.{true, []};
+
+    ghost pairs = { λ _ _. [] };
+
+    ghost may_refuse = { λ _. true };
+
+    fn inject_context(
+        &self,
+        _context: &Context,
+        _injector: &mut dyn Injector,
+    ) -> Result<(), PropagationError> {
+        Err(PropagationError::Refused)
+    }
+}
+
+#[test]
+fn tells_a_refused_injection(rt: HostRuntime) -> Result<(), Fail> {
+    let alloc = rt.alloc();
+    let mut members: Vec<Box<dyn TextMapPropagator>> = Vec::new(alloc);
+    members.push(Box::new(alloc, NameMember { alloc })?)?;
+    members.push(Box::new(alloc, Refusing)?)?;
+    let composite = TextMapCompositePropagator::new(alloc, members)?;
+    let mut output = Vec::new(alloc);
+    let status = carry(alloc, b"attach a".as_slice(), &mut output, &composite);
+    assert_eq!(rt; status, 1);
+    let text = "attach 0: position 1\ncurrent: a\ninject: refused\n";
+    assert_eq!(rt; str::from_utf8(&output), Ok(text));
+    Ok(())
+}
