@@ -1,7 +1,7 @@
 //! What a stack gives, by positions and by guards.
 use super::{name_of, named, text_of};
 use crate::counter::Counter;
-use crate::{Baggage, Context, ContextGuard, ContextStack, HasCurrent};
+use crate::{Context, ContextGuard, ContextStack};
 use otel_base::{AnyValue, Key};
 use std::alloc::{AllocError, Global};
 use std::mem::size_of;
@@ -146,52 +146,6 @@ fn worked_rows(rt: HostRuntime) -> Result<(), Fail> {
     Ok(())
 }
 
-/// Attaches a context of that name, and asserts the answer.
-fn assert_attached(
-    rt: &impl Abort,
-    stack: &mut ContextStack,
-    context: &Context,
-    position: u16,
-    by_guards: bool,
-) -> Result<(), Fail> {
-    let copy = context.clone()?;
-    assert_eq!(rt; attach(stack, copy, by_guards)?, position);
-    Ok(())
-}
-
-/// All positions are taken, one attach too many is refused, and the freed positions are given out only from the
-/// newest live one on.
-fn fill(rt: &impl Abort, alloc: Global, by_guards: bool) -> Result<(), Fail> {
-    let mut stack = ContextStack::new(alloc)?;
-    let a = named(alloc, "a")?;
-    let b = named(alloc, "b")?;
-    for position in 1..65535u16 {
-        assert_attached(rt, &mut stack, &a, position, by_guards)?;
-    }
-    assert_attached(rt, &mut stack, &b, 65535, by_guards)?;
-    assert_eq!(rt; name_of(stack.current()), "a");
-    for position in 1..65534u16 {
-        assert!(rt; remove(&mut stack, position, by_guards).is_some());
-    }
-    assert_eq!(rt; stack.newest_position(), 65534);
-    assert_attached(rt, &mut stack, &b, 65535, by_guards)?;
-    assert!(rt; remove(&mut stack, 65534, by_guards).is_some());
-    assert_eq!(rt; name_of(stack.current()), "base");
-    assert_attached(rt, &mut stack, &b, 1, by_guards)?;
-    assert_eq!(rt; name_of(stack.current()), "b");
-    Ok(())
-}
-
-#[test]
-fn every_position_by_push(rt: HostRuntime) -> Result<(), Fail> {
-    fill(&rt, rt.alloc(), false)
-}
-
-#[test]
-fn every_position_by_guards(rt: HostRuntime) -> Result<(), Fail> {
-    fill(&rt, rt.alloc(), true)
-}
-
 #[test]
 fn guards_tell_whether_they_are_attached(rt: HostRuntime) -> Result<(), Fail> {
     let mut stack = ContextStack::new(rt.alloc())?;
@@ -205,27 +159,6 @@ fn guards_tell_whether_they_are_attached(rt: HostRuntime) -> Result<(), Fail> {
     assert!(rt; stack.pop_id(1).is_some());
     assert!(rt; guard.is_attached());
     assert!(rt; stack.detach(guard).is_none());
-    Ok(())
-}
-
-#[test]
-fn a_guard_removes_what_is_live_at_its_position_on_any_stack(rt: HostRuntime) -> Result<(), Fail> {
-    let alloc = rt.alloc();
-    let mut one = ContextStack::new(alloc)?;
-    let mut other = ContextStack::new(alloc)?;
-    let first = named(alloc, "a")?;
-    let second = named(alloc, "b")?;
-    let third = named(alloc, "x")?;
-    let a = one.attach(first).expect(&rt, "memory");
-    assert_eq!(rt; one.push(second).expect(&rt, "memory"), 2);
-    let x = other.attach(third).expect(&rt, "memory");
-    let given = one.detach(x);
-    assert_eq!(rt; name_given(&given), "a");
-    assert_eq!(rt; name_of(one.current()), "b");
-    assert!(rt; one.detach(a).is_none());
-    assert_eq!(rt; name_of(other.current()), "x");
-    let given = other.pop_id(1);
-    assert_eq!(rt; name_given(&given), "x");
     Ok(())
 }
 
@@ -253,28 +186,6 @@ fn a_context_keeps_the_entries_of_the_one_that_it_was_made_from(
     assert_eq!(rt; entries_of(&stack), ("1", true));
     assert!(rt; stack.pop_id(2).is_some());
     assert_eq!(rt; entries_of(&stack), ("", false));
-    Ok(())
-}
-
-#[test]
-fn calls_on_the_current_context(rt: HostRuntime) -> Result<(), Fail> {
-    let alloc = rt.alloc();
-    let mut stack = ContextStack::new(alloc)?;
-    let context = named(alloc, "a")?;
-    assert_eq!(rt; stack.push(context)?, 1);
-    assert_eq!(rt; stack.map_current(|context| name_of(context).len()), 1);
-    let loaded = stack.current_with_baggage(Baggage::new(alloc))?;
-    assert_eq!(rt; name_of(&loaded), "a");
-    assert!(rt; loaded.baggage().ok_or("no baggage")?.is_empty());
-    assert!(rt; !stack.is_current_telemetry_suppressed());
-    let guard = stack
-        .enter_telemetry_suppressed_scope()
-        .expect(&rt, "memory");
-    assert!(rt; stack.is_current_telemetry_suppressed());
-    assert_eq!(rt; name_of(stack.current()), "a");
-    let given = stack.detach(guard);
-    assert_eq!(rt; name_given(&given), "a");
-    assert!(rt; !stack.is_current_telemetry_suppressed());
     Ok(())
 }
 
