@@ -2,9 +2,10 @@
 mod context;
 mod stack;
 
-use crate::Context;
-use otel_base::{AnyValue, Key};
+use crate::{Baggage, Context};
+use otel_base::{AnyValue, Key, StringValue};
 use std::alloc::{AllocError, Global};
+use std::test::Fail;
 
 /// The empty context with the entry `name`.
 fn named(alloc: Global, name: &'static str) -> Result<Context, AllocError> {
@@ -23,4 +24,19 @@ fn text_of<'a>(context: &'a Context, key: &str) -> &'a str {
 fn name_of(context: &Context) -> &str {
     let name = text_of(context, "name");
     if name.is_empty() { "base" } else { name }
+}
+
+/// A baggage of that one pair.
+fn one_pair(alloc: Global, key: &'static str, value: &'static str) -> Result<Baggage, Fail> {
+    let mut baggage = Baggage::new(alloc);
+    drop(baggage.insert(Key::from(key), StringValue::from(value))?);
+    Ok(baggage)
+}
+
+/// The value of the key in the context's baggage, or nothing.
+fn held_in<'a>(context: &'a Context, key: &str) -> &'a str {
+    match context.baggage() {
+        Some(baggage) => baggage.get(key).map_or("", |value| value.as_str()),
+        None => "",
+    }
 }

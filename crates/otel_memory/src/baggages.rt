@@ -6,31 +6,17 @@ use otel_context::baggage::{Baggage, BaggageMetadata, KeyValueMetadata};
 use std::io;
 
 pub fn play<R: Print>(stage: &Stage<'_, R>) -> io::Result<()> {
-    if stage.begins("baggage-metadata")? {
-        stage.ends(metadata(stage))?;
-    }
-    if stage.begins("baggage-key-value-metadata")? {
-        stage.ends(key_value_metadata(stage))?;
-    }
-    if stage.begins("baggage-insert")? {
-        stage.ends(insert(stage))?;
-    }
-    if stage.begins("baggage-insert-with-metadata")? {
-        stage.ends(insert_with_metadata(stage))?;
-    }
-    if stage.begins("baggage-from-pairs")? {
-        stage.ends(from_pairs(stage))?;
-    }
-    if stage.begins("baggage-from-key-values")? {
-        stage.ends(from_key_values(stage))?;
-    }
-    if stage.begins("baggage-from-key-values-with-metadata")? {
-        stage.ends(from_key_values_with_metadata(stage))?;
-    }
-    if stage.begins("baggage-in-place")? {
-        stage.ends(in_place(stage))?;
-    }
-    Ok(())
+    stage.play("baggage-metadata", metadata)?;
+    stage.play("baggage-key-value-metadata", key_value_metadata)?;
+    stage.play("baggage-insert", insert)?;
+    stage.play("baggage-insert-with-metadata", insert_with_metadata)?;
+    stage.play("baggage-from-pairs", from_pairs)?;
+    stage.play("baggage-from-key-values", from_key_values)?;
+    stage.play(
+        "baggage-from-key-values-with-metadata",
+        from_key_values_with_metadata,
+    )?;
+    stage.play("baggage-in-place", in_place)
 }
 
 fn metadata<R: Print>(stage: &Stage<'_, R>) -> io::Result<()> {

@@ -8,28 +8,16 @@ use std::alloc::{AllocError, Global};
 use std::io;
 
 pub fn play<R: Print>(stage: &Stage<'_, R>) -> io::Result<()> {
-    if stage.begins("context-with-value")? {
-        stage.ends(with_value(stage))?;
-    }
-    if stage.begins("context-with-baggage")? {
-        stage.ends(with_baggage(stage))?;
-    }
-    if stage.begins("context-with-cleared-baggage")? {
-        stage.ends(with_cleared_baggage(stage))?;
-    }
-    if stage.begins("context-with-remote-span-context")? {
-        stage.ends(with_remote_span_context(stage))?;
-    }
-    if stage.begins("context-with-telemetry-suppressed")? {
-        stage.ends(with_telemetry_suppressed(stage))?;
-    }
-    if stage.begins("context-clone")? {
-        stage.ends(copy(stage))?;
-    }
-    if stage.begins("context-looks")? {
-        stage.ends(looks(stage))?;
-    }
-    Ok(())
+    stage.play("context-with-value", with_value)?;
+    stage.play("context-with-baggage", with_baggage)?;
+    stage.play("context-with-cleared-baggage", with_cleared_baggage)?;
+    stage.play("context-with-remote-span-context", with_remote_span_context)?;
+    stage.play(
+        "context-with-telemetry-suppressed",
+        with_telemetry_suppressed,
+    )?;
+    stage.play("context-clone", copy)?;
+    stage.play("context-looks", looks)
 }
 
 /// A baggage of that one pair.

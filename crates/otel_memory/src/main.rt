@@ -6,7 +6,9 @@
 
 mod baggages;
 mod contexts;
+mod propagations;
 mod scopes;
+mod stacks;
 mod stage;
 mod trace_states;
 mod values;
@@ -26,5 +28,7 @@ fn main(rt: HostRuntime) -> io::Result<()> {
     values::play(&stage)?;
     scopes::play(&stage)?;
     baggages::play(&stage)?;
-    contexts::play(&stage)
+    contexts::play(&stage)?;
+    stacks::play(&stage)?;
+    propagations::play(&stage)
 }

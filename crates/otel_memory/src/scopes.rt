@@ -7,16 +7,9 @@ use std::alloc::{AllocError, Global};
 use std::io;
 
 pub fn play<R: Print>(stage: &Stage<'_, R>) -> io::Result<()> {
-    if stage.begins("scope-build")? {
-        stage.ends(build(stage))?;
-    }
-    if stage.begins("scope-clone")? {
-        stage.ends(copy(stage))?;
-    }
-    if stage.begins("scope-without-attributes")? {
-        stage.ends(without_attributes(stage))?;
-    }
-    Ok(())
+    stage.play("scope-build", build)?;
+    stage.play("scope-clone", copy)?;
+    stage.play("scope-without-attributes", without_attributes)
 }
 
 /// A scope whose attributes are `k=2,j=0,k=1`.

@@ -24,21 +24,23 @@ impl<'a, R: Print> Stage<'a, R> {
         self.alloc
     }
 
-    /// Whether the scenario of this name is to run. Its heading is then printed.
-    pub fn begins(&self, name: &str) -> io::Result<bool> {
-        let wanted = self.wanted.is_empty() || self.wanted == name;
-        if wanted {
-            println!(self.rt; "== {name}")?;
+    /// Runs the scenario of this name below its heading, where it is wanted. One that found no memory for what it wanted to
+    /// begin with says so.
+    pub fn play<F: FnOnce(&Stage<'a, R>) -> io::Result<()>>(
+        &self,
+        name: &str,
+        scenario: F,
+    ) -> io::Result<()>
+        requires { F.IsAlwaysCallable scenario }
+    {
+        if !self.wanted.is_empty() && self.wanted != name {
+            return Ok(());
         }
-        Ok(wanted)
-    }
-
-    /// Ends a scenario: one that found no memory for what it wanted to begin with says so.
-    pub fn ends(&self, ended: io::Result<()>) -> io::Result<()> {
-        match ended {
-            Err(error) if error.kind() == ErrorKind::OutOfMemory => self
-                .rt
-                .println("set-up: no memory"),
+        println!(self.rt; "== {name}")?;
+        match scenario(self) {
+            Err(error) if error.kind() == ErrorKind::OutOfMemory => {
+                self.rt.println("set-up: no memory")
+            }
             ended => ended,
         }
     }

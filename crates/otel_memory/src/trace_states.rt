@@ -4,28 +4,13 @@ use otel_ids::TraceState;
 use std::io;
 
 pub fn play<R: Print>(stage: &Stage<'_, R>) -> io::Result<()> {
-    if stage.begins("trace-state-from-str")? {
-        stage.ends(from_str(stage))?;
-    }
-    if stage.begins("trace-state-from-key-value")? {
-        stage.ends(from_key_value(stage))?;
-    }
-    if stage.begins("trace-state-insert")? {
-        stage.ends(insert(stage))?;
-    }
-    if stage.begins("trace-state-delete")? {
-        stage.ends(delete(stage))?;
-    }
-    if stage.begins("trace-state-header")? {
-        stage.ends(header(stage))?;
-    }
-    if stage.begins("trace-state-faults")? {
-        stage.ends(faults(stage))?;
-    }
-    if stage.begins("trace-state-looks")? {
-        stage.ends(looks(stage))?;
-    }
-    Ok(())
+    stage.play("trace-state-from-str", from_str)?;
+    stage.play("trace-state-from-key-value", from_key_value)?;
+    stage.play("trace-state-insert", insert)?;
+    stage.play("trace-state-delete", delete)?;
+    stage.play("trace-state-header", header)?;
+    stage.play("trace-state-faults", faults)?;
+    stage.play("trace-state-looks", looks)
 }
 
 fn from_str<R: Print>(stage: &Stage<'_, R>) -> io::Result<()> {

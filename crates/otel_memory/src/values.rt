@@ -5,31 +5,14 @@ use std::alloc::{AllocError, Global};
 use std::io;
 
 pub fn play<R: Print>(stage: &Stage<'_, R>) -> io::Result<()> {
-    if stage.begins("text-clone")? {
-        stage.ends(text_clone(stage))?;
-    }
-    if stage.begins("text-into-string")? {
-        stage.ends(text_into_string(stage))?;
-    }
-    if stage.begins("value-text")? {
-        stage.ends(value_text(stage))?;
-    }
-    if stage.begins("value-clone")? {
-        stage.ends(value_clone(stage))?;
-    }
-    if stage.begins("tree-list")? {
-        stage.ends(tree_list(stage))?;
-    }
-    if stage.begins("tree-map")? {
-        stage.ends(tree_map(stage))?;
-    }
-    if stage.begins("tree-bytes")? {
-        stage.ends(tree_bytes(stage))?;
-    }
-    if stage.begins("tree-clone")? {
-        stage.ends(tree_clone(stage))?;
-    }
-    Ok(())
+    stage.play("text-clone", text_clone)?;
+    stage.play("text-into-string", text_into_string)?;
+    stage.play("value-text", value_text)?;
+    stage.play("value-clone", value_clone)?;
+    stage.play("tree-list", tree_list)?;
+    stage.play("tree-map", tree_map)?;
+    stage.play("tree-bytes", tree_bytes)?;
+    stage.play("tree-clone", tree_clone)
 }
 
 fn text_clone<R: Print>(stage: &Stage<'_, R>) -> io::Result<()> {

@@ -1,24 +1,10 @@
 //! What the calls of a context give.
-use super::{name_of, named, text_of};
-use crate::{Baggage, Context};
-use otel_base::{AnyValue, Key, StringValue};
+use super::{held_in, name_of, one_pair, text_of};
+use crate::Context;
+use otel_base::{AnyValue, Key};
 use otel_ids::{SpanContext, SpanId, TraceFlags, TraceId, TraceState};
-use std::alloc::Global;
 use std::process::Abort;
 use std::test::Fail;
-
-fn one_pair(alloc: Global, key: &'static str, value: &'static str) -> Result<Baggage, Fail> {
-    let mut baggage = Baggage::new(alloc);
-    drop(baggage.insert(Key::from(key), StringValue::from(value))?);
-    Ok(baggage)
-}
-
-fn held_in<'a>(context: &'a Context, key: &str) -> &'a str {
-    match context.baggage() {
-        Some(baggage) => baggage.get(key).map_or("", |value| value.as_str()),
-        None => "",
-    }
-}
 
 fn remote(number: u64) -> SpanContext {
     SpanContext::new(

@@ -1,7 +1,7 @@
 //! What a stack gives, by positions and by guards.
-use super::{name_of, named, text_of};
+use super::{held_in, name_of, named, one_pair, text_of};
 use crate::counter::Counter;
-use crate::{Context, ContextGuard, ContextStack};
+use crate::{Context, ContextGuard, ContextStack, HasCurrent};
 use otel_base::{AnyValue, Key};
 use std::alloc::{AllocError, Global};
 use std::mem::size_of;
@@ -127,14 +127,25 @@ fn assert_stands(rt: &impl Abort, stack: &ContextStack, current: &str, newest: u
     assert_eq!(rt; stack.newest_position(), newest);
 }
 
-fn play_all(rt: &impl Abort, alloc: Global, rows: &[Row], by_guards: bool) -> Result<(), Fail> {
-    let mut stack = ContextStack::new(alloc)?;
+/// Plays the rows in turn, and asserts what stands after each.
+fn play_rows(
+    rt: &impl Abort,
+    alloc: Global,
+    stack: &mut ContextStack,
+    rows: &[Row],
+    by_guards: bool,
+) -> Result<(), Fail> {
     for row in rows {
         let (step, current, newest) = *row;
-        play(rt, alloc, &mut stack, step, by_guards)?;
-        assert_stands(rt, &stack, current, newest);
+        play(rt, alloc, stack, step, by_guards)?;
+        assert_stands(rt, stack, current, newest);
     }
     Ok(())
+}
+
+fn play_all(rt: &impl Abort, alloc: Global, rows: &[Row], by_guards: bool) -> Result<(), Fail> {
+    let mut stack = ContextStack::new(alloc)?;
+    play_rows(rt, alloc, &mut stack, rows, by_guards)
 }
 
 #[test]
@@ -144,6 +155,56 @@ fn worked_rows(rt: HostRuntime) -> Result<(), Fail> {
         play_all(&rt, rt.alloc(), rows, true)?;
     }
     Ok(())
+}
+
+/// What is attached where every position is taken gets none.
+const AT_THE_LIMIT: &[Row] = &[(Attach("refused", 65535), "a", 65534)];
+
+/// All below the newest were removed: no position is free until the newest goes too.
+const ABOVE_EMPTIED_SLOTS: &[Row] = &[
+    (Attach("refused", 65535), "a", 65534),
+    (Remove(65534, "a"), "base", 0),
+    (Attach("again", 1), "again", 1),
+];
+
+/// Attaches as often as there are positions.
+fn fill(
+    rt: &impl Abort,
+    alloc: Global,
+    stack: &mut ContextStack,
+    by_guards: bool,
+) -> Result<(), Fail> {
+    for position in 1..65535 {
+        play(rt, alloc, stack, Attach("a", position), by_guards)?;
+    }
+    Ok(())
+}
+
+/// Removes all but the newest, the oldest first.
+fn empty_below(
+    rt: &impl Abort,
+    alloc: Global,
+    stack: &mut ContextStack,
+    by_guards: bool,
+) -> Result<(), Fail> {
+    for position in 1..65534 {
+        play(rt, alloc, stack, Remove(position, "a"), by_guards)?;
+    }
+    Ok(())
+}
+
+fn play_every_position(rt: &impl Abort, alloc: Global, by_guards: bool) -> Result<(), Fail> {
+    let mut stack = ContextStack::new(alloc)?;
+    fill(rt, alloc, &mut stack, by_guards)?;
+    play_rows(rt, alloc, &mut stack, AT_THE_LIMIT, by_guards)?;
+    empty_below(rt, alloc, &mut stack, by_guards)?;
+    play_rows(rt, alloc, &mut stack, ABOVE_EMPTIED_SLOTS, by_guards)
+}
+
+#[test]
+fn positions_run_out_and_come_back(rt: HostRuntime) -> Result<(), Fail> {
+    play_every_position(&rt, rt.alloc(), false)?;
+    play_every_position(&rt, rt.alloc(), true)
 }
 
 #[test]
@@ -171,21 +232,62 @@ fn entries_of(stack: &ContextStack) -> (&str, bool) {
     )
 }
 
+/// Attaches a context with `a`, and one made from it that has `b` too; then removes both, the first one first.
+fn play_derived(rt: &impl Abort, alloc: Global, by_guards: bool) -> Result<(), Fail> {
+    let mut stack = ContextStack::new(alloc)?;
+    let first = Context::new().with_value(alloc, Key::from("a"), AnyValue::from("1"))?;
+    assert_eq!(rt; attach(&mut stack, first, by_guards)?, 1);
+    let second = stack.current_with_value(Key::from("b"), AnyValue::from(42i64))?;
+    assert_eq!(rt; attach(&mut stack, second, by_guards)?, 2);
+    assert_eq!(rt; entries_of(&stack), ("1", true));
+    assert!(rt; remove(&mut stack, 1, by_guards).is_some());
+    assert_eq!(rt; entries_of(&stack), ("1", true));
+    assert!(rt; remove(&mut stack, 2, by_guards).is_some());
+    assert_eq!(rt; entries_of(&stack), ("", false));
+    Ok(())
+}
+
 #[test]
 fn a_context_keeps_the_entries_of_the_one_that_it_was_made_from(
     rt: HostRuntime,
 ) -> Result<(), Fail> {
+    play_derived(&rt, rt.alloc(), false)?;
+    play_derived(&rt, rt.alloc(), true)
+}
+
+#[test]
+fn a_guard_removes_what_is_at_its_position_in_another_stack(rt: HostRuntime) -> Result<(), Fail> {
     let alloc = rt.alloc();
-    let mut stack = ContextStack::new(alloc)?;
-    let first = Context::new().with_value(alloc, Key::from("a"), AnyValue::from("1"))?;
-    assert_eq!(rt; stack.push(first)?, 1);
-    let second = stack.current_with_value(Key::from("b"), AnyValue::from(42i64))?;
-    assert_eq!(rt; stack.push(second)?, 2);
-    assert_eq!(rt; entries_of(&stack), ("1", true));
-    assert!(rt; stack.pop_id(1).is_some());
-    assert_eq!(rt; entries_of(&stack), ("1", true));
-    assert!(rt; stack.pop_id(2).is_some());
-    assert_eq!(rt; entries_of(&stack), ("", false));
+    let mut one = ContextStack::new(alloc)?;
+    let mut other = ContextStack::new(alloc)?;
+    play_rows(&rt, alloc, &mut other, EMPTY_AT_FIRST, false)?;
+    let guard = one.attach(Context::new())?;
+    let given = other.detach(guard);
+    assert_eq!(rt; name_given(&given), "a");
+    assert_stands(&rt, &other, "base", 0);
+    assert_stands(&rt, &one, "base", 1);
+    Ok(())
+}
+
+#[test]
+fn the_current_context_is_lent_and_asked(rt: HostRuntime) -> Result<(), Fail> {
+    let mut stack = ContextStack::new(rt.alloc())?;
+    assert!(rt; !stack.is_current_telemetry_suppressed());
+    let guard = stack.enter_telemetry_suppressed_scope()?;
+    assert!(rt; stack.is_current_telemetry_suppressed());
+    assert!(rt; stack.map_current(|context| context.is_telemetry_suppressed()));
+    assert!(rt; stack.detach(guard).is_some());
+    assert!(rt; !stack.map_current(|context| context.is_telemetry_suppressed()));
+    Ok(())
+}
+
+#[test]
+fn the_current_context_takes_a_baggage(rt: HostRuntime) -> Result<(), Fail> {
+    let stack = ContextStack::new(rt.alloc())?;
+    let baggage = one_pair(rt.alloc(), "k", "1")?;
+    let context = stack.current_with_baggage(baggage)?;
+    assert_eq!(rt; held_in(&context, "k"), "1");
+    assert!(rt; stack.current().baggage().is_none());
     Ok(())
 }
 

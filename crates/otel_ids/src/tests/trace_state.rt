@@ -129,6 +129,24 @@ fn the_first_32_pairs_are_given(rt: HostRuntime) -> Result<(), Fail> {
 }
 
 #[test]
+fn of_64_pairs_the_first_32_are_taken(rt: HostRuntime) -> Result<(), Fail> {
+    let alloc = rt.alloc();
+    let text = numbered(alloc, 64)?;
+    let mut pairs = Vec::new(alloc);
+    for member in text.as_str().split(',') {
+        if let Some(pair) = member.split_once('=') {
+            pairs.push(pair)?;
+        }
+    }
+    let state = TraceState::from_key_value(alloc, pairs.as_slice())?;
+    assert_eq!(rt;
+        state.header(alloc)?.as_str(),
+        numbered(alloc, 32)?.as_str()
+    );
+    Ok(())
+}
+
+#[test]
 fn there_is_one_empty_state(rt: HostRuntime) -> Result<(), Fail> {
     let alloc = rt.alloc();
     let one = TraceState::from_str(alloc, "a=1")?;
