@@ -25,6 +25,12 @@ struct Stamp {
     value: &'static str,
 }
 
+impl Stamp {
+    fn new(alloc: Global, key: &'static str, value: &'static str) -> Stamp {
+        Stamp { alloc, key, value }
+    }
+}
+
 impl TextMapPropagator for Stamp {
     ghost use Rattle.std.specs.Prelude.{[], ◌∷◌, false};
 
@@ -39,23 +45,6 @@ impl TextMapPropagator for Stamp {
     ) -> Result<(), PropagationError> {
         injector.set(self.key, String::from_str(self.alloc, self.value)?)
     }
-}
-
-fn member(
-    alloc: Global,
-    key: &'static str,
-    value: &'static str,
-) -> Result<Box<dyn TextMapPropagator>, AllocError> {
-    let stamp = Stamp { alloc, key, value };
-    Ok(Box::new(alloc, stamp)?)
-}
-
-/// The composite of a member that sets `x`, and one that sets `y`.
-fn composite(alloc: Global) -> Result<TextMapCompositePropagator, AllocError> {
-    let mut members: Vec<Box<dyn TextMapPropagator>> = Vec::new(alloc);
-    members.push(member(alloc, "X", "1")?)?;
-    members.push(member(alloc, "y", "2")?)?;
-    TextMapCompositePropagator::new(alloc, members)
 }
 
 /// A carrier of one text.
@@ -98,9 +87,10 @@ fn reserve<R: Print>(stage: &Stage<'_, R>) -> io::Result<()> {
 }
 
 fn new<R: Print>(stage: &Stage<'_, R>) -> io::Result<()> {
-    let mut members: Vec<Box<dyn TextMapPropagator>> = Vec::new(stage.alloc());
-    members.push(member(stage.alloc(), "X", "1")?)?;
-    let answer = TextMapCompositePropagator::new(stage.alloc(), members);
+    let alloc = stage.alloc();
+    let mut members: Vec<Box<dyn TextMapPropagator>> = Vec::new(alloc);
+    members.push(Box::new(alloc, Stamp::new(alloc, "X", "1"))?)?;
+    let answer = TextMapCompositePropagator::new(alloc, members);
     stage.free(&answer.is_ok())
 }
 
@@ -115,18 +105,32 @@ fn injected<R: Print>(
     stage.due(due)
 }
 
-fn inject_context<R: Print>(stage: &Stage<'_, R>) -> io::Result<()> {
-    let composite = composite(stage.alloc())?;
-    let mut carrier = carrier(stage.alloc())?;
-    let answer = composite.inject_context(&Context::new(), &mut carrier);
+/// Lets a member that sets `x`, and one that sets `y`, inject from the context or from the stack.
+fn injected_by_two<R: Print>(
+    stage: &Stage<'_, R>,
+    context: Option<&Context>,
+    stack: &ContextStack,
+) -> io::Result<()> {
+    let alloc = stage.alloc();
+    let mut members: Vec<Box<dyn TextMapPropagator>> = Vec::new(alloc);
+    members.push(Box::new(alloc, Stamp::new(alloc, "X", "1"))?)?;
+    members.push(Box::new(alloc, Stamp::new(alloc, "y", "2"))?)?;
+    let composite = TextMapCompositePropagator::new(alloc, members)?;
+    let mut carrier = carrier(alloc)?;
+    let answer = match context {
+        Some(context) => composite.inject_context(context, &mut carrier),
+        None => composite.inject(stack, &mut carrier),
+    };
     injected(stage, answer, &carrier)
 }
 
+fn inject_context<R: Print>(stage: &Stage<'_, R>) -> io::Result<()> {
+    let stack = ContextStack::new(stage.alloc())?;
+    injected_by_two(stage, Some(&Context::new()), &stack)
+}
+
 fn inject<R: Print>(stage: &Stage<'_, R>) -> io::Result<()> {
-    let composite = composite(stage.alloc())?;
-    let mut carrier = carrier(stage.alloc())?;
     let mut stack = ContextStack::new(stage.alloc())?;
     stack.push(full(stage.alloc())?)?;
-    let answer = composite.inject(&stack, &mut carrier);
-    injected(stage, answer, &carrier)
+    injected_by_two(stage, None, &stack)
 }
