@@ -11,6 +11,7 @@ ghost use Rattle.otel_context.specs.Baggage.{offered, replaced, without_key, at_
 ghost use Rattle.otel_context.specs.BaggageAttribute.{plain_triple};
 ghost use Rattle.otel_context.specs.BaggageHeader.{header};
 
+mod by_text;
 mod header;
 mod key;
 mod metadata;
@@ -18,6 +19,7 @@ mod metadata;
 mod tests;
 mod weight;
 
+use self::by_text::ByText;
 use self::header::write_header;
 pub use self::metadata::{BaggageMetadata, KeyValueMetadata};
 use self::weight::{weight_after, weight_of};
@@ -65,9 +67,7 @@ impl Baggage {
         }
     }
 
-    /// The value of the key, or `None` where the key isn't held. It takes no memory.
-    ///
-    /// A key is looked for among at most 64 pairs.
+    /// The value of the key, or `None` where the key isn't held. It takes constant time and no memory.
     pub fn get(&self, key: &str) -> Option<&StringValue>
         ensures { option_copied result ≡ option_map (λ pair. pair.0) (at_key self.now key.now) }
     {
@@ -75,7 +75,7 @@ impl Baggage {
         Some(value)
     }
 
-    /// The value and the metadata of the key, or `None` where the key isn't held. It takes no memory.
+    /// The value and the metadata of the key, or `None` where the key isn't held. It takes constant time and no memory.
     pub fn get_with_metadata(&self, key: &str) -> Option<&(StringValue, BaggageMetadata)>
         ensures { option_copied result ≡ at_key self.now key.now }
     {
@@ -233,7 +233,7 @@ impl Baggage {
 fn index_of(held: &IndexMap<Key, (StringValue, BaggageMetadata)>, key: &str) -> Option<usize>
     ensures { result ≡ position (bytes_eq key.now) (keys_of held.now.entries) }
 {
-    held.keys().position(|name| key == name.as_str())
+    held.get_index_of(ByText(key))
 }
 
 impl fmt::Display for Baggage {
