@@ -5,7 +5,6 @@ mod stack;
 use crate::{Baggage, Context};
 use otel_base::{AnyValue, Key, StringValue};
 use std::alloc::{AllocError, Global};
-use std::test::Fail;
 
 /// The empty context with the entry `name`.
 fn named(alloc: Global, name: &'static str) -> Result<Context, AllocError> {
@@ -27,7 +26,7 @@ fn name_of(context: &Context) -> &str {
 }
 
 /// A baggage of that one pair.
-fn one_pair(alloc: Global, key: &'static str, value: &'static str) -> Result<Baggage, Fail> {
+fn one_pair(alloc: Global, key: &'static str, value: &'static str) -> Result<Baggage, AllocError> {
     let mut baggage = Baggage::new(alloc);
     drop(baggage.insert(Key::from(key), StringValue::from(value))?);
     Ok(baggage)

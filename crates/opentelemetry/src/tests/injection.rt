@@ -3,68 +3,109 @@ use crate::context::{Context, ContextStack};
 use crate::propagation::{
     Injector, PropagationError, TextMapCompositePropagator, TextMapPropagator,
 };
-use crate::tests::members::{Refusing, held, refuses_after, stamps_of};
+use crate::tests::members::{
+    RefusesOnce, Refusing, assert_held, held, refuses_after, set_all, stamps_of,
+};
 use std::alloc::{AllocError, Global};
 use std::collections::HashMap;
+use std::process::Abort;
 use std::test::Fail;
+
+/// What is set in turn, and what is held then under these keys as they stand.
+const SET: &[(&str, &str)] = &[
+    ("Foo", "1"),
+    ("foo", "2"),
+    ("\u{c9}", "1"),
+    ("\u{e9}", "2"),
+    ("\u{212a}", "1"),
+    ("", "1"),
+];
+
+const HELD: &[(&str, &str)] = &[
+    ("foo", "2"),
+    ("Foo", "none"),
+    ("\u{c9}", "1"),
+    ("\u{e9}", "2"),
+    ("\u{212a}", "1"),
+    ("k", "none"),
+    ("", "1"),
+];
 
 #[test]
 fn keys_are_lowered_in_ascii_alone(rt: HostRuntime) -> Result<(), Fail> {
-    let alloc = rt.alloc();
-    let mut texts: HashMap<String, String> = HashMap::new(alloc);
+    let mut texts: HashMap<String, String> = HashMap::new(rt.alloc());
     Injector::reserve(&mut texts, 10);
-    for (key, value) in [
-        ("Foo", "1"),
-        ("foo", "2"),
-        ("\u{c9}", "1"),
-        ("\u{e9}", "2"),
-        ("\u{212a}", "1"),
-        ("", "1"),
-    ] {
-        let set = Injector::set(&mut texts, key, String::from_str(alloc, value)?);
-        assert!(rt; set.is_ok(), "{key}");
-    }
-    for (key, value) in [
-        ("foo", "2"),
-        ("Foo", "none"),
-        ("\u{c9}", "1"),
-        ("\u{e9}", "2"),
-        ("\u{212a}", "1"),
-        ("k", "none"),
-        ("", "1"),
-    ] {
-        assert_eq!(rt; held(&texts, key), value, "{key}");
-    }
+    set_all(rt.alloc(), &mut texts, SET)?;
+    assert_held(&rt, &texts, HELD);
     assert_eq!(rt; texts.len(), 5);
     Ok(())
+}
+
+/// After how many texts a carrier refuses one, whether it came to that, and what it then holds.
+struct Refusal {
+    before: usize,
+    is_refused: bool,
+    len: usize,
+    held: &'static [(&'static str, &'static str)],
+}
+
+/// Of `x`, `y` and `x` again.
+const REFUSALS: &[Refusal] = &[
+    Refusal {
+        before: 0,
+        is_refused: true,
+        len: 0,
+        held: &[("x", "none"), ("y", "none")],
+    },
+    Refusal {
+        before: 1,
+        is_refused: true,
+        len: 1,
+        held: &[("x", "1"), ("y", "none")],
+    },
+    Refusal {
+        before: 2,
+        is_refused: true,
+        len: 2,
+        held: &[("x", "1"), ("y", "2")],
+    },
+    Refusal {
+        before: 3,
+        is_refused: false,
+        len: 2,
+        held: &[("x", "3"), ("y", "2")],
+    },
+];
+
+/// Injects, and asserts the answer and what the carrier then holds.
+fn assert_refusal(
+    rt: &impl Abort,
+    alloc: Global,
+    composite: &TextMapCompositePropagator,
+    refusal: &Refusal,
+) {
+    let mut carrier = refuses_after(alloc, refusal.before);
+    let answer = composite.inject_context(&Context::new(), &mut carrier);
+    assert_eq!(rt;
+        answer == Err(PropagationError::Refused),
+        refusal.is_refused
+    );
+    assert_eq!(rt; answer.is_ok(), !refusal.is_refused);
+    assert_eq!(rt; carrier.has_refused, refusal.is_refused);
+    assert_eq!(rt; carrier.texts.len(), refusal.len);
+    assert_held(rt, &carrier.texts, refusal.held);
 }
 
 #[test]
 fn a_carrier_refuses_one_text(rt: HostRuntime) -> Result<(), Fail> {
     let alloc = rt.alloc();
     let mut members: Vec<Box<dyn TextMapPropagator>> = Vec::new(alloc);
-    members.push(Box::new(alloc, stamps_of(alloc, &[("x", "1")])?)?)?;
-    members.push(Box::new(alloc, stamps_of(alloc, &[("y", "2")])?)?)?;
-    members.push(Box::new(alloc, stamps_of(alloc, &[("X", "3")])?)?)?;
+    for pair in [("x", "1"), ("y", "2"), ("X", "3")] {
+        members.push(Box::new(alloc, stamps_of(alloc, &[pair])?)?)?;
+    }
     let composite = TextMapCompositePropagator::new(alloc, members)?;
-    for (before, refused, len, x, y) in [
-        (0, true, 0, "none", "none"),
-        (1, true, 1, "1", "none"),
-        (2, true, 2, "1", "2"),
-        (3, false, 2, "3", "2"),
-    ] {
-        let mut carrier = refuses_after(alloc, before);
-        let answer = composite.inject_context(&Context::new(), &mut carrier);
-        assert_eq!(rt;
-            answer == Err(PropagationError::Refused),
-            refused,
-            "{before}"
-        );
-        assert_eq!(rt; answer.is_ok(), !refused, "{before}");
-        assert_eq!(rt; carrier.has_refused, refused, "{before}");
-        assert_eq!(rt; carrier.texts.len(), len, "{before}");
-        assert_eq!(rt; held(&carrier.texts, "x"), x, "{before}");
-        assert_eq!(rt; held(&carrier.texts, "y"), y, "{before}");
+    for refusal in REFUSALS {
+        assert_refusal(&rt, alloc, &composite, refusal);
     }
     Ok(())
 }
@@ -80,8 +121,7 @@ fn the_pairs_of_a_member_stop_at_a_refusal(rt: HostRuntime) -> Result<(), Fail> 
     let answer = composite.inject_context(&Context::new(), &mut carrier);
     assert!(rt; answer == Err(PropagationError::Refused));
     assert_eq!(rt; carrier.texts.len(), 2);
-    assert_eq!(rt; held(&carrier.texts, "x"), "1");
-    assert_eq!(rt; held(&carrier.texts, "y"), "2");
+    assert_held(&rt, &carrier.texts, &[("x", "1"), ("y", "2")]);
     Ok(())
 }
 
@@ -102,19 +142,26 @@ fn a_member_refuses_between_two(rt: HostRuntime) -> Result<(), Fail> {
 }
 
 #[test]
-fn injects_from_the_current_context(rt: HostRuntime) -> Result<(), Fail> {
-    let alloc = rt.alloc();
-    let mut stack = ContextStack::new(alloc)?;
-    let _ = stack.push(Context::new())?;
-    let mut texts: HashMap<String, String> = HashMap::new(alloc);
-    let member = stamps_of(alloc, &[("A", "1")])?;
+fn a_member_injects_from_the_current_context(rt: HostRuntime) -> Result<(), Fail> {
+    let stack = ContextStack::new(rt.alloc())?;
+    let member = stamps_of(rt.alloc(), &[("A", "1")])?;
+    let mut texts: HashMap<String, String> = HashMap::new(rt.alloc());
     assert!(rt; member.inject(&stack, &mut texts).is_ok());
+    assert_eq!(rt; texts.len(), 1);
+    assert_eq!(rt; held(&texts, "a"), "1");
+    Ok(())
+}
+
+#[test]
+fn a_composite_injects_from_the_current_context(rt: HostRuntime) -> Result<(), Fail> {
+    let alloc = rt.alloc();
     let mut members: Vec<Box<dyn TextMapPropagator>> = Vec::new(alloc);
     members.push(Box::new(alloc, stamps_of(alloc, &[("b", "2")])?)?)?;
     let composite = TextMapCompositePropagator::new(alloc, members)?;
+    let stack = ContextStack::new(alloc)?;
+    let mut texts: HashMap<String, String> = HashMap::new(alloc);
     assert!(rt; composite.inject(&stack, &mut texts).is_ok());
-    assert_eq!(rt; texts.len(), 2);
-    assert_eq!(rt; held(&texts, "a"), "1");
+    assert_eq!(rt; texts.len(), 1);
     assert_eq!(rt; held(&texts, "b"), "2");
     Ok(())
 }
@@ -124,13 +171,9 @@ fn no_members_leave_the_carrier(rt: HostRuntime) -> Result<(), Fail> {
     let alloc = rt.alloc();
     let composite = TextMapCompositePropagator::new(alloc, Vec::new(alloc))?;
     let mut texts: HashMap<String, String> = HashMap::new(alloc);
-    let set = Injector::set(&mut texts, "x", String::from_str(alloc, "1")?);
-    assert!(rt; set.is_ok());
-    assert!(rt;
-        composite
-            .inject_context(&Context::new(), &mut texts)
-            .is_ok()
-    );
+    set_all(alloc, &mut texts, &[("x", "1")])?;
+    let answer = composite.inject_context(&Context::new(), &mut texts);
+    assert!(rt; answer.is_ok());
     assert_eq!(rt; texts.len(), 1);
     assert_eq!(rt; held(&texts, "x"), "1");
     Ok(())
@@ -138,13 +181,9 @@ fn no_members_leave_the_carrier(rt: HostRuntime) -> Result<(), Fail> {
 
 #[test]
 fn errors_tell_their_cause(rt: HostRuntime) -> Result<(), Fail> {
-    let alloc = rt.alloc();
-    for (error, text) in [
-        (PropagationError::from(AllocError), "no memory"),
-        (PropagationError::Refused, "refused"),
-    ] {
-        let shown = format!(in alloc; "{error}")?;
-        assert_eq!(rt; shown.as_str(), text);
-    }
+    let memory = format!(in rt.alloc(); "{}", PropagationError::from(AllocError))?;
+    assert_eq!(rt; memory.as_str(), "no memory");
+    let refused = format!(in rt.alloc(); "{}", PropagationError::Refused)?;
+    assert_eq!(rt; refused.as_str(), "refused");
     Ok(())
 }

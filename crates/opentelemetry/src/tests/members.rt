@@ -7,6 +7,7 @@ use crate::context::Context;
 use crate::propagation::{Injector, PropagationError, TextMapPropagator};
 use std::alloc::{AllocError, Global};
 use std::collections::HashMap;
+use std::process::Abort;
 
 /// Sets the same pairs for each context, in order.
 #[derive(Drop)]
@@ -124,5 +125,24 @@ pub fn held<'a>(texts: &'a HashMap<String, String>, key: &str) -> &'a str {
     match texts.get(key) {
         Some(value) => value.as_str(),
         None => "none",
+    }
+}
+
+/// Sets these pairs in turn.
+pub fn set_all(
+    alloc: Global,
+    texts: &mut HashMap<String, String>,
+    pairs: &[(&str, &str)],
+) -> Result<(), PropagationError> {
+    for (key, value) in pairs {
+        Injector::set(&mut *texts, key, String::from_str(alloc, value)?)?;
+    }
+    Ok(())
+}
+
+/// Asserts what a carrier holds under each of these keys, or that it is `none`.
+pub fn assert_held(rt: &impl Abort, texts: &HashMap<String, String>, pairs: &[(&str, &str)]) {
+    for (key, value) in pairs {
+        assert_eq!(rt; held(texts, key), *value, "{key}");
     }
 }

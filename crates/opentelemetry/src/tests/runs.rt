@@ -4,9 +4,10 @@ use crate::carry::{AttachOutcome, RunReport, StackEvent, run};
 use crate::context::Context;
 use crate::logs::AnyValue;
 use crate::propagation::{PropagationError, TextMapCompositePropagator, TextMapPropagator};
-use crate::tests::members::{Refusing, held, stamps_of};
+use crate::tests::members::{Refusing, assert_held, stamps_of};
 use std::alloc::{AllocError, Global};
 use std::collections::HashMap;
+use std::process::Abort;
 use std::test::Fail;
 
 /// A context whose entry `name` is this letter.
@@ -50,28 +51,36 @@ fn are_attached(outcomes: &[AttachOutcome], positions: &str) -> bool {
     position.next().is_none()
 }
 
+/// The steps, the positions that the attaches get, the name of the current context then, and the newest position.
+const RUNS: &[(&str, &str, u8, u16)] = &[
+    ("abc1", "123", b'c', 3),
+    ("abc12", "123", b'a', 1),
+    ("abc12d", "1232", b'd', 2),
+    ("abc12d1", "1232", b'd', 2),
+    ("0", "", 0, 0),
+    ("0a", "1", b'a', 1),
+    ("ab0", "12", b'b', 2),
+    ("ab01", "12", 0, 0),
+    ("", "", 0, 0),
+    ("a0b0", "11", b'b', 1),
+    ("a9", "1", b'a', 1),
+];
+
+/// Asserts the name of the report's current context, and the newest position.
+fn assert_stands(rt: &impl Abort, report: &RunReport, current: u8, newest: u16) {
+    assert_eq!(rt; current_of(report), current as i64);
+    assert_eq!(rt; report.stack.newest_position(), newest);
+}
+
 #[test]
 fn worked_runs_have_these_answers(rt: HostRuntime) -> Result<(), Fail> {
-    for (steps, positions, current, newest) in [
-        ("abc1", "123", b'c', 3),
-        ("abc12", "123", b'a', 1),
-        ("abc12d", "1232", b'd', 2),
-        ("abc12d1", "1232", b'd', 2),
-        ("0", "", 0, 0),
-        ("0a", "1", b'a', 1),
-        ("ab0", "12", b'b', 2),
-        ("ab01", "12", 0, 0),
-        ("", "", 0, 0),
-        ("a0b0", "11", b'b', 1),
-        ("a9", "1", b'a', 1),
-    ] {
+    for (steps, positions, current, newest) in RUNS {
         let report = run_steps(rt.alloc(), steps)?;
         assert!(rt;
             are_attached(report.outcomes.as_slice(), positions),
             "{steps}"
         );
-        assert_eq!(rt; current_of(&report), current as i64, "{steps}");
-        assert_eq!(rt; report.stack.newest_position(), newest, "{steps}");
+        assert_stands(&rt, &report, *current, *newest);
     }
     Ok(())
 }
@@ -107,54 +116,74 @@ fn attached_in_order(outcomes: &[AttachOutcome]) -> u16 {
     position
 }
 
+/// Asserts that all positions were taken, that the next attach was refused, and what the last one came to.
+fn assert_limit(rt: &impl Abort, outcomes: &[AttachOutcome], last: AttachOutcome) {
+    assert_eq!(rt; outcomes.len(), 65536);
+    assert_eq!(rt; attached_in_order(outcomes), 65534);
+    assert_eq!(rt; outcomes.get(65534).copied(), Some(AttachOutcome::Full));
+    assert_eq!(rt; outcomes.get(65535).copied(), Some(last));
+}
+
+/// How many are detached, what the last attach comes to, and what stands then.
+const LIMITS: &[(usize, AttachOutcome, u8, u16)] = &[
+    (0, AttachOutcome::Full, b'l', 65534),
+    (65533, AttachOutcome::Full, b'l', 65534),
+    (65534, AttachOutcome::Attached(1), b'n', 1),
+];
+
 #[test]
 fn positions_run_out_and_come_back(rt: HostRuntime) -> Result<(), Fail> {
-    for (detached, last, current, newest) in [
-        (0, AttachOutcome::Full, b'l', 65534),
-        (65533, AttachOutcome::Full, b'l', 65534),
-        (65534, AttachOutcome::Attached(1), b'n', 1),
-    ] {
-        let report = run_to_the_limit(rt.alloc(), detached)?;
-        assert_eq!(rt; attached_in_order(report.outcomes.as_slice()), 65534);
-        assert_eq!(rt;
-            report.outcomes.get(65534).copied(),
-            Some(AttachOutcome::Full)
-        );
-        assert_eq!(rt; report.outcomes.get(65535).copied(), Some(last));
-        assert_eq!(rt; report.outcomes.len(), 65536);
-        assert_eq!(rt; current_of(&report), current as i64);
-        assert_eq!(rt; report.stack.newest_position(), newest);
+    for (detached, last, current, newest) in LIMITS {
+        let report = run_to_the_limit(rt.alloc(), *detached)?;
+        assert_limit(&rt, report.outcomes.as_slice(), *last);
+        assert_stands(&rt, &report, *current, *newest);
     }
+    Ok(())
+}
+
+/// Runs without events over a carrier that holds `Kept`, and asserts what was injected.
+fn assert_run(
+    rt: &impl Abort,
+    alloc: Global,
+    composite: &TextMapCompositePropagator,
+    injected: Result<(), PropagationError>,
+    pairs: &[(&str, &str)],
+) -> Result<(), Fail> {
+    let mut carrier: HashMap<String, String> = HashMap::new(alloc);
+    let kept = String::from_str(alloc, "Kept")?;
+    carrier.insert(kept, String::from_str(alloc, "0")?)?;
+    let report = run(alloc, Vec::new(alloc), composite, &mut carrier)?;
+    assert!(rt; report.injected == injected);
+    assert_eq!(rt; carrier.len(), pairs.len());
+    assert_held(rt, &carrier, pairs);
     Ok(())
 }
 
 #[test]
 fn a_run_injects_what_its_members_set(rt: HostRuntime) -> Result<(), Fail> {
     let alloc = rt.alloc();
-    for (with_refusing, len, y) in [(false, 3, "2"), (true, 2, "none")] {
-        let mut members: Vec<Box<dyn TextMapPropagator>> = Vec::new(alloc);
-        members.push(Box::new(alloc, stamps_of(alloc, &[("X", "1"), ("x", "3")])?)?)?;
-        if with_refusing {
-            members.push(Box::new(alloc, Refusing)?)?;
-        }
-        members.push(Box::new(alloc, stamps_of(alloc, &[("y", "2")])?)?)?;
-        let composite = TextMapCompositePropagator::new(alloc, members)?;
-        let mut carrier: HashMap<String, String> = HashMap::new(alloc);
-        carrier.insert(
-            String::from_str(alloc, "Kept")?,
-            String::from_str(alloc, "0")?,
-        )?;
-        let report = run(alloc, Vec::new(alloc), &composite, &mut carrier)?;
-        let want = if with_refusing {
-            Err(PropagationError::Refused)
-        } else {
-            Ok(())
-        };
-        assert!(rt; report.injected == want);
-        assert_eq!(rt; carrier.len(), len);
-        assert_eq!(rt; held(&carrier, "Kept"), "0");
-        assert_eq!(rt; held(&carrier, "x"), "3");
-        assert_eq!(rt; held(&carrier, "y"), y);
-    }
-    Ok(())
+    let mut members: Vec<Box<dyn TextMapPropagator>> = Vec::new(alloc);
+    members.push(Box::new(alloc, stamps_of(alloc, &[("X", "1"), ("x", "3")])?)?)?;
+    members.push(Box::new(alloc, stamps_of(alloc, &[("y", "2")])?)?)?;
+    let composite = TextMapCompositePropagator::new(alloc, members)?;
+    let pairs = &[("Kept", "0"), ("x", "3"), ("y", "2")];
+    assert_run(&rt, alloc, &composite, Ok(()), pairs)
+}
+
+#[test]
+fn a_run_tells_what_a_member_refused(rt: HostRuntime) -> Result<(), Fail> {
+    let alloc = rt.alloc();
+    let mut members: Vec<Box<dyn TextMapPropagator>> = Vec::new(alloc);
+    members.push(Box::new(alloc, stamps_of(alloc, &[("X", "3")])?)?)?;
+    members.push(Box::new(alloc, Refusing)?)?;
+    members.push(Box::new(alloc, stamps_of(alloc, &[("y", "2")])?)?)?;
+    let composite = TextMapCompositePropagator::new(alloc, members)?;
+    let refused = Err(PropagationError::Refused);
+    assert_run(
+        &rt,
+        alloc,
+        &composite,
+        refused,
+        &[("Kept", "0"), ("x", "3")],
+    )
 }

@@ -6,55 +6,59 @@ use std::process::Abort;
 use std::rc::RcStr;
 use std::test::Fail;
 
-fn is_the_key_k(rt: &impl Abort, key: Key) -> Result<(), AllocError> {
+fn is_the_key_k(rt: &impl Abort, key: &Key) -> Result<(), AllocError> {
     let same = Key::from("k");
-    let later = Key::from("ka");
-    assert!(rt; key == same);
-    assert!(rt; key < later);
-    assert_eq!(rt; hash_of(&key), hash_of(&same));
-    assert!(rt; key.as_str() == same.as_str());
-    let copy = key.clone()?;
-    assert!(rt; copy == key);
+    assert!(rt; *key == same);
+    assert!(rt; *key < Key::from("ka"));
+    assert_eq!(rt; hash_of(key), hash_of(&same));
+    assert_eq!(rt; key.as_str(), "k");
+    assert!(rt; key.clone()? == same);
     Ok(())
 }
 
 #[test]
 fn keys_are_their_text_however_held(rt: HostRuntime) -> Result<(), Fail> {
     let alloc = rt.alloc();
-    is_the_key_k(&rt, Key::new(String::from_str(alloc, "k")?))?;
-    is_the_key_k(&rt, Key::from_static_str("k"))?;
-    is_the_key_k(&rt, Key::from("k"))?;
-    is_the_key_k(&rt, Key::from(String::from_str(alloc, "k")?))?;
-    is_the_key_k(&rt, Key::from(RcStr::from_str(alloc, "k")?))?;
-    let key = Key::from("k");
-    assert_eq!(rt; key.as_str(), "k");
-    assert_eq!(rt; key.to_string(alloc)?.as_str(), "k");
-    assert_eq!(rt; key.into_string(alloc)?.as_str(), "k");
+    is_the_key_k(&rt, &Key::from_static_str("k"))?;
+    is_the_key_k(&rt, &Key::from("k"))?;
+    is_the_key_k(&rt, &Key::new(String::from_str(alloc, "k")?))?;
+    is_the_key_k(&rt, &Key::from(String::from_str(alloc, "k")?))?;
+    is_the_key_k(&rt, &Key::from(RcStr::from_str(alloc, "k")?))?;
     Ok(())
 }
 
-fn is_the_text_v(rt: &impl Abort, value: StringValue) -> Result<(), AllocError> {
+#[test]
+fn keys_are_printed(rt: HostRuntime) -> Result<(), Fail> {
+    let key = Key::from("k");
+    assert_eq!(rt; key.to_string(rt.alloc())?.as_str(), "k");
+    assert_eq!(rt; key.into_string(rt.alloc())?.as_str(), "k");
+    Ok(())
+}
+
+fn is_the_text_v(rt: &impl Abort, value: &StringValue) -> Result<(), AllocError> {
     let same = StringValue::from("v");
-    let later = StringValue::from("va");
-    assert!(rt; value == same);
-    assert!(rt; value < later);
-    assert_eq!(rt; hash_of(&value), hash_of(&same));
-    assert!(rt; value.as_str() == same.as_str());
-    let copy = value.clone()?;
-    assert!(rt; copy == value);
+    assert!(rt; *value == same);
+    assert!(rt; *value < StringValue::from("va"));
+    assert_eq!(rt; hash_of(value), hash_of(&same));
+    assert_eq!(rt; value.as_str(), "v");
+    assert!(rt; value.clone()? == same);
     Ok(())
 }
 
 #[test]
 fn text_values_are_their_text_however_held(rt: HostRuntime) -> Result<(), Fail> {
     let alloc = rt.alloc();
-    is_the_text_v(&rt, StringValue::from("v"))?;
-    is_the_text_v(&rt, StringValue::from(String::from_str(alloc, "v")?))?;
-    is_the_text_v(&rt, StringValue::from(RcStr::from_str(alloc, "v")?))?;
+    is_the_text_v(&rt, &StringValue::from("v"))?;
+    is_the_text_v(&rt, &StringValue::from(String::from_str(alloc, "v")?))?;
+    is_the_text_v(&rt, &StringValue::from(RcStr::from_str(alloc, "v")?))?;
+    Ok(())
+}
+
+#[test]
+fn text_values_are_printed(rt: HostRuntime) -> Result<(), Fail> {
     let value = StringValue::from("v");
-    assert_eq!(rt; value.as_str(), "v");
-    assert_eq!(rt; value.to_string(alloc)?.as_str(), "v");
-    assert_eq!(rt; value.into_string(alloc)?.as_str(), "v");
+    assert_eq!(rt; value.to_string(rt.alloc())?.as_str(), "v");
+    assert_eq!(rt; value.into_string(rt.alloc())?.as_str(), "v");
     Ok(())
 }
 

@@ -6,14 +6,13 @@ mod limits;
 
 use crate::baggage::{Baggage, BaggageMetadata};
 use otel_base::{Key, StringValue};
-use std::alloc::Global;
-use std::test::Fail;
+use std::alloc::{AllocError, Global};
 
 /// A key, a value and the metadata as they are given.
 type Given = (&'static str, &'static str, &'static str);
 
 /// Offers one triple.
-fn offer(baggage: &mut Baggage, given: Given, alloc: Global) -> Result<(), Fail> {
+fn offer(baggage: &mut Baggage, given: Given, alloc: Global) -> Result<(), AllocError> {
     let (key, value, metadata) = given;
     let metadata = BaggageMetadata::new(alloc, metadata)?;
     drop(baggage.insert_with_metadata(Key::from(key), StringValue::from(value), metadata)?);
@@ -21,7 +20,7 @@ fn offer(baggage: &mut Baggage, given: Given, alloc: Global) -> Result<(), Fail>
 }
 
 /// The baggage after each of the triples was offered in turn.
-fn baggage_of(alloc: Global, givens: &[Given]) -> Result<Baggage, Fail> {
+fn baggage_of(alloc: Global, givens: &[Given]) -> Result<Baggage, AllocError> {
     let mut baggage = Baggage::new(alloc);
     for given in givens {
         offer(&mut baggage, *given, alloc)?;
@@ -30,7 +29,7 @@ fn baggage_of(alloc: Global, givens: &[Given]) -> Result<Baggage, Fail> {
 }
 
 /// A text of one character, `count` times.
-fn run_of(alloc: Global, character: char, count: usize) -> Result<String, Fail> {
+fn run_of(alloc: Global, character: char, count: usize) -> Result<String, AllocError> {
     let mut text = String::new(alloc);
     for _ in 0..count {
         text.push(character)?;
@@ -39,8 +38,8 @@ fn run_of(alloc: Global, character: char, count: usize) -> Result<String, Fail> 
 }
 
 /// What the baggage prints.
-fn printed(alloc: Global, baggage: &Baggage) -> Result<String, Fail> {
-    Ok(format!(in alloc; "{baggage}")?)
+fn printed(alloc: Global, baggage: &Baggage) -> Result<String, AllocError> {
+    format!(in alloc; "{baggage}")
 }
 
 /// The text of a value, or `none`.

@@ -1,8 +1,9 @@
 //! What the calls of a context give.
-use super::{held_in, name_of, one_pair, text_of};
+use super::{held_in, name_of, named, one_pair, text_of};
 use crate::Context;
 use otel_base::{AnyValue, Key};
 use otel_ids::{SpanContext, SpanId, TraceFlags, TraceId, TraceState};
+use std::alloc::{AllocError, Global};
 use std::process::Abort;
 use std::test::Fail;
 
@@ -17,11 +18,7 @@ fn remote(number: u64) -> SpanContext {
 }
 
 /// Asserts what stands in the four parts: the entry `name`, the baggage's `k`, the span's number, suppression.
-fn assert_parts(
-    rt: &impl Abort,
-    context: &Context,
-    parts: (&str, &str, u64, bool),
-) -> Result<(), Fail> {
+fn assert_parts(rt: &impl Abort, context: &Context, parts: (&str, &str, u64, bool)) {
     let (name, value, span, suppressed) = parts;
     assert_eq!(rt; name_of(context), name);
     assert_eq!(rt; held_in(context, "k"), value);
@@ -29,52 +26,53 @@ fn assert_parts(
     assert_eq!(rt; context.has_active_span(), span > 0);
     assert_eq!(rt; context.span_number(), None);
     assert_eq!(rt; context.is_telemetry_suppressed(), suppressed);
-    Ok(())
+}
+
+/// The context with `k` and `1` as its baggage.
+fn with_pair(alloc: Global, context: &Context) -> Result<Context, AllocError> {
+    context.with_baggage(alloc, one_pair(alloc, "k", "1")?)
 }
 
 #[test]
 fn a_remote_span_stands_beside_the_baggage(rt: HostRuntime) -> Result<(), Fail> {
-    let alloc = rt.alloc();
-    let context = Context::default()
-        .with_value(alloc, Key::from("name"), AnyValue::from("a"))?
-        .with_remote_span_context(alloc, remote(7))?
-        .with_baggage(alloc, one_pair(alloc, "k", "1")?)?;
-    assert_parts(&rt, &context, ("a", "1", 7, false))
+    let named = named(rt.alloc(), "a")?;
+    let context = named.with_remote_span_context(rt.alloc(), remote(7))?;
+    let context = with_pair(rt.alloc(), &context)?;
+    assert_parts(&rt, &context, ("a", "1", 7, false));
+    Ok(())
 }
 
 #[test]
 fn a_cleared_baggage_is_none(rt: HostRuntime) -> Result<(), Fail> {
-    let alloc = rt.alloc();
-    let context = Context::new()
-        .with_baggage(alloc, one_pair(alloc, "k", "1")?)?
-        .with_cleared_baggage(alloc)?;
-    assert!(rt; context.baggage().is_none());
-    assert_parts(&rt, &context, ("base", "", 0, false))
+    let context = with_pair(rt.alloc(), &Context::default())?;
+    let cleared = context.with_cleared_baggage(rt.alloc())?;
+    assert!(rt; cleared.baggage().is_none());
+    assert_parts(&rt, &cleared, ("base", "", 0, false));
+    Ok(())
 }
 
 #[test]
 fn suppression_stays_with_entry_and_baggage(rt: HostRuntime) -> Result<(), Fail> {
-    let alloc = rt.alloc();
-    let context = Context::new()
-        .with_telemetry_suppressed(alloc)?
-        .with_value(alloc, Key::from("name"), AnyValue::from("a"))?
-        .with_baggage(alloc, one_pair(alloc, "k", "1")?)?;
-    assert_parts(&rt, &context, ("a", "1", 0, true))
+    let context = Context::new().with_telemetry_suppressed(rt.alloc())?;
+    let context = context.with_value(rt.alloc(), Key::from("name"), AnyValue::from("a"))?;
+    let context = with_pair(rt.alloc(), &context)?;
+    assert_parts(&rt, &context, ("a", "1", 0, true));
+    Ok(())
+}
+
+/// A map of one text.
+fn map_of_one(alloc: Global) -> Result<AnyValue, AllocError> {
+    let mut pairs = Vec::new(alloc);
+    pairs.push((Key::from("in"), AnyValue::from("x")))?;
+    AnyValue::map(alloc, pairs)
 }
 
 #[test]
 fn entries_are_any_value_trees_under_any_text(rt: HostRuntime) -> Result<(), Fail> {
-    let alloc = rt.alloc();
-    let mut pairs = Vec::new(alloc);
-    pairs.push((Key::from("in"), AnyValue::from("x")))?;
-    let tree = AnyValue::map(alloc, pairs)?;
-    let context = Context::new()
-        .with_value(alloc, Key::from(""), AnyValue::from("nameless"))?
-        .with_value(alloc, Key::from("\u{e9}"), tree)?
-        .with_value(alloc, Key::from("n"), AnyValue::from(42i64))?;
+    let context = Context::new().with_value(rt.alloc(), Key::from(""), AnyValue::from("nameless"))?;
+    let context = context.with_value(rt.alloc(), Key::from("\u{e9}"), map_of_one(rt.alloc())?)?;
     assert_eq!(rt; text_of(&context, ""), "nameless");
     assert!(rt; matches!(context.get("\u{e9}"), Some(AnyValue::Map(_))));
-    assert!(rt; matches!(context.get("n"), Some(AnyValue::Int(42))));
     assert!(rt; context.get("e").is_none());
     Ok(())
 }

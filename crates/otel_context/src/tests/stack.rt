@@ -223,27 +223,39 @@ fn guards_tell_whether_they_are_attached(rt: HostRuntime) -> Result<(), Fail> {
     Ok(())
 }
 
-/// The entries `a` and `b` of the current context.
-fn entries_of(stack: &ContextStack) -> (&str, bool) {
+/// Whether `a` and `b` of the current context are this text and 42, or `b` is none.
+fn has_entries(stack: &ContextStack, a: &str, has_b: bool) -> bool {
     let context = stack.current();
-    (
-        text_of(context, "a"),
-        matches!(context.get("b"), Some(AnyValue::Int(42))),
-    )
+    let b = context.get("b");
+    text_of(context, "a") == a && matches!(b, Some(AnyValue::Int(42))) == has_b
 }
 
-/// Attaches a context with `a`, and one made from it that has `b` too; then removes both, the first one first.
+/// Attaches a context with `a`, and one made from it that has `b` too.
+fn attach_derived(
+    alloc: Global,
+    stack: &mut ContextStack,
+    by_guards: bool,
+) -> Result<(), AllocError> {
+    let first = Context::new().with_value(alloc, Key::from("a"), AnyValue::from("1"))?;
+    attach(stack, first, by_guards)?;
+    let second = stack.current_with_value(Key::from("b"), AnyValue::from(42i64))?;
+    attach(stack, second, by_guards)?;
+    Ok(())
+}
+
+/// Removes the two, the first one first, and asserts what the current context has each time.
+fn remove_derived(rt: &impl Abort, stack: &mut ContextStack, by_guards: bool) {
+    assert!(rt; has_entries(stack, "1", true));
+    assert!(rt; remove(stack, 1, by_guards).is_some());
+    assert!(rt; has_entries(stack, "1", true));
+    assert!(rt; remove(stack, 2, by_guards).is_some());
+    assert!(rt; has_entries(stack, "", false));
+}
+
 fn play_derived(rt: &impl Abort, alloc: Global, by_guards: bool) -> Result<(), Fail> {
     let mut stack = ContextStack::new(alloc)?;
-    let first = Context::new().with_value(alloc, Key::from("a"), AnyValue::from("1"))?;
-    assert_eq!(rt; attach(&mut stack, first, by_guards)?, 1);
-    let second = stack.current_with_value(Key::from("b"), AnyValue::from(42i64))?;
-    assert_eq!(rt; attach(&mut stack, second, by_guards)?, 2);
-    assert_eq!(rt; entries_of(&stack), ("1", true));
-    assert!(rt; remove(&mut stack, 1, by_guards).is_some());
-    assert_eq!(rt; entries_of(&stack), ("1", true));
-    assert!(rt; remove(&mut stack, 2, by_guards).is_some());
-    assert_eq!(rt; entries_of(&stack), ("", false));
+    attach_derived(alloc, &mut stack, by_guards)?;
+    remove_derived(rt, &mut stack, by_guards);
     Ok(())
 }
 
@@ -255,17 +267,26 @@ fn a_context_keeps_the_entries_of_the_one_that_it_was_made_from(
     play_derived(&rt, rt.alloc(), true)
 }
 
-#[test]
-fn a_guard_removes_what_is_at_its_position_in_another_stack(rt: HostRuntime) -> Result<(), Fail> {
-    let alloc = rt.alloc();
-    let mut one = ContextStack::new(alloc)?;
-    let mut other = ContextStack::new(alloc)?;
-    play_rows(&rt, alloc, &mut other, EMPTY_AT_FIRST, false)?;
+/// Attaches to `one`, and gives the guard to `other`, where `a` is live at its position.
+fn spend_elsewhere(
+    rt: &impl Abort,
+    one: &mut ContextStack,
+    other: &mut ContextStack,
+) -> Result<(), AllocError> {
     let guard = one.attach(Context::new())?;
     let given = other.detach(guard);
-    assert_eq!(rt; name_given(&given), "a");
-    assert_stands(&rt, &other, "base", 0);
-    assert_stands(&rt, &one, "base", 1);
+    assert!(rt; name_given(&given) == "a");
+    assert_stands(rt, other, "base", 0);
+    assert_stands(rt, one, "base", 1);
+    Ok(())
+}
+
+#[test]
+fn a_guard_removes_what_is_at_its_position_in_another_stack(rt: HostRuntime) -> Result<(), Fail> {
+    let mut one = ContextStack::new(rt.alloc())?;
+    let mut other = ContextStack::new(rt.alloc())?;
+    play_rows(&rt, rt.alloc(), &mut other, EMPTY_AT_FIRST, false)?;
+    spend_elsewhere(&rt, &mut one, &mut other)?;
     Ok(())
 }
 

@@ -3,6 +3,7 @@
 use super::{baggage_of, metadata_of, printed, text_of};
 use crate::baggage::{Baggage, BaggageMetadata, KeyValueMetadata};
 use otel_base::{Array, Key, KeyValue, StringValue, Value};
+use std::alloc::{AllocError, Global};
 use std::cmp::Ordering;
 use std::test::Fail;
 
@@ -25,12 +26,19 @@ fn look_ups_give_the_pair(rt: HostRuntime) -> Result<(), Fail> {
 }
 
 #[test]
-fn replacement_and_removal_give_the_old_pair(rt: HostRuntime) -> Result<(), Fail> {
+fn a_replacement_gives_the_old_pair(rt: HostRuntime) -> Result<(), Fail> {
     let mut baggage = baggage_of(rt.alloc(), &[("k", "1", "m")])?;
     let metadata = BaggageMetadata::new(rt.alloc(), "n")?;
     let old = baggage.insert_with_metadata(Key::from("k"), StringValue::from("2"), metadata)?;
     assert_eq!(rt; metadata_of(old.as_ref()), "m");
-    assert_eq!(rt; metadata_of(baggage.remove("k").as_ref()), "n");
+    assert_eq!(rt; metadata_of(baggage.get_with_metadata("k")), "n");
+    Ok(())
+}
+
+#[test]
+fn a_removal_gives_the_pair_once(rt: HostRuntime) -> Result<(), Fail> {
+    let mut baggage = baggage_of(rt.alloc(), &[("k", "1", "m")])?;
+    assert_eq!(rt; metadata_of(baggage.remove("k").as_ref()), "m");
     assert!(rt; baggage.remove("k").is_none());
     Ok(())
 }
@@ -47,15 +55,20 @@ fn from_pairs_skips_what_is_refused(rt: HostRuntime) -> Result<(), Fail> {
     Ok(())
 }
 
+/// Attributes of four types.
+fn attributes(alloc: Global) -> Result<Vec<KeyValue>, AllocError> {
+    let numbers = Array::I64([1, -2].to_vec(alloc)?);
+    Ok(vec![in alloc;
+        KeyValue::new(Key::from("t"), Value::Bool(true)),
+        KeyValue::new(Key::from("n"), Value::I64(-7)),
+        KeyValue::new(Key::from("s"), Value::from("x")),
+        KeyValue::new(Key::from("l"), Value::Array(numbers)),
+    ]?)
+}
+
 #[test]
 fn attributes_are_held_as_texts(rt: HostRuntime) -> Result<(), Fail> {
-    let numbers = Array::I64([1, -2].to_vec(rt.alloc())?);
-    let mut pairs = Vec::new(rt.alloc());
-    pairs.push(KeyValue::new(Key::from("t"), Value::Bool(true)))?;
-    pairs.push(KeyValue::new(Key::from("n"), Value::I64(-7)))?;
-    pairs.push(KeyValue::new(Key::from("s"), Value::from("x")))?;
-    pairs.push(KeyValue::new(Key::from("l"), Value::Array(numbers)))?;
-    let baggage = Baggage::from_key_values(rt.alloc(), pairs)?;
+    let baggage = Baggage::from_key_values(rt.alloc(), attributes(rt.alloc())?)?;
     assert_eq!(rt;
         printed(rt.alloc(), &baggage)?.as_str(),
         "t=true,n=-7,s=x,l=%5B1%2C-2%5D"
@@ -75,25 +88,37 @@ fn the_last_triple_of_a_key_is_held(rt: HostRuntime) -> Result<(), Fail> {
     Ok(())
 }
 
+/// The triple of `a`, `1` and that metadata.
+fn triple(alloc: Global, metadata: &str) -> Result<KeyValueMetadata, AllocError> {
+    let metadata = BaggageMetadata::new(alloc, metadata)?;
+    Ok(KeyValueMetadata::new(Key::from("a"), StringValue::from("1"), metadata))
+}
+
 #[test]
-fn triples_are_cloned_and_compared(rt: HostRuntime) -> Result<(), Fail> {
-    let metadata = BaggageMetadata::new(rt.alloc(), "m")?;
-    let one = KeyValueMetadata::new(Key::from("a"), StringValue::from("1"), metadata);
-    let two = KeyValueMetadata::new(
-        Key::from("a"),
-        StringValue::from("1"),
-        BaggageMetadata::default(),
-    );
+fn triples_are_cloned(rt: HostRuntime) -> Result<(), Fail> {
+    let one = triple(rt.alloc(), "m")?;
     assert!(rt; one == one.clone()?);
-    assert!(rt; one != two);
+    Ok(())
+}
+
+#[test]
+fn triples_are_compared(rt: HostRuntime) -> Result<(), Fail> {
+    let one = triple(rt.alloc(), "m")?;
+    assert!(rt; one != triple(rt.alloc(), "")?);
+    Ok(())
+}
+
+#[test]
+fn metadata_is_cloned(rt: HostRuntime) -> Result<(), Fail> {
+    let a = BaggageMetadata::new(rt.alloc(), " a ")?;
+    assert!(rt; a == a.clone()?);
     Ok(())
 }
 
 #[test]
 fn metadata_is_ordered_by_its_bytes(rt: HostRuntime) -> Result<(), Fail> {
     let empty = BaggageMetadata::default();
-    let a = BaggageMetadata::new(rt.alloc(), " a ")?;
-    assert!(rt; a == a.clone()?);
+    let a = BaggageMetadata::new(rt.alloc(), "a")?;
     assert_eq!(rt; empty.partial_cmp(&a), Some(Ordering::Less));
     assert_eq!(rt; empty.as_str(), "");
     Ok(())
@@ -111,16 +136,21 @@ fn a_walk_goes_over_the_list_once(rt: HostRuntime) -> Result<(), Fail> {
     Ok(())
 }
 
-#[test]
-fn a_loop_goes_over_the_list_in_order(rt: HostRuntime) -> Result<(), Fail> {
-    let baggage = baggage_of(rt.alloc(), &[("a", "1", ""), ("b", "2", "m")])?;
-    let mut text = String::new(rt.alloc());
-    for (key, (value, metadata)) in &baggage {
+/// The texts of the list, one after another.
+fn joined(alloc: Global, baggage: &Baggage) -> Result<String, AllocError> {
+    let mut text = String::new(alloc);
+    for (key, (value, metadata)) in baggage {
         text.push_str(key.as_str())?;
         text.push_str(value.as_str())?;
         text.push_str(metadata.as_str())?;
     }
-    assert_eq!(rt; text.as_str(), "a1b2m");
+    Ok(text)
+}
+
+#[test]
+fn a_loop_goes_over_the_list_in_order(rt: HostRuntime) -> Result<(), Fail> {
+    let baggage = baggage_of(rt.alloc(), &[("a", "1", ""), ("b", "2", "m")])?;
+    assert_eq!(rt; joined(rt.alloc(), &baggage)?.as_str(), "a1b2m");
     Ok(())
 }
 

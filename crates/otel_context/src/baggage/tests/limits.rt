@@ -3,11 +3,11 @@
 use super::{baggage_of, offer, printed, run_of, text_of};
 use crate::baggage::Baggage;
 use otel_base::{Key, KeyValue, StringValue, Value};
-use std::alloc::Global;
+use std::alloc::{AllocError, Global};
 use std::test::Fail;
 
 /// A baggage of `k` with a value of `count` spaces, where there is room for it.
-fn spaces(alloc: Global, count: usize) -> Result<Baggage, Fail> {
+fn spaces(alloc: Global, count: usize) -> Result<Baggage, AllocError> {
     let mut baggage = Baggage::new(alloc);
     let value = StringValue::from(run_of(alloc, ' ', count)?);
     drop(baggage.insert(Key::from("k"), value)?);
@@ -15,13 +15,13 @@ fn spaces(alloc: Global, count: usize) -> Result<Baggage, Fail> {
 }
 
 /// A baggage of `key0`, `key1` and so on, each with the empty value.
-fn numbered(alloc: Global, count: u32) -> Result<Baggage, Fail> {
+fn numbered(alloc: Global, count: u32) -> Result<Baggage, AllocError> {
     let mut pairs = Vec::new(alloc);
     for number in 0..count {
         let key = Key::from(format!(in alloc; "key{number}")?);
         pairs.push(KeyValue::new(key, Value::from("")))?;
     }
-    Ok(Baggage::from_key_values(alloc, pairs)?)
+    Baggage::from_key_values(alloc, pairs)
 }
 
 #[test]
@@ -71,14 +71,20 @@ const OVER: &[(&str, &str, &str)] = &[
     ("?", "", "?"),
 ];
 
-#[test]
-fn a_replacement_is_tested_without_the_old_pair(rt: HostRuntime) -> Result<(), Fail> {
-    let mut baggage = Baggage::new(rt.alloc());
+/// A baggage of `a`, `b` and `c`, with one byte free beside them.
+fn nearly_full(alloc: Global) -> Result<Baggage, AllocError> {
+    let mut baggage = Baggage::new(alloc);
     for key in ["a", "b"] {
-        let value = StringValue::from(run_of(rt.alloc(), 'x', 4094)?);
+        let value = StringValue::from(run_of(alloc, 'x', 4094)?);
         drop(baggage.insert(Key::from(key), value)?);
     }
     drop(baggage.insert(Key::from("c"), StringValue::from("."))?);
+    Ok(baggage)
+}
+
+#[test]
+fn a_replacement_is_tested_without_the_old_pair(rt: HostRuntime) -> Result<(), Fail> {
+    let mut baggage = nearly_full(rt.alloc())?;
     for (value, old, now) in OVER {
         let answer = baggage.insert(Key::from("c"), StringValue::from(*value))?;
         assert_eq!(rt; text_of(answer.as_ref()), *old);

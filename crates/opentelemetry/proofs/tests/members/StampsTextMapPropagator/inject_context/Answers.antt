@@ -1,4 +1,4 @@
-use Rattle.std.proofs.Common.{rules, arith, refl, ap, map}
+use Rattle.std.proofs.Common.{arith, refl, ap, map}
 use Rattle.std.proofs.lemmas.Result.{err_from_is_err_and}
 use Rattle.opentelemetry.specs.Carrier.{text_pair}
 use Rattle.opentelemetry.proofs.Setting.{sets_one_more, begins_entries}
