@@ -1,11 +1,9 @@
 -- The events that the lines of the input ask for, and which line is told to be at fault.
-use Rattle.std.specs.Prelude.{◌≡◌, ℕ, ◌+◌, ◌==◌, ◌⊎◌, Bool, List, [], ◌∷◌, ◌++◌, Option, Some, None, IsSome, codes}
-use Rattle.std.specs.List.{slice_split}
+use Rattle.std.specs.Prelude.{◌≡◌, ℕ, ◌+◌, List, ◌∷◌, ◌++◌, Option, Some, None, IsSome, codes}
 use denote.Ref.{Bor}
 use Rattle.otel_ids.specs.Reading.{Pair, fault_of, Reads as ReadsState}
 use Rattle.otel_ids.specs.declared.error.TraceStateError.{TraceStateError}
 use Rattle.otel_ids.specs.declared.error.TraceStateError.TheVariants as errors
-use Rattle.otel_context.specs.Context.{ContextRecord}
 use Rattle.opentelemetry.specs.declared.carry.event.StackEvent.{StackEvent}
 use Rattle.opentelemetry.specs.declared.carry.event.StackEvent.TheVariants.{Attach, Detach}
 use Rattle.otel_carry.specs.declared.lines.Fault.{Fault}

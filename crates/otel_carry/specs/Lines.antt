@@ -1,5 +1,5 @@
 -- The lines of the program's input. A line is the list of its bytes.
-use Rattle.std.specs.Prelude.{◌≡◌, ◌≢◌, ℕ, ◌<◌, ◌≤◌, ◌^◌, ◌==◌, List, ◌∷◌, ◌++◌, length, Option, Some, None, codes, All}
+use Rattle.std.specs.Prelude.{◌≡◌, ◌≢◌, ℕ, ◌<◌, ◌≤◌, ◌^◌, ◌==◌, List, ◌∷◌, ◌++◌, length, Some, None, codes, All}
 use Rattle.std.specs.List.{before_first}
 use Rattle.std.specs.Str.Parse.{IsNumeral, digits_value}
 use Rattle.otel_carry.specs.declared.lines.Line.{Line}
