@@ -223,7 +223,7 @@ fn guards_tell_whether_they_are_attached(rt: HostRuntime) -> Result<(), Fail> {
     Ok(())
 }
 
-/// Whether `a` and `b` of the current context are this text and 42, or `b` is none.
+/// Whether `a` of the current context is this text, and `b` is 42 where it is said to be there, and only there.
 fn has_entries(stack: &ContextStack, a: &str, has_b: bool) -> bool {
     let context = stack.current();
     let b = context.get("b");
