@@ -14,6 +14,3 @@ pub use otel_base::{
 };
 pub use otel_context::{Context, ContextGuard};
 pub use otel_ids::{SpanId, TraceFlags, TraceId};
-
-#[cfg(test)]
-mod tests;

@@ -8,8 +8,6 @@ mod key;
 mod scope;
 mod severity;
 mod string_value;
-#[cfg(test)]
-mod tests;
 mod text;
 
 pub use any_value::AnyValue;

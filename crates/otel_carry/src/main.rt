@@ -8,8 +8,6 @@ mod input;
 mod lines;
 mod members;
 mod report;
-#[cfg(test)]
-mod tests;
 
 use members::{NameMember, StateMember};
 use opentelemetry::propagation::{TextMapCompositePropagator, TextMapPropagator};

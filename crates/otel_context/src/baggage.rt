@@ -15,8 +15,6 @@ mod by_text;
 mod header;
 mod key;
 mod metadata;
-#[cfg(test)]
-mod tests;
 mod weight;
 
 use self::by_text::ByText;

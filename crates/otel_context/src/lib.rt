@@ -9,8 +9,6 @@ mod guard;
 pub mod laws;
 mod slots;
 mod stack;
-#[cfg(test)]
-mod tests;
 
 pub use baggage::{Baggage, BaggageMetadata, Iter, KeyValueMetadata};
 pub use context::Context;

@@ -14,6 +14,3 @@ pub use error::TraceStateError;
 pub use span_context::SpanContext;
 pub use trace_context::{SpanId, TraceFlags, TraceId};
 pub use trace_state::{TraceState, TraceStateIter};
-
-#[cfg(test)]
-mod tests;

@@ -1,4 +1,0 @@
-//! What no clause says: worked runs, odd carriers, odd members, texts, and each call once.
-mod injection;
-mod members;
-mod runs;

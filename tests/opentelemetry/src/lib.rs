@@ -1,0 +1,6 @@
+//! What no clause says: worked runs, odd carriers, odd members, texts, and each call once.
+#![tactic(auto)]
+
+mod injection;
+mod members;
+mod runs;

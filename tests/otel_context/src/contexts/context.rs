@@ -1,0 +1,78 @@
+//! What the calls of a context give.
+use crate::contexts::{held_in, name_of, named, one_pair, text_of};
+use otel_context::Context;
+use otel_base::{AnyValue, Key};
+use otel_ids::{SpanContext, SpanId, TraceFlags, TraceId, TraceState};
+use std::alloc::{AllocError, Global};
+use std::process::Abort;
+use std::test::Fail;
+
+fn remote(number: u64) -> SpanContext {
+    SpanContext::new(
+        TraceId::from(number as u128),
+        SpanId::from(number),
+        TraceFlags::SAMPLED,
+        true,
+        TraceState::NONE,
+    )
+}
+
+/// Asserts what stands in the four parts: the entry `name`, the baggage's `k`, the span's number, suppression.
+fn assert_parts(rt: &impl Abort, context: &Context, parts: (&str, &str, u64, bool)) {
+    let (name, value, span, suppressed) = parts;
+    assert_eq!(rt; name_of(context), name);
+    assert_eq!(rt; held_in(context, "k"), value);
+    assert_eq!(rt; context.span_context().span_id(), SpanId::from(span));
+    assert_eq!(rt; context.has_active_span(), span > 0);
+    assert_eq!(rt; context.span_number(), None);
+    assert_eq!(rt; context.is_telemetry_suppressed(), suppressed);
+}
+
+/// The context with `k` and `1` as its baggage.
+fn with_pair(alloc: Global, context: &Context) -> Result<Context, AllocError> {
+    context.with_baggage(alloc, one_pair(alloc, "k", "1")?)
+}
+
+#[test]
+fn a_remote_span_stands_beside_the_baggage(rt: HostRuntime) -> Result<(), Fail> {
+    let named = named(rt.alloc(), "a")?;
+    let context = named.with_remote_span_context(rt.alloc(), remote(7))?;
+    let context = with_pair(rt.alloc(), &context)?;
+    assert_parts(&rt, &context, ("a", "1", 7, false));
+    Ok(())
+}
+
+#[test]
+fn a_cleared_baggage_is_none(rt: HostRuntime) -> Result<(), Fail> {
+    let context = with_pair(rt.alloc(), &Context::default())?;
+    let cleared = context.with_cleared_baggage(rt.alloc())?;
+    assert!(rt; cleared.baggage().is_none());
+    assert_parts(&rt, &cleared, ("base", "", 0, false));
+    Ok(())
+}
+
+#[test]
+fn suppression_stays_with_entry_and_baggage(rt: HostRuntime) -> Result<(), Fail> {
+    let context = Context::new().with_telemetry_suppressed(rt.alloc())?;
+    let context = context.with_value(rt.alloc(), Key::from("name"), AnyValue::from("a"))?;
+    let context = with_pair(rt.alloc(), &context)?;
+    assert_parts(&rt, &context, ("a", "1", 0, true));
+    Ok(())
+}
+
+/// A map of one text.
+fn map_of_one(alloc: Global) -> Result<AnyValue, AllocError> {
+    let mut pairs = Vec::new(alloc);
+    pairs.push((Key::from("in"), AnyValue::from("x")))?;
+    AnyValue::map(alloc, pairs)
+}
+
+#[test]
+fn entries_are_any_value_trees_under_any_text(rt: HostRuntime) -> Result<(), Fail> {
+    let context = Context::new().with_value(rt.alloc(), Key::from(""), AnyValue::from("nameless"))?;
+    let context = context.with_value(rt.alloc(), Key::from("\u{e9}"), map_of_one(rt.alloc())?)?;
+    assert_eq!(rt; text_of(&context, ""), "nameless");
+    assert!(rt; matches!(context.get("\u{e9}"), Some(AnyValue::Map(_))));
+    assert!(rt; context.get("e").is_none());
+    Ok(())
+}

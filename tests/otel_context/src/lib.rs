@@ -1,0 +1,5 @@
+//! What no clause says: worked rows, limits, printed texts, and each public call with ample memory.
+#![tactic(auto)]
+
+mod baggages;
+mod contexts;

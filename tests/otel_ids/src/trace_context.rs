@@ -1,0 +1,137 @@
+//! Ids and flags as texts and bytes.
+
+use otel_ids::{SpanId, TraceFlags, TraceId};
+use std::test::Fail;
+
+/// A number, its text of full width, and its shortest text.
+const TRACE_IDS: &[(u128, &str, &str)] = &[
+    (0, "00000000000000000000000000000000", "0"),
+    (1, "00000000000000000000000000000001", "1"),
+    (42, "0000000000000000000000000000002a", "2a"),
+    (
+        126642714606581564793456114182061442190,
+        "5f467fe7bf42676c05e20ba4a90e448e",
+        "5f467fe7bf42676c05e20ba4a90e448e",
+    ),
+];
+
+#[test]
+fn trace_ids_are_printed(rt: HostRuntime) -> Result<(), Fail> {
+    for (number, text, short) in TRACE_IDS {
+        let id = TraceId::from(*number);
+        let printed = format!(in rt.alloc(); "{id} {id:?} {id:x} {id:032x}")?;
+        let want = format!(in rt.alloc(); "{text} {text} {short} {text}")?;
+        assert_eq!(rt; printed.as_str(), want.as_str());
+    }
+    Ok(())
+}
+
+#[test]
+fn trace_ids_are_read(rt: HostRuntime) -> Result<(), Fail> {
+    for (number, text, short) in TRACE_IDS {
+        let id = TraceId::from(*number);
+        assert_eq!(rt; TraceId::from_hex(text)?, id);
+        assert_eq!(rt; TraceId::from_hex(short)?, id);
+        assert_eq!(rt; TraceId::from_bytes(id.to_bytes()), id);
+    }
+    assert!(rt; TraceId::from_hex("100000000000000000000000000000000").is_err());
+    Ok(())
+}
+
+#[test]
+fn trace_ids_are_big_endian(rt: HostRuntime) {
+    let mut bytes = [0u8; 16];
+    bytes[0] = 1;
+    bytes[15] = 2;
+    assert_eq!(rt;
+        TraceId::from_bytes(bytes),
+        TraceId::from((1u128 << 120) + 2)
+    );
+    assert_eq!(rt; TraceId::INVALID, TraceId::from(0));
+}
+
+/// A number, its text of full width, and its shortest text.
+const SPAN_IDS: &[(u64, &str, &str)] = &[
+    (0, "0000000000000000", "0"),
+    (42, "000000000000002a", "2a"),
+    (5508496025762705295, "4c721bf33e3caf8f", "4c721bf33e3caf8f"),
+];
+
+#[test]
+fn span_ids_are_printed(rt: HostRuntime) -> Result<(), Fail> {
+    for (number, text, short) in SPAN_IDS {
+        let id = SpanId::from(*number);
+        let printed = format!(in rt.alloc(); "{id} {id:?} {id:x} {id:016x}")?;
+        let want = format!(in rt.alloc(); "{text} {text} {short} {text}")?;
+        assert_eq!(rt; printed.as_str(), want.as_str());
+    }
+    Ok(())
+}
+
+#[test]
+fn span_ids_are_read(rt: HostRuntime) -> Result<(), Fail> {
+    for (number, text, _) in SPAN_IDS {
+        let id = SpanId::from(*number);
+        assert_eq!(rt; SpanId::from_hex(text)?, id);
+        assert_eq!(rt; SpanId::from_bytes(id.to_bytes()), id);
+    }
+    Ok(())
+}
+
+#[test]
+fn span_ids_are_big_endian(rt: HostRuntime) {
+    assert_eq!(rt;
+        SpanId::from_bytes([1, 0, 0, 0, 0, 0, 0, 2]),
+        SpanId::from((1u64 << 56) + 2)
+    );
+    assert_eq!(rt; SpanId::INVALID, SpanId::from(0));
+}
+
+#[test]
+fn hexadecimal_texts_of_either_case_are_read(rt: HostRuntime) -> Result<(), Fail> {
+    for text in ["+ff", "00000000000000000ff", "fF", "FF"] {
+        assert_eq!(rt; SpanId::from_hex(text)?, SpanId::from(0xff), "of {text}");
+    }
+    Ok(())
+}
+
+const NOT_HEXADECIMAL: &[&str] = &["", "+", "-1", " 1", "1 ", "0x1", "g", "++1", "\u{e9}"];
+
+#[test]
+fn other_texts_are_no_ids(rt: HostRuntime) {
+    for text in NOT_HEXADECIMAL {
+        assert!(rt; SpanId::from_hex(text).is_err(), "of {text}");
+        assert!(rt; TraceId::from_hex(text).is_err(), "of {text}");
+    }
+    // 65 bits.
+    assert!(rt; SpanId::from_hex("10000000000000000").is_err());
+    assert!(rt; TraceId::from_hex("10000000000000000").is_ok());
+}
+
+#[test]
+fn flags_are_a_byte(rt: HostRuntime) {
+    let all = TraceFlags::new(0xff);
+    assert_eq!(rt; all.with_sampled(false).to_u8(), 0xfe);
+    assert_eq!(rt; all.with_sampled(true), all);
+    assert_eq!(rt; TraceFlags::new(2).with_sampled(true).to_u8(), 3);
+    assert!(rt; TraceFlags::SAMPLED.is_sampled() && all.is_sampled());
+    assert!(rt; !TraceFlags::NOT_SAMPLED.is_sampled() && !TraceFlags::new(0xfe).is_sampled());
+    assert_eq!(rt; TraceFlags::default(), TraceFlags::NOT_SAMPLED);
+    assert_eq!(rt; TraceFlags::SAMPLED.to_u8(), 1);
+}
+
+#[test]
+fn flags_are_joined_bit_by_bit(rt: HostRuntime) {
+    let six = TraceFlags::new(6);
+    assert_eq!(rt; (TraceFlags::new(0xff) & six).to_u8(), 6);
+    assert_eq!(rt; (TraceFlags::SAMPLED | six).to_u8(), 7);
+    assert_eq!(rt; (!TraceFlags::SAMPLED).to_u8(), 0xfe);
+}
+
+#[test]
+fn flags_are_printed_in_hexadecimal(rt: HostRuntime) -> Result<(), Fail> {
+    let all = TraceFlags::new(0xff);
+    let text = format!(in rt.alloc(); "{:x} {:02x}", all, TraceFlags::SAMPLED)?;
+    assert_eq!(rt; text.as_str(), "ff 01");
+    Ok(())
+}
