@@ -7,6 +7,7 @@ mod counter;
 mod current;
 mod guard;
 pub mod laws;
+mod parts;
 mod slots;
 mod stack;
 
