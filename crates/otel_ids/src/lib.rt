@@ -2,6 +2,7 @@
 #![tactic(auto)]
 
 mod error;
+mod held;
 pub mod laws;
 mod list_member;
 mod members;
@@ -11,6 +12,7 @@ mod trace_context;
 mod trace_state;
 
 pub use error::TraceStateError;
+pub use held::TraceStateIter;
 pub use span_context::SpanContext;
 pub use trace_context::{SpanId, TraceFlags, TraceId};
-pub use trace_state::{TraceState, TraceStateIter};
+pub use trace_state::TraceState;
