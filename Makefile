@@ -1,11 +1,21 @@
 # Proves, builds and tests the repository with the kit's command rt, which is found on PATH.
 #
-#   make run            proves and builds the program, and runs it on examples/first-run
-#   make run INPUT=F    on the file F; INPUT=- is standard input
-#   make try            the same in seconds and unproved
-#   make test           every proof, must-fail edit, test, misuse case and run under a want of memory
-#   make memory         the runs under a want of memory alone
-#   make misuse         the misuse cases alone
+#   make run                        proves and builds the program, and runs it on examples/first-run
+#   make run INPUT=F                on the file F; INPUT=- is standard input
+#   make try                        the same in seconds and unproved
+#   make test                       every proof, must-fail edit, test, vector, misuse case and failing request for memory
+#
+# Small loops, each a part of the above:
+#
+#   make check CRATE=C              proves one crate over what earlier checks kept
+#   make tests                      the tests; CRATE=C those of one crate; TEST=T those whose path holds T
+#   make edit CRATE=C EDIT=E        sees that the prover refuses one edit, in seconds after a check of the crate
+#   make mutants                    the edits outside the gate; CRATE=C those of one crate
+#   make vectors                    the answers of the Rust crate
+#   make misuse                     what must not compile; CASE=NAME one case
+#   make memory                     the runs in which requests for memory fail
+#   make documents                  that what the documents name exists
+#   make bench                      instructions an operation, beside the Rust crate
 #
 # What a program prints goes to standard output, and all else to standard error.
 
@@ -15,7 +25,7 @@ SHELL := /bin/bash
 INPUT ?= examples/first-run
 GIVEN := $(if $(filter -,$(INPUT)),,< "$(abspath $(INPUT))")
 
-.PHONY: run try test memory misuse
+.PHONY: run try test check tests edit mutants vectors misuse memory documents bench
 
 run:
 	@cd crates/otel_carry && rt run $(GIVEN)
@@ -27,9 +37,30 @@ try:
 test:
 	@tests/all
 
+check:
+	@cd "crates/$(CRATE)" && rt check
+
+tests:
+	@tests/unit $(CRATE) $(TEST)
+
+edit:
+	@tests/edits "$(CRATE)" "$(EDIT)"
+
+mutants:
+	@tests/edits $(CRATE)
+
+vectors:
+	@tests/vectors/run
+
+misuse:
+	@tests/misuse/run $(CASE)
+
 memory:
 	@for program in otel_carry otel_memory; do (cd crates/$$program && rt run < /dev/null > /dev/null) || exit; done
 	@tests/memory/sweep
 
-misuse:
-	@tests/misuse/run
+documents:
+	@tests/documents
+
+bench:
+	@bench/run
