@@ -1,10 +1,8 @@
 //! Carriers, members and composites.
+use crate::members::{RefusesOnce, Refusing, assert_held, held, refuses_after, set_all, stamps_of};
 use opentelemetry::context::{Context, ContextStack};
 use opentelemetry::propagation::{
     Injector, PropagationError, TextMapCompositePropagator, TextMapPropagator,
-};
-use crate::members::{
-    RefusesOnce, Refusing, assert_held, held, refuses_after, set_all, stamps_of,
 };
 use std::alloc::{AllocError, Global};
 use std::collections::HashMap;

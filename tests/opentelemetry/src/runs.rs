@@ -1,10 +1,10 @@
 //! Whole runs.
+use crate::members::{Refusing, assert_held, stamps_of};
 use opentelemetry::Key;
 use opentelemetry::carry::{AttachOutcome, RunReport, StackEvent, run};
 use opentelemetry::context::Context;
 use opentelemetry::logs::AnyValue;
 use opentelemetry::propagation::{PropagationError, TextMapCompositePropagator, TextMapPropagator};
-use crate::members::{Refusing, assert_held, stamps_of};
 use std::alloc::{AllocError, Global};
 use std::collections::HashMap;
 use std::process::Abort;

@@ -4,8 +4,8 @@ mod calls;
 mod headers;
 mod limits;
 
-use otel_context::baggage::{Baggage, BaggageMetadata};
 use otel_base::{Key, StringValue};
+use otel_context::baggage::{Baggage, BaggageMetadata};
 use std::alloc::{AllocError, Global};
 
 /// A key, a value and the metadata as they are given.

@@ -2,8 +2,8 @@
 mod context;
 mod stack;
 
-use otel_context::{Baggage, Context};
 use otel_base::{AnyValue, Key, StringValue};
+use otel_context::{Baggage, Context};
 use std::alloc::{AllocError, Global};
 
 /// The empty context with the entry `name`.

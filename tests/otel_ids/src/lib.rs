@@ -1,7 +1,6 @@
 //! What no clause says: rows of outside documents, printed texts, limits and odd inputs.
 #![tactic(auto)]
 
-
 mod reading;
 mod span_context;
 mod trace_context;

@@ -1,8 +1,8 @@
 //! Each public call with ample memory.
 
 use crate::baggages::{baggage_of, metadata_of, printed, text_of};
-use otel_context::baggage::{Baggage, BaggageMetadata, KeyValueMetadata};
 use otel_base::{Array, Key, KeyValue, StringValue, Value};
+use otel_context::baggage::{Baggage, BaggageMetadata, KeyValueMetadata};
 use std::alloc::{AllocError, Global};
 use std::cmp::Ordering;
 use std::test::Fail;

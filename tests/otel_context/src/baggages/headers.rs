@@ -1,8 +1,8 @@
 //! What baggages print, and which texts keys and metadata are.
 
 use crate::baggages::{Given, baggage_of, printed, run_of};
-use otel_context::baggage::{Baggage, BaggageMetadata};
 use otel_base::{Key, StringValue};
+use otel_context::baggage::{Baggage, BaggageMetadata};
 use std::test::Fail;
 
 /// What is offered in turn, and what is printed then.

@@ -1,8 +1,8 @@
 //! The limits of 64 pairs and of 8192 bytes, one below, at and above.
 
 use crate::baggages::{baggage_of, offer, printed, run_of, text_of};
-use otel_context::baggage::Baggage;
 use otel_base::{Key, KeyValue, StringValue, Value};
+use otel_context::baggage::Baggage;
 use std::alloc::{AllocError, Global};
 use std::test::Fail;
 

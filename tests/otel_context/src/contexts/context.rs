@@ -1,7 +1,7 @@
 //! What the calls of a context give.
 use crate::contexts::{held_in, name_of, named, one_pair, text_of};
-use otel_context::Context;
 use otel_base::{AnyValue, Key};
+use otel_context::Context;
 use otel_ids::{SpanContext, SpanId, TraceFlags, TraceId, TraceState};
 use std::alloc::{AllocError, Global};
 use std::process::Abort;

@@ -1,7 +1,7 @@
 //! What a stack gives, by positions and by guards.
 use crate::contexts::{held_in, name_of, named, one_pair, text_of};
-use otel_context::{Context, ContextGuard, ContextStack, HasCurrent};
 use otel_base::{AnyValue, Key};
+use otel_context::{Context, ContextGuard, ContextStack, HasCurrent};
 use std::alloc::{AllocError, Global};
 use std::mem::size_of;
 use std::process::Abort;
