@@ -1,5 +1,8 @@
 //! The name of an attribute, of a context entry or of a baggage entry.
-ghost use Rattle.std.specs.Prelude.{◌≡◌, IfOk, string_bytes, Some};
+ghost use Rattle.std.specs.Prelude.{◌≡◌, ◌↔◌, IfOk, IsTrue, string_bytes, Some, nat_eq};
+ghost use Rattle.std.specs.Cmp.Lexicographic.{pointwise};
+ghost use Rattle.std.proofs.Common.{rules};
+ghost use Rattle.std.specs.Cmp.Rules.{comparing};
 ghost use Rattle.std.specs.Rc.{rc_str_bytes};
 
 use crate::text::Text;
@@ -12,7 +15,7 @@ use std::rc::RcStr;
 ///
 /// It means its text, the list of its UTF-8 bytes, whether that is owned, static or shared. Equality, order (by the
 /// bytes), hash and `Display` look at the text alone, so ordered and hashed maps may be keyed by it.
-#[derive(PartialEq, Eq, PartialOrd, Ord, Hash, Debug, Drop)]
+#[derive(Eq, PartialOrd, Ord, Hash, Debug, Drop)]
 pub struct Key {
     text: Text,
 }
@@ -58,6 +61,20 @@ impl Key {
         ensures { IfOk result (λ s. string_bytes s ≡ self) }
     {
         self.text.into_string(alloc)
+    }
+}
+
+impl PartialEq for Key {
+    ghost eq = { pointwise nat_eq };
+
+    ghost laws = { Prim.search (comparing, rules) };
+
+    /// Whether both have the same text, however it is held.
+    fn eq(&self, other: &Key) -> bool
+        ensures value { result ≡ pointwise nat_eq self.now other.now }
+        ensures same { IsTrue result ↔ (self.now ≡ other.now) }
+    {
+        self.text == other.text
     }
 }
 

@@ -1,5 +1,8 @@
 //! The text of a value.
-ghost use Rattle.std.specs.Prelude.{◌≡◌, IfOk, IsOk, IsTrue, string_bytes, Some};
+ghost use Rattle.std.specs.Prelude.{◌≡◌, ◌↔◌, IfOk, IsOk, IsTrue, string_bytes, Some, nat_eq};
+ghost use Rattle.std.specs.Cmp.Lexicographic.{pointwise};
+ghost use Rattle.std.proofs.Common.{rules};
+ghost use Rattle.std.specs.Cmp.Rules.{comparing};
 ghost use Rattle.std.specs.Rc.{rc_str_bytes};
 ghost use Rattle.otel_base.specs.Attribute.{datum_text, is_text};
 ghost use Rattle.otel_base.specs.Seen.{datum_of};
@@ -15,7 +18,7 @@ use std::rc::RcStr;
 ///
 /// It means its text, the list of its UTF-8 bytes, whether that is owned, static or shared. Equality, order (by the
 /// bytes), hash and `Display` look at the text alone.
-#[derive(PartialEq, Eq, PartialOrd, Hash, Debug, Drop)]
+#[derive(Eq, PartialOrd, Hash, Debug, Drop)]
 pub struct StringValue {
     text: Text,
 }
@@ -58,6 +61,20 @@ impl StringValue {
             Value::String(text) => Ok(text),
             other => Ok(StringValue::from(format!(in alloc; "{other}")?)),
         }
+    }
+}
+
+impl PartialEq for StringValue {
+    ghost eq = { pointwise nat_eq };
+
+    ghost laws = { Prim.search (comparing, rules) };
+
+    /// Whether both have the same text, however it is held.
+    fn eq(&self, other: &StringValue) -> bool
+        ensures value { result ≡ pointwise nat_eq self.now other.now }
+        ensures same { IsTrue result ↔ (self.now ≡ other.now) }
+    {
+        self.text == other.text
     }
 }
 
