@@ -15,7 +15,7 @@ use std::default::Emptied;
 ///
 /// Trees are equal where they have the same shape and content; values of different cases are never equal, and maps
 /// are equal where they hold equal trees under the same keys.
-#[derive(Drop)]
+#[derive(Debug, Drop)]
 pub enum AnyValue {
     /// A whole number.
     Int(i64),

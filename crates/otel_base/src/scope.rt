@@ -22,7 +22,7 @@ use std::slice::Iter;
 ///
 /// Two scopes are equal where their names, versions and schema URLs agree and, for every key, the list of the values
 /// under that key, in given order, agrees. Equality and hash take no memory and are linear in the attributes.
-#[derive(Drop)]
+#[derive(Debug, Drop)]
 pub struct InstrumentationScope {
     name: StringValue,
     version: Option<StringValue>,
@@ -197,7 +197,7 @@ impl Hash for InstrumentationScope {
 }
 
 /// The parts of an instrumentation scope while they are given (the Rust crate's `InstrumentationScopeBuilder`).
-#[derive(Drop)]
+#[derive(Debug, Drop)]
 pub struct InstrumentationScopeBuilder {
     name: StringValue,
     version: Option<StringValue>,
