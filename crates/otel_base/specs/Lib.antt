@@ -2,6 +2,7 @@ pub mod Attribute
 pub mod AttributeLaws
 pub mod KeyOrder
 pub mod KeyOrderLaws
+pub mod Laws
 pub mod Scope
 pub mod ScopeLaws
 pub mod Seen

@@ -5,6 +5,7 @@
 mod any_value;
 mod attribute;
 mod key;
+pub mod laws;
 mod scope;
 mod severity;
 mod string_value;
