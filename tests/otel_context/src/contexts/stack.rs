@@ -3,7 +3,6 @@ use crate::contexts::{held_in, name_of, named, one_pair, text_of};
 use otel_base::{AnyValue, Key};
 use otel_context::{Context, ContextGuard, ContextStack, HasCurrent};
 use std::alloc::{AllocError, Global};
-use std::mem::size_of;
 use std::process::Abort;
 use std::test::Fail;
 
@@ -71,22 +70,55 @@ const TABLES: &[&[Row]] = &[
     THREE_EMPTIED,
 ];
 
-/// Attaches by `push`, or by `attach` with the guard's position.
-fn attach(stack: &mut ContextStack, context: Context, by_guards: bool) -> Result<u16, AllocError> {
-    if by_guards {
-        let guard = stack.attach(context)?;
-        Ok(guard.into_position())
-    } else {
-        stack.push(context)
-    }
+/// A stack that is asked by positions, or by guards.
+#[derive(Drop)]
+struct Asked {
+    stack: ContextStack,
+    by_guards: bool,
+    /// A second stack, which gives guards of any position, and takes those that aren't needed.
+    elsewhere: ContextStack,
 }
 
-/// Removes by `pop_id`, or by `detach` with the guard of that position.
-fn remove(stack: &mut ContextStack, position: u16, by_guards: bool) -> Option<Context> {
-    if by_guards {
-        stack.detach(ContextGuard::new(position))
-    } else {
-        stack.pop_id(position)
+impl Asked {
+    fn new(alloc: Global, by_guards: bool) -> Result<Asked, AllocError> {
+        Ok(Asked {
+            stack: ContextStack::new(alloc)?,
+            by_guards,
+            elsewhere: ContextStack::new(alloc)?,
+        })
+    }
+
+    /// Attaches by `push`, or by `attach` with the guard's position.
+    fn attach(&mut self, context: Context) -> Result<u16, AllocError> {
+        if self.by_guards {
+            let guard = self.stack.attach(context)?;
+            let position = guard.position();
+            drop(self.elsewhere.detach(guard));
+            Ok(position)
+        } else {
+            self.stack.push(context)
+        }
+    }
+
+    /// Removes by `pop_id`, or by `detach` with a guard of that position. No guard has position 0.
+    fn remove(&mut self, position: u16) -> Result<Option<Context>, AllocError> {
+        if self.by_guards && position > 0 {
+            let guard = self.guard_at(position)?;
+            Ok(self.stack.detach(guard))
+        } else {
+            Ok(self.stack.pop_id(position))
+        }
+    }
+
+    /// A guard of that position: the second stack gives it where the position below is its newest.
+    fn guard_at(&mut self, position: u16) -> Result<ContextGuard, AllocError> {
+        for above in (position..=self.elsewhere.newest_position()).rev() {
+            drop(self.elsewhere.pop_id(above));
+        }
+        for _ in self.elsewhere.newest_position() + 1..position {
+            self.elsewhere.push(Context::new())?;
+        }
+        self.elsewhere.attach(Context::new())
     }
 }
 
@@ -99,21 +131,15 @@ fn name_given(given: &Option<Context>) -> &str {
 }
 
 /// Plays one step, and asserts its answer.
-fn play(
-    rt: &impl Abort,
-    alloc: Global,
-    stack: &mut ContextStack,
-    step: Step,
-    by_guards: bool,
-) -> Result<(), Fail> {
+fn play(rt: &impl Abort, alloc: Global, asked: &mut Asked, step: Step) -> Result<(), Fail> {
     match step {
         Attach(name, position) => {
             let context = named(alloc, name)?;
-            let given = attach(stack, context, by_guards)?;
+            let given = asked.attach(context)?;
             assert_eq!(rt; given, position);
         }
         Remove(position, name) => {
-            let given = remove(stack, position, by_guards);
+            let given = asked.remove(position)?;
             assert_eq!(rt; name_given(&given), name);
         }
     }
@@ -127,24 +153,18 @@ fn assert_stands(rt: &impl Abort, stack: &ContextStack, current: &str, newest: u
 }
 
 /// Plays the rows in turn, and asserts what stands after each.
-fn play_rows(
-    rt: &impl Abort,
-    alloc: Global,
-    stack: &mut ContextStack,
-    rows: &[Row],
-    by_guards: bool,
-) -> Result<(), Fail> {
+fn play_rows(rt: &impl Abort, alloc: Global, asked: &mut Asked, rows: &[Row]) -> Result<(), Fail> {
     for row in rows {
         let (step, current, newest) = *row;
-        play(rt, alloc, stack, step, by_guards)?;
-        assert_stands(rt, stack, current, newest);
+        play(rt, alloc, asked, step)?;
+        assert_stands(rt, &asked.stack, current, newest);
     }
     Ok(())
 }
 
 fn play_all(rt: &impl Abort, alloc: Global, rows: &[Row], by_guards: bool) -> Result<(), Fail> {
-    let mut stack = ContextStack::new(alloc)?;
-    play_rows(rt, alloc, &mut stack, rows, by_guards)
+    let mut asked = Asked::new(alloc, by_guards)?;
+    play_rows(rt, alloc, &mut asked, rows)
 }
 
 #[test]
@@ -167,37 +187,27 @@ const ABOVE_EMPTIED_SLOTS: &[Row] = &[
 ];
 
 /// Attaches as often as there are positions.
-fn fill(
-    rt: &impl Abort,
-    alloc: Global,
-    stack: &mut ContextStack,
-    by_guards: bool,
-) -> Result<(), Fail> {
+fn fill(rt: &impl Abort, alloc: Global, asked: &mut Asked) -> Result<(), Fail> {
     for position in 1..65535 {
-        play(rt, alloc, stack, Attach("a", position), by_guards)?;
+        play(rt, alloc, asked, Attach("a", position))?;
     }
     Ok(())
 }
 
 /// Removes all but the newest, the oldest first.
-fn empty_below(
-    rt: &impl Abort,
-    alloc: Global,
-    stack: &mut ContextStack,
-    by_guards: bool,
-) -> Result<(), Fail> {
+fn empty_below(rt: &impl Abort, alloc: Global, asked: &mut Asked) -> Result<(), Fail> {
     for position in 1..65534 {
-        play(rt, alloc, stack, Remove(position, "a"), by_guards)?;
+        play(rt, alloc, asked, Remove(position, "a"))?;
     }
     Ok(())
 }
 
 fn play_every_position(rt: &impl Abort, alloc: Global, by_guards: bool) -> Result<(), Fail> {
-    let mut stack = ContextStack::new(alloc)?;
-    fill(rt, alloc, &mut stack, by_guards)?;
-    play_rows(rt, alloc, &mut stack, AT_THE_LIMIT, by_guards)?;
-    empty_below(rt, alloc, &mut stack, by_guards)?;
-    play_rows(rt, alloc, &mut stack, ABOVE_EMPTIED_SLOTS, by_guards)
+    let mut asked = Asked::new(alloc, by_guards)?;
+    fill(rt, alloc, &mut asked)?;
+    play_rows(rt, alloc, &mut asked, AT_THE_LIMIT)?;
+    empty_below(rt, alloc, &mut asked)?;
+    play_rows(rt, alloc, &mut asked, ABOVE_EMPTIED_SLOTS)
 }
 
 #[test]
@@ -207,18 +217,26 @@ fn positions_run_out_and_come_back(rt: HostRuntime) -> Result<(), Fail> {
 }
 
 #[test]
-fn guards_tell_whether_they_are_attached(rt: HostRuntime) -> Result<(), Fail> {
+fn a_guard_stays_attached_whatever_is_removed(rt: HostRuntime) -> Result<(), Fail> {
     let mut stack = ContextStack::new(rt.alloc())?;
-    let refused = ContextGuard::new(65535);
-    assert!(rt; !refused.is_attached());
-    assert_eq!(rt; refused.position(), 65535);
-    assert!(rt; stack.detach(refused).is_none());
     let guard = stack.attach(Context::new()).expect(&rt, "memory");
     assert!(rt; guard.is_attached());
     assert_eq!(rt; guard.position(), 1);
     assert!(rt; stack.pop_id(1).is_some());
     assert!(rt; guard.is_attached());
     assert!(rt; stack.detach(guard).is_none());
+    Ok(())
+}
+
+#[test]
+fn the_guard_of_a_refused_attach_isnt_attached(rt: HostRuntime) -> Result<(), Fail> {
+    let mut asked = Asked::new(rt.alloc(), false)?;
+    fill(&rt, rt.alloc(), &mut asked)?;
+    let refused = asked.stack.attach(Context::new()).expect(&rt, "memory");
+    assert!(rt; !refused.is_attached());
+    assert_eq!(rt; refused.position(), 65535);
+    assert!(rt; asked.stack.detach(refused).is_none());
+    assert_stands(&rt, &asked.stack, "a", 65534);
     Ok(())
 }
 
@@ -230,31 +248,28 @@ fn has_entries(stack: &ContextStack, a: &str, has_b: bool) -> bool {
 }
 
 /// Attaches a context with `a`, and one made from it that has `b` too.
-fn attach_derived(
-    alloc: Global,
-    stack: &mut ContextStack,
-    by_guards: bool,
-) -> Result<(), AllocError> {
+fn attach_derived(alloc: Global, asked: &mut Asked) -> Result<(), AllocError> {
     let first = Context::new().with_value(alloc, Key::from("a"), AnyValue::from("1"))?;
-    attach(stack, first, by_guards)?;
-    let second = stack.current_with_value(Key::from("b"), AnyValue::from(42i64))?;
-    attach(stack, second, by_guards)?;
+    asked.attach(first)?;
+    let second = asked.stack.current_with_value(Key::from("b"), AnyValue::from(42i64))?;
+    asked.attach(second)?;
     Ok(())
 }
 
 /// Removes the two, the first one first, and asserts what the current context has each time.
-fn remove_derived(rt: &impl Abort, stack: &mut ContextStack, by_guards: bool) {
-    assert!(rt; has_entries(stack, "1", true));
-    assert!(rt; remove(stack, 1, by_guards).is_some());
-    assert!(rt; has_entries(stack, "1", true));
-    assert!(rt; remove(stack, 2, by_guards).is_some());
-    assert!(rt; has_entries(stack, "", false));
+fn remove_derived(rt: &impl Abort, asked: &mut Asked) -> Result<(), AllocError> {
+    assert!(rt; has_entries(&asked.stack, "1", true));
+    assert!(rt; asked.remove(1)?.is_some());
+    assert!(rt; has_entries(&asked.stack, "1", true));
+    assert!(rt; asked.remove(2)?.is_some());
+    assert!(rt; has_entries(&asked.stack, "", false));
+    Ok(())
 }
 
 fn play_derived(rt: &impl Abort, alloc: Global, by_guards: bool) -> Result<(), Fail> {
-    let mut stack = ContextStack::new(alloc)?;
-    attach_derived(alloc, &mut stack, by_guards)?;
-    remove_derived(rt, &mut stack, by_guards);
+    let mut asked = Asked::new(alloc, by_guards)?;
+    attach_derived(alloc, &mut asked)?;
+    remove_derived(rt, &mut asked)?;
     Ok(())
 }
 
@@ -283,9 +298,9 @@ fn spend_elsewhere(
 #[test]
 fn a_guard_removes_what_is_at_its_position_in_another_stack(rt: HostRuntime) -> Result<(), Fail> {
     let mut one = ContextStack::new(rt.alloc())?;
-    let mut other = ContextStack::new(rt.alloc())?;
-    play_rows(&rt, rt.alloc(), &mut other, EMPTY_AT_FIRST, false)?;
-    spend_elsewhere(&rt, &mut one, &mut other)?;
+    let mut other = Asked::new(rt.alloc(), false)?;
+    play_rows(&rt, rt.alloc(), &mut other, EMPTY_AT_FIRST)?;
+    spend_elsewhere(&rt, &mut one, &mut other.stack)?;
     Ok(())
 }
 
