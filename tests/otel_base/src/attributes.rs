@@ -79,6 +79,26 @@ fn arrays_of_texts_are_printed(rt: HostRuntime) -> Result<(), Fail> {
     Ok(())
 }
 
+/// The texts `0`, `1` and so on, up to that count.
+fn numerals(alloc: Global, count: u32) -> Result<Value, AllocError> {
+    let mut items = Vec::new(alloc);
+    for number in 0..count {
+        items.push(StringValue::from(number.to_string(alloc)?))?;
+    }
+    Ok(Value::Array(Array::from(items)))
+}
+
+#[test]
+fn an_array_of_1001_texts_is_printed_whole(rt: HostRuntime) -> Result<(), Fail> {
+    let mut text = String::from_str(rt.alloc(), "[\"0\"")?;
+    for number in 1..1001u32 {
+        text.push_str(format!(in rt.alloc(); ",\"{number}\"")?.as_str())?;
+    }
+    text.push(']')?;
+    prints(&rt, rt.alloc(), &numerals(rt.alloc(), 1001)?, text.as_str())?;
+    Ok(())
+}
+
 #[test]
 fn arrays_of_truths_are_printed(rt: HostRuntime) -> Result<(), Fail> {
     let truths = Array::from([true, false].to_vec(rt.alloc())?);

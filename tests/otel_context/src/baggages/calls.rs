@@ -17,6 +17,19 @@ fn an_insert_drops_the_old_metadata(rt: HostRuntime) -> Result<(), Fail> {
 }
 
 #[test]
+fn a_key_with_a_space_is_refused(rt: HostRuntime) -> Result<(), Fail> {
+    let mut baggage = baggage_of(rt.alloc(), &[("k", "1", "m")])?;
+    assert!(rt;
+        baggage
+            .insert(Key::from("a b"), StringValue::from("2"))?
+            .is_none()
+    );
+    assert!(rt; baggage.get("a b").is_none());
+    assert_eq!(rt; printed(rt.alloc(), &baggage)?.as_str(), "k=1;m");
+    Ok(())
+}
+
+#[test]
 fn look_ups_give_the_pair(rt: HostRuntime) -> Result<(), Fail> {
     let baggage = baggage_of(rt.alloc(), &[("k", "1", "m"), ("l", "2", "")])?;
     assert_eq!(rt; text_of(baggage.get("k")), "1");

@@ -33,6 +33,16 @@ fn there_is_room_for_8192_bytes(rt: HostRuntime) -> Result<(), Fail> {
 }
 
 #[test]
+fn a_value_of_8192_bytes_is_refused(rt: HostRuntime) -> Result<(), Fail> {
+    let mut baggage = baggage_of(rt.alloc(), &[("a", "1", "m")])?;
+    let value = StringValue::from(run_of(rt.alloc(), ' ', 8192)?);
+    assert!(rt; baggage.insert(Key::from("k"), value)?.is_none());
+    assert!(rt; baggage.get("k").is_none());
+    assert_eq!(rt; printed(rt.alloc(), &baggage)?.as_str(), "a=1;m");
+    Ok(())
+}
+
+#[test]
 fn the_longest_header(rt: HostRuntime) -> Result<(), Fail> {
     let baggage = spaces(rt.alloc(), 8191)?;
     assert_eq!(rt; printed(rt.alloc(), &baggage)?.len(), 24575);
@@ -62,7 +72,8 @@ fn one_key_may_hold_all(rt: HostRuntime) -> Result<(), Fail> {
     Ok(())
 }
 
-/// What is inserted over `c`, with one byte free beside the old value; what is answered; what is held then.
+/// What is inserted over `c`, where the old value is the last byte that there is room for; what is answered; what is
+/// held then.
 const OVER: &[(&str, &str, &str)] = &[
     ("..", "none", "."),
     ("!", ".", "!"),
@@ -71,8 +82,8 @@ const OVER: &[(&str, &str, &str)] = &[
     ("?", "", "?"),
 ];
 
-/// A baggage of `a`, `b` and `c`, with one byte free beside them.
-fn nearly_full(alloc: Global) -> Result<Baggage, AllocError> {
+/// A baggage of `a`, `b` and `c`, which have 8192 bytes together.
+fn full(alloc: Global) -> Result<Baggage, AllocError> {
     let mut baggage = Baggage::new(alloc);
     for key in ["a", "b"] {
         let value = StringValue::from(run_of(alloc, 'x', 4094)?);
@@ -84,7 +95,7 @@ fn nearly_full(alloc: Global) -> Result<Baggage, AllocError> {
 
 #[test]
 fn a_replacement_is_tested_without_the_old_pair(rt: HostRuntime) -> Result<(), Fail> {
-    let mut baggage = nearly_full(rt.alloc())?;
+    let mut baggage = full(rt.alloc())?;
     for (value, old, now) in OVER {
         let answer = baggage.insert(Key::from("c"), StringValue::from(*value))?;
         assert_eq!(rt; text_of(answer.as_ref()), *old);
@@ -112,6 +123,23 @@ fn the_first_64_pairs_are_held(rt: HostRuntime) -> Result<(), Fail> {
     for (given, held) in [(63u32, 63), (64, 64), (65, 64)] {
         assert_eq!(rt; numbered(rt.alloc(), given)?.len(), held);
     }
+    Ok(())
+}
+
+/// `key0=,key1=` and so on, up to that count.
+fn members(alloc: Global, count: u32) -> Result<String, AllocError> {
+    let mut text = String::new(alloc);
+    for number in 0..count {
+        let comma = if number == 0 { "" } else { "," };
+        text.push_str(format!(in alloc; "{comma}key{number}=")?.as_str())?;
+    }
+    Ok(text)
+}
+
+#[test]
+fn sixty_four_pairs_are_printed_whole(rt: HostRuntime) -> Result<(), Fail> {
+    let header = printed(rt.alloc(), &numbered(rt.alloc(), 64)?)?;
+    assert_eq!(rt; header.as_str(), members(rt.alloc(), 64)?.as_str());
     Ok(())
 }
 
