@@ -251,7 +251,9 @@ fn has_entries(stack: &ContextStack, a: &str, has_b: bool) -> bool {
 fn attach_derived(alloc: Global, asked: &mut Asked) -> Result<(), AllocError> {
     let first = Context::new().with_value(alloc, Key::from("a"), AnyValue::from("1"))?;
     asked.attach(first)?;
-    let second = asked.stack.current_with_value(Key::from("b"), AnyValue::from(42i64))?;
+    let second = asked
+        .stack
+        .current_with_value(Key::from("b"), AnyValue::from(42i64))?;
     asked.attach(second)?;
     Ok(())
 }
