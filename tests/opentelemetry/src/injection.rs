@@ -1,5 +1,7 @@
 //! Carriers, members and composites.
-use crate::members::{RefusesOnce, Refusing, assert_held, held, refuses_after, set_all, stamps_of};
+use crate::members::{
+    RefusingMember, assert_held, carrier_refusing_after, held, set_all, stamps_of,
+};
 use opentelemetry::context::{Context, ContextStack};
 use opentelemetry::propagation::{
     Injector, PropagationError, TextMapCompositePropagator, TextMapPropagator,
@@ -82,7 +84,7 @@ fn assert_refusal(
     composite: &TextMapCompositePropagator,
     refusal: &Refusal,
 ) {
-    let mut carrier = refuses_after(alloc, refusal.before);
+    let mut carrier = carrier_refusing_after(alloc, refusal.before);
     let answer = composite.inject_context(&Context::new(), &mut carrier);
     assert_eq!(rt;
         answer == Err(PropagationError::Refused),
@@ -115,7 +117,7 @@ fn the_pairs_of_a_member_stop_at_a_refusal(rt: HostRuntime) -> Result<(), Fail> 
     members.push(Box::new(alloc, stamps_of(alloc, &[("x", "1")])?)?)?;
     members.push(Box::new(alloc, stamps_of(alloc, &[("y", "2"), ("z", "3")])?)?)?;
     let composite = TextMapCompositePropagator::new(alloc, members)?;
-    let mut carrier = refuses_after(alloc, 2);
+    let mut carrier = carrier_refusing_after(alloc, 2);
     let answer = composite.inject_context(&Context::new(), &mut carrier);
     assert!(rt; answer == Err(PropagationError::Refused));
     assert_eq!(rt; carrier.texts.len(), 2);
@@ -128,7 +130,7 @@ fn a_member_refuses_between_two(rt: HostRuntime) -> Result<(), Fail> {
     let alloc = rt.alloc();
     let mut members: Vec<Box<dyn TextMapPropagator>> = Vec::new(alloc);
     members.push(Box::new(alloc, stamps_of(alloc, &[("x", "1")])?)?)?;
-    members.push(Box::new(alloc, Refusing)?)?;
+    members.push(Box::new(alloc, RefusingMember)?)?;
     members.push(Box::new(alloc, stamps_of(alloc, &[("y", "2")])?)?)?;
     let composite = TextMapCompositePropagator::new(alloc, members)?;
     let mut texts: HashMap<String, String> = HashMap::new(alloc);

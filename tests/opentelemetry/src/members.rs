@@ -50,11 +50,11 @@ impl TextMapPropagator for Stamps {
     }
 }
 
-/// Refuses, and sets nothing.
+/// A member that refuses every context, and sets nothing.
 #[derive(Drop)]
-pub struct Refusing;
+pub struct RefusingMember;
 
-impl TextMapPropagator for Refusing {
+impl TextMapPropagator for RefusingMember {
     ghost use Rattle.std.specs.Prelude.{[], true};
 
     ghost pairs = { λ s c. [] };
@@ -72,13 +72,13 @@ impl TextMapPropagator for Refusing {
 
 /// A carrier that refuses one text, after so many others. Its `reserve` does nothing.
 #[derive(Drop)]
-pub struct RefusesOnce {
+pub struct CarrierRefusingOne {
     pub texts: HashMap<String, String>,
     pub before: usize,
     pub has_refused: bool,
 }
 
-impl Injector for RefusesOnce {
+impl Injector for CarrierRefusingOne {
     ghost use Rattle.std.specs.Prelude.{if◌then◌else◌};
     ghost use Rattle.opentelemetry.specs.Carrier.{text_map};
 
@@ -112,8 +112,8 @@ pub fn stamps_of(alloc: Global, pairs: &[(&str, &str)]) -> Result<Stamps, AllocE
 }
 
 /// A carrier that refuses the text after so many.
-pub fn refuses_after(alloc: Global, before: usize) -> RefusesOnce {
-    RefusesOnce {
+pub fn carrier_refusing_after(alloc: Global, before: usize) -> CarrierRefusingOne {
+    CarrierRefusingOne {
         texts: HashMap::new(alloc),
         before,
         has_refused: false,

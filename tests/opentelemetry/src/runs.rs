@@ -1,5 +1,5 @@
 //! Whole runs.
-use crate::members::{Refusing, assert_held, stamps_of};
+use crate::members::{RefusingMember, assert_held, stamps_of};
 use opentelemetry::Key;
 use opentelemetry::carry::{AttachOutcome, RunReport, StackEvent, run};
 use opentelemetry::context::Context;
@@ -85,9 +85,13 @@ fn worked_runs_have_these_answers(rt: HostRuntime) -> Result<(), Fail> {
     Ok(())
 }
 
-/// Attaches up to the limit and one more; then the detaches of the numbers below `detached`, and an
-/// attach.
-fn run_to_the_limit(alloc: Global, detached: usize) -> Result<RunReport, AllocError> {
+/// Attaches up to the limit and one more; then the detaches of the numbers below `detached`, and one
+/// more attach where that is asked for.
+fn run_to_the_limit(
+    alloc: Global,
+    detached: usize,
+    attaches_again: bool,
+) -> Result<RunReport, AllocError> {
     let old = named(alloc, b'o')?;
     let mut events = Vec::new(alloc);
     for _ in 0..65533 {
@@ -98,7 +102,9 @@ fn run_to_the_limit(alloc: Global, detached: usize) -> Result<RunReport, AllocEr
     for number in 0..detached {
         events.push(StackEvent::Detach(number))?;
     }
-    events.push(StackEvent::Attach(named(alloc, b'n')?))?;
+    if attaches_again {
+        events.push(StackEvent::Attach(named(alloc, b'n')?))?;
+    }
     let composite = TextMapCompositePropagator::new(alloc, Vec::new(alloc))?;
     let mut carrier: HashMap<String, String> = HashMap::new(alloc);
     run(alloc, events, &composite, &mut carrier)
@@ -116,26 +122,30 @@ fn attached_in_order(outcomes: &[AttachOutcome]) -> u16 {
     position
 }
 
-/// Asserts that all positions were taken, that the next attach was refused, and what the last one came to.
-fn assert_limit(rt: &impl Abort, outcomes: &[AttachOutcome], last: AttachOutcome) {
-    assert_eq!(rt; outcomes.len(), 65536);
+/// Asserts that all positions were taken, that the next attach was refused, and what an attach after
+/// the detaches came to.
+fn assert_limit(rt: &impl Abort, outcomes: &[AttachOutcome], again: Option<AttachOutcome>) {
+    assert_eq!(rt; outcomes.len(), if again.is_some() { 65536 } else { 65535 });
     assert_eq!(rt; attached_in_order(outcomes), 65534);
     assert_eq!(rt; outcomes.get(65534).copied(), Some(AttachOutcome::Full));
-    assert_eq!(rt; outcomes.get(65535).copied(), Some(last));
+    assert_eq!(rt; outcomes.get(65535).copied(), again);
 }
 
-/// How many are detached, what the last attach comes to, and what stands then.
-const LIMITS: &[(usize, AttachOutcome, u8, u16)] = &[
-    (0, AttachOutcome::Full, b'l', 65534),
-    (65533, AttachOutcome::Full, b'l', 65534),
-    (65534, AttachOutcome::Attached(1), b'n', 1),
+/// How many are detached, what one more attach then comes to, where there is one, and what stands
+/// in the end: with all detached the base does.
+const LIMITS: &[(usize, Option<AttachOutcome>, u8, u16)] = &[
+    (0, None, b'l', 65534),
+    (0, Some(AttachOutcome::Full), b'l', 65534),
+    (65533, Some(AttachOutcome::Full), b'l', 65534),
+    (65534, None, 0, 0),
+    (65534, Some(AttachOutcome::Attached(1)), b'n', 1),
 ];
 
 #[test]
 fn positions_run_out_and_come_back(rt: HostRuntime) -> Result<(), Fail> {
-    for (detached, last, current, newest) in LIMITS {
-        let report = run_to_the_limit(rt.alloc(), *detached)?;
-        assert_limit(&rt, report.outcomes.as_slice(), *last);
+    for (detached, again, current, newest) in LIMITS {
+        let report = run_to_the_limit(rt.alloc(), *detached, again.is_some())?;
+        assert_limit(&rt, report.outcomes.as_slice(), *again);
         assert_stands(&rt, &report, *current, *newest);
     }
     Ok(())
@@ -171,11 +181,18 @@ fn a_run_injects_what_its_members_set(rt: HostRuntime) -> Result<(), Fail> {
 }
 
 #[test]
-fn a_run_tells_what_a_member_refused(rt: HostRuntime) -> Result<(), Fail> {
+fn a_run_without_members_leaves_the_carrier(rt: HostRuntime) -> Result<(), Fail> {
+    let alloc = rt.alloc();
+    let composite = TextMapCompositePropagator::new(alloc, Vec::new(alloc))?;
+    assert_run(&rt, alloc, &composite, Ok(()), &[("Kept", "0")])
+}
+
+#[test]
+fn a_run_reports_what_a_member_refused(rt: HostRuntime) -> Result<(), Fail> {
     let alloc = rt.alloc();
     let mut members: Vec<Box<dyn TextMapPropagator>> = Vec::new(alloc);
     members.push(Box::new(alloc, stamps_of(alloc, &[("X", "3")])?)?)?;
-    members.push(Box::new(alloc, Refusing)?)?;
+    members.push(Box::new(alloc, RefusingMember)?)?;
     members.push(Box::new(alloc, stamps_of(alloc, &[("y", "2")])?)?)?;
     let composite = TextMapCompositePropagator::new(alloc, members)?;
     let refused = Err(PropagationError::Refused);

@@ -206,13 +206,54 @@ fn gives_up_a_reader_that_fails_or_never_ends(rt: HostRuntime) -> Result<(), Fai
     Ok(())
 }
 
+/// Gives so many bytes `\n`, as many a read as its buffer takes, and notes how many reads there were and
+/// whether each had a buffer of 4,096 bytes.
+#[derive(Drop)]
+struct MeteredNewlines {
+    left: usize,
+    reads: u32,
+    has_full_room: bool,
+}
+
+impl Read for MeteredNewlines {
+    fn read(&mut self, buf: &mut [u8]) -> io::Result<usize> {
+        self.reads += 1;
+        self.has_full_room = self.has_full_room && buf.len() == 4096;
+        let count = self.left.min(buf.len());
+        buf[..count].fill(b'\n');
+        self.left -= count;
+        Ok(count)
+    }
+}
+
+/// The last read of each is the one that tells the end.
+#[test]
+fn reads_4096_bytes_at_a_time(rt: HostRuntime) -> Result<(), Fail> {
+    for (left, reads) in [(0, 1), (1, 2), (4096, 2), (4097, 3), (40_960, 11)] {
+        let mut input = MeteredNewlines {
+            left,
+            reads: 0,
+            has_full_room: true,
+        };
+        let mut output = Vec::new(rt.alloc());
+        assert_eq!(rt; status_of(rt.alloc(), &mut input, &mut output)?, 0);
+        assert_eq!(rt; str::from_utf8(&output), Ok("current: base\n"));
+        assert_eq!(rt; input.reads, reads, "the reads of {left} bytes");
+        assert!(rt;
+            input.has_full_room,
+            "the room of each read of {left} bytes"
+        );
+    }
+    Ok(())
+}
+
 /// Takes so many writes, and then fails.
 #[derive(Drop)]
-struct Narrow {
+struct FailsAfter {
     left: u32,
 }
 
-impl Write for Narrow {
+impl Write for FailsAfter {
     fn write(&mut self, buf: &[u8]) -> io::Result<usize> {
         if self.left == 0 {
             return Err(io::Error::from(ErrorKind::Other));
@@ -235,7 +276,7 @@ fn ends_with_status_1_where_a_write_fails(rt: HostRuntime) -> Result<(), Fail> {
     for (input, status) in [("attach a\n", 0), ("attach", 2), (long.as_str(), 0)] {
         let mut failed = 0;
         for left in 0..100 {
-            let met = status_of(rt.alloc(), input.as_bytes(), Narrow { left })?;
+            let met = status_of(rt.alloc(), input.as_bytes(), FailsAfter { left })?;
             if met != 1 {
                 assert_eq!(rt; met, status);
                 break;
@@ -250,11 +291,11 @@ fn ends_with_status_1_where_a_write_fails(rt: HostRuntime) -> Result<(), Fail> {
     Ok(())
 }
 
-/// Refuses to set anything.
+/// A member that refuses every context, and sets nothing.
 #[derive(Drop)]
-struct Refusing;
+struct RefusingMember;
 
-impl TextMapPropagator for Refusing {
+impl TextMapPropagator for RefusingMember {
     ghost use Rattle.std.specs.Prelude.{true, []};
 
     ghost pairs = { λ _ _. [] };
@@ -275,7 +316,7 @@ fn tells_a_refused_injection(rt: HostRuntime) -> Result<(), Fail> {
     let alloc = rt.alloc();
     let mut members: Vec<Box<dyn TextMapPropagator>> = Vec::new(alloc);
     members.push(Box::new(alloc, NameMember { alloc })?)?;
-    members.push(Box::new(alloc, Refusing)?)?;
+    members.push(Box::new(alloc, RefusingMember)?)?;
     let composite = TextMapCompositePropagator::new(alloc, members)?;
     let mut output = Vec::new(alloc);
     let status = carry(alloc, b"attach a".as_slice(), &mut output, &composite);
