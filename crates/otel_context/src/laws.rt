@@ -1,5 +1,6 @@
 //! Laws of what the crate's types mean, each the contract of a function that does nothing.
 ghost use Rattle.otel_context.specs.BaggageLaws.{HeaderTells, HeaderIsShort};
+ghost use Rattle.otel_context.specs.StackLaws.{DetachRestores, AttachIsCurrent, AttachLeavesAll, RemovalLeavesOthers, RemovalKeepsOrder};
 
 /// What the header of a baggage tells, for a caller to cite (own).
 ///
@@ -8,4 +9,19 @@ ghost use Rattle.otel_context.specs.BaggageLaws.{HeaderTells, HeaderIsShort};
 pub fn header_reading()
     ensures tells { HeaderTells }
     ensures short { HeaderIsShort }
+{}
+
+/// What attaches and removals leave of a stack, for a caller of [`ContextStack`](crate::ContextStack) to cite. Not in the
+/// Rust crate.
+pub fn stack_calls()
+    // The detach of the guard that an attach has just given restores what was live.
+    ensures restores { DetachRestores }
+    // What was attached last is current.
+    ensures current { AttachIsCurrent }
+    // An attach leaves each attachment at its position.
+    ensures stays { AttachLeavesAll }
+    // A removal leaves each other attachment at its position,
+    ensures others { RemovalLeavesOthers }
+    // and the others in their order.
+    ensures order { RemovalKeepsOrder }
 {}
