@@ -73,7 +73,7 @@ fn assert_stands(rt: &impl Abort, report: &RunReport, current: u8, newest: u16) 
 }
 
 #[test]
-fn worked_runs_have_these_answers(rt: HostRuntime) -> Result<(), Fail> {
+fn worked_runs_have_these_outcomes(rt: HostRuntime) -> Result<(), Fail> {
     for (steps, positions, current, newest) in RUNS {
         let report = run_steps(rt.alloc(), steps)?;
         assert!(rt;

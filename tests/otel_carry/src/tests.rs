@@ -91,7 +91,7 @@ fn reports_a_run(rt: HostRuntime) -> Result<(), Fail> {
 }
 
 #[test]
-fn tells_the_first_faulty_line(rt: HostRuntime) -> Result<(), Fail> {
+fn reports_the_first_faulty_line(rt: HostRuntime) -> Result<(), Fail> {
     for (input, fault) in [
         ("attach", "line 1: unknown command\n"),
         ("detach", "line 1: unknown command\n"),
@@ -148,9 +148,9 @@ fn numbers_the_span_contexts(rt: HostRuntime) -> Result<(), Fail> {
     Ok(())
 }
 
-/// A stack holds 65,534 attachments: the next one is told to be too many.
+/// A stack holds 65,534 attachments: the next one is reported as full.
 #[test]
-fn tells_a_full_stack(rt: HostRuntime) -> Result<(), Fail> {
+fn reports_a_full_stack(rt: HostRuntime) -> Result<(), Fail> {
     let mut input = String::new(rt.alloc());
     let mut report = String::new(rt.alloc());
     for number in 0..65_534 {
@@ -312,7 +312,7 @@ impl TextMapPropagator for RefusingMember {
 }
 
 #[test]
-fn tells_a_refused_injection(rt: HostRuntime) -> Result<(), Fail> {
+fn reports_a_refused_injection(rt: HostRuntime) -> Result<(), Fail> {
     let alloc = rt.alloc();
     let mut members: Vec<Box<dyn TextMapPropagator>> = Vec::new(alloc);
     members.push(Box::new(alloc, NameMember { alloc })?)?;
