@@ -52,7 +52,10 @@ pub fn from_key_values_with_metadata(alloc: Global, arguments: &[Token]) -> Resu
             BaggageMetadata::new(alloc, metadata)?,
         ))?;
     }
-    Ok(printed(alloc, Baggage::from_key_values_with_metadata(alloc, entries)?)?)
+    Ok(printed(
+        alloc,
+        Baggage::from_key_values_with_metadata(alloc, entries)?,
+    )?)
 }
 
 /// `some` with the value and the metadata, or `none`.
@@ -82,10 +85,7 @@ pub fn act(
             answer.option(old.as_ref().map(|old| old.as_str()))?;
             Ok(answer)
         }
-        (
-            "insert_with_metadata",
-            [Token::Text(key), Token::Text(value), Token::Text(metadata)],
-        ) => {
+        ("insert_with_metadata", [Token::Text(key), Token::Text(value), Token::Text(metadata)]) => {
             let old = baggage.insert_with_metadata(
                 Key::new(key.clone()?),
                 StringValue::from(value.clone()?),

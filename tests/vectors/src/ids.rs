@@ -17,10 +17,7 @@ fn word_of(error: &ParseIntError) -> &'static str {
 }
 
 /// `ok` with the texts of `{}` and `{:x}`, or `err` with the kind of the error.
-fn answer(
-    alloc: Global,
-    texts: Result<(String, String), ParseIntError>,
-) -> Result<Answer, Fault> {
+fn answer(alloc: Global, texts: Result<(String, String), ParseIntError>) -> Result<Answer, Fault> {
     let mut answer = Answer::new(alloc);
     match texts {
         Ok((padded, plain)) => {
@@ -40,7 +37,10 @@ fn trace_id(alloc: Global, read: Result<TraceId, ParseIntError>) -> Result<Answe
     match read {
         Ok(id) => {
             agrees(TraceId::from_bytes(id.to_bytes()) == id, "the bytes")?;
-            answer(alloc, Ok((id.to_string(alloc)?, format!(in alloc; "{id:x}")?)))
+            answer(
+                alloc,
+                Ok((id.to_string(alloc)?, format!(in alloc; "{id:x}")?)),
+            )
         }
         Err(error) => answer(alloc, Err(error)),
     }
@@ -50,7 +50,10 @@ fn span_id(alloc: Global, read: Result<SpanId, ParseIntError>) -> Result<Answer,
     match read {
         Ok(id) => {
             agrees(SpanId::from_bytes(id.to_bytes()) == id, "the bytes")?;
-            answer(alloc, Ok((id.to_string(alloc)?, format!(in alloc; "{id:x}")?)))
+            answer(
+                alloc,
+                Ok((id.to_string(alloc)?, format!(in alloc; "{id:x}")?)),
+            )
         }
         Err(error) => answer(alloc, Err(error)),
     }

@@ -13,7 +13,9 @@ pub struct Answer {
 
 impl Answer {
     pub fn new(alloc: Global) -> Answer {
-        Answer { tokens: Vec::new(alloc) }
+        Answer {
+            tokens: Vec::new(alloc),
+        }
     }
 
     /// The answer that is one word.
@@ -39,7 +41,8 @@ impl Answer {
 
     pub fn text(&mut self, text: &str) -> Result<(), AllocError> {
         let alloc = *self.tokens.allocator();
-        self.tokens.push(Token::Text(String::from_str(alloc, text)?))?;
+        self.tokens
+            .push(Token::Text(String::from_str(alloc, text)?))?;
         Ok(())
     }
 
@@ -99,7 +102,12 @@ impl Row {
         if answer.tokens.is_empty() {
             return Err(Fault::Malformed("no answer stands after `=>`"));
         }
-        Ok(Row { is_indented: line.starts_with(' '), call, arguments, answer })
+        Ok(Row {
+            is_indented: line.starts_with(' '),
+            call,
+            arguments,
+            answer,
+        })
     }
 }
 

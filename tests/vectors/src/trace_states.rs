@@ -6,10 +6,7 @@ use opentelemetry::trace::{TraceState, TraceStateError};
 use std::alloc::Global;
 
 /// `ok` with the header, or `err` with the case of the error and the text that it holds.
-fn answer(
-    alloc: Global,
-    made: &Result<TraceState, TraceStateError>,
-) -> Result<Answer, Fault> {
+fn answer(alloc: Global, made: &Result<TraceState, TraceStateError>) -> Result<Answer, Fault> {
     let mut answer = Answer::new(alloc);
     let (word, text) = match made {
         Ok(state) => {

@@ -77,7 +77,10 @@ pub fn printed(alloc: Global, call: &str, arguments: &[Token]) -> Result<Answer,
         _ => return Err(Fault::UnknownCall),
     };
     let printed = value.to_string(alloc)?;
-    agrees(value.as_str(alloc)?.as_str() == printed.as_str(), "the text")?;
+    agrees(
+        value.as_str(alloc)?.as_str() == printed.as_str(),
+        "the text",
+    )?;
     agrees(value.clone()? == value, "a clone")?;
     let held = StringValue::from_value(alloc, value)?;
     agrees(held.as_str() == printed.as_str(), "the value's text")?;
