@@ -1,14 +1,14 @@
 /*
- * Refuses requests for memory, for `sweep` beside this file.
+ * Makes requests for memory fail, for `sweep` beside this file.
  *
  * Preloaded into a program that the kit built, it stands in front of the two calls by which such a program asks the C
  * library for memory, malloc and realloc. Counted from the start of the program proper, 1 for the first request:
  *
- *   REFUSE_AT=N     the N-th request alone is refused
- *   REFUSE_FROM=N   the N-th request is refused, and each one after it
- *   REFUSE_TOLD=FD  at its first refusal the program writes the byte 'r' to this file descriptor
+ *   REFUSE_AT=N     the N-th request alone fails
+ *   REFUSE_FROM=N   the N-th request fails, and each one after it
+ *   REFUSE_TOLD=FD  where the first one fails, the byte 'r' is written to this file descriptor
  *
- * A refused request gives a null pointer, as where no memory is left; what a refused realloc was to grow stays.
+ * A request that fails gives a null pointer, as where no memory is left; what a failed realloc was to grow stays.
  * Built with `cc -O2 -shared -fPIC -o refuse.so refuse.c`, for the GNU C library, whose own names of the two calls it uses.
  */
 #include <errno.h>
@@ -49,7 +49,7 @@ static int is_refused(void)
     if (count != at && (from == 0 || count < from))
         return 0;
     if (!has_told && told >= 0 && write(told, "r", 1) != 1)
-        _exit(99); /* the sweep would take the run for one that met no refusal */
+        _exit(99); /* the sweep would take the run for one in which no request failed */
     has_told = 1;
     errno = ENOMEM;
     return 1;

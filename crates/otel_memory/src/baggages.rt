@@ -1,118 +1,172 @@
 //! Calls on baggage.
 use crate::contexts::baggage;
-use crate::stage::Stage;
+use crate::lines::Lines;
 use otel_base::{Key, KeyValue, StringValue, Value};
 use otel_context::baggage::{Baggage, BaggageMetadata, KeyValueMetadata};
-use std::io;
+use std::alloc::{AllocError, Global};
 
-pub fn play<R: Print>(stage: &Stage<'_, R>) -> io::Result<()> {
-    stage.play("baggage-metadata", metadata)?;
-    stage.play("baggage-key-value-metadata", key_value_metadata)?;
-    stage.play("baggage-insert", insert)?;
-    stage.play("baggage-insert-with-metadata", insert_with_metadata)?;
-    stage.play("baggage-from-pairs", from_pairs)?;
-    stage.play("baggage-from-key-values", from_key_values)?;
-    stage.play(
-        "baggage-from-key-values-with-metadata",
-        from_key_values_with_metadata,
-    )?;
-    stage.play("baggage-in-place", in_place)
+pub fn play<R: Print>(alloc: Global, lines: &mut Lines<'_, R>) {
+    if lines.begin("baggage-metadata") {
+        let set_up = metadata(alloc, lines);
+        lines.end(set_up);
+    }
+    if lines.begin("baggage-key-value-metadata") {
+        let set_up = key_value_metadata(alloc, lines);
+        lines.end(set_up);
+    }
+    if lines.begin("baggage-insert") {
+        let set_up = insert(alloc, lines);
+        lines.end(set_up);
+    }
+    if lines.begin("baggage-insert-with-metadata") {
+        let set_up = insert_with_metadata(alloc, lines);
+        lines.end(set_up);
+    }
+    play_made(alloc, lines);
+    if lines.begin("baggage-in-place") {
+        let set_up = in_place(alloc, lines);
+        lines.end(set_up);
+    }
 }
 
-fn metadata<R: Print>(stage: &Stage<'_, R>) -> io::Result<()> {
-    let metadata = BaggageMetadata::new(stage.alloc(), "n")?;
-    stage.answer(BaggageMetadata::new(stage.alloc(), " m=1 "))?;
-    stage.answer(metadata.clone())?;
-    stage.receiver(&metadata)?;
-    stage.free(&BaggageMetadata::default())
+fn play_made<R: Print>(alloc: Global, lines: &mut Lines<'_, R>) {
+    if lines.begin("baggage-from-pairs") {
+        let set_up = from_pairs(alloc, lines);
+        lines.end(set_up);
+    }
+    if lines.begin("baggage-from-key-values") {
+        let set_up = from_key_values(alloc, lines);
+        lines.end(set_up);
+    }
+    if lines.begin("baggage-from-key-values-with-metadata") {
+        let set_up = from_key_values_with_metadata(alloc, lines);
+        lines.end(set_up);
+    }
 }
 
-fn key_value_metadata<R: Print>(stage: &Stage<'_, R>) -> io::Result<()> {
-    let alloc = stage.alloc();
-    let text = StringValue::from(String::from_str(alloc, "v")?);
+fn metadata<R: Print>(alloc: Global, lines: &mut Lines<'_, R>) -> Result<(), AllocError> {
+    let metadata = BaggageMetadata::new(alloc, "n")?;
+    lines.answer_of(&BaggageMetadata::new(alloc, " m=1 "));
+    lines.answer_of(&metadata.clone());
+    lines.receiver(&metadata);
+    lines.free(&BaggageMetadata::default());
+    Ok(())
+}
+
+fn answer<R: Print>(
+    lines: &mut Lines<'_, R>,
+    made: &str,
+    answer: &Result<KeyValueMetadata, AllocError>,
+) {
+    match answer {
+        Ok(_) => lines.answer(&made),
+        Err(error) => lines.answer(error),
+    }
+}
+
+fn key_value_metadata<R: Print>(alloc: Global, lines: &mut Lines<'_, R>) -> Result<(), AllocError> {
     let pair = KeyValue::new(Key::from("k"), Value::I64(7));
-    let triple = KeyValueMetadata::from_key_value(alloc, pair);
-    stage.answer(triple.map(|_| "k=7"))?;
+    answer(lines, "k=7", &KeyValueMetadata::from_key_value(alloc, pair));
+    let text = StringValue::from(String::from_str(alloc, "v")?);
     let triple = KeyValueMetadata::new(Key::from("k"), text, BaggageMetadata::default());
-    stage.answer(triple.clone().map(|_| "a copy"))
+    answer(lines, "a copy", &triple.clone());
+    Ok(())
 }
 
 /// Whether the baggage holds `k=v`, and nothing else.
 fn is_as_made(baggage: &Baggage) -> bool {
-    baggage.len() == 1
-        && baggage
-            .get("k")
-            .map_or(false, |value| value.as_str() == "v")
+    match baggage.get("k") {
+        Some(value) => baggage.len() == 1 && value.as_str() == "v",
+        None => false,
+    }
 }
 
-fn insert<R: Print>(stage: &Stage<'_, R>) -> io::Result<()> {
-    let mut held = baggage(stage.alloc(), "k", "v")?;
-    let answer = held.insert(Key::from("j"), StringValue::from("w"));
-    let due = match &answer {
-        Ok(_) => held.len() == 2 && held.get("j").is_some(),
-        Err(_) => is_as_made(&held),
-    };
-    stage.answer(answer.map(|old| old.is_none()))?;
-    stage.due(due)
+fn insert<R: Print>(alloc: Global, lines: &mut Lines<'_, R>) -> Result<(), AllocError> {
+    let mut held = baggage(alloc, "k", "v")?;
+    match held.insert(Key::from("j"), StringValue::from("w")) {
+        Ok(old) => {
+            lines.answer(&old.is_none());
+            lines.due(held.len() == 2 && held.get("j").is_some());
+        }
+        Err(error) => {
+            lines.answer(&error);
+            lines.due(is_as_made(&held));
+        }
+    }
+    Ok(())
 }
 
-fn insert_with_metadata<R: Print>(stage: &Stage<'_, R>) -> io::Result<()> {
-    let mut held = baggage(stage.alloc(), "k", "v")?;
-    let metadata = BaggageMetadata::new(stage.alloc(), "m")?;
-    let answer = held.insert_with_metadata(Key::from("j"), StringValue::from("w"), metadata);
-    let due = match &answer {
-        Ok(_) => held.len() == 2 && held.get_with_metadata("j").is_some(),
-        Err(_) => is_as_made(&held),
-    };
-    stage.answer(answer.map(|old| old.is_none()))?;
-    stage.due(due)
+fn insert_with_metadata<R: Print>(
+    alloc: Global,
+    lines: &mut Lines<'_, R>,
+) -> Result<(), AllocError> {
+    let metadata = BaggageMetadata::new(alloc, "m")?;
+    let mut held = baggage(alloc, "k", "v")?;
+    match held.insert_with_metadata(Key::from("j"), StringValue::from("w"), metadata) {
+        Ok(old) => {
+            lines.answer(&old.is_none());
+            lines.due(held.len() == 2 && held.get_with_metadata("j").is_some());
+        }
+        Err(error) => {
+            lines.answer(&error);
+            lines.due(is_as_made(&held));
+        }
+    }
+    Ok(())
 }
 
-fn from_pairs<R: Print>(stage: &Stage<'_, R>) -> io::Result<()> {
-    let alloc = stage.alloc();
+fn from_pairs<R: Print>(alloc: Global, lines: &mut Lines<'_, R>) -> Result<(), AllocError> {
     let mut pairs = Vec::new(alloc);
     for (key, value) in [("a", "1"), ("a b", "2"), ("c", "3")] {
-        pairs.push((
-            Key::from(key),
-            (StringValue::from(value), BaggageMetadata::default()),
-        ))?;
+        let value = (StringValue::from(value), BaggageMetadata::default());
+        pairs.push((Key::from(key), value))?;
     }
-    stage.answer(Baggage::from_pairs(alloc, pairs))
+    lines.answer_of(&Baggage::from_pairs(alloc, pairs));
+    Ok(())
 }
 
-fn from_key_values<R: Print>(stage: &Stage<'_, R>) -> io::Result<()> {
-    let alloc = stage.alloc();
+fn from_key_values<R: Print>(alloc: Global, lines: &mut Lines<'_, R>) -> Result<(), AllocError> {
     let mut pairs = Vec::new(alloc);
     for (key, number) in [("a", 1), ("b", 2), ("a", 3)] {
         pairs.push(KeyValue::new(Key::from(key), Value::I64(number)))?;
     }
-    stage.answer(Baggage::from_key_values(alloc, pairs))
+    lines.answer_of(&Baggage::from_key_values(alloc, pairs));
+    Ok(())
 }
 
-fn from_key_values_with_metadata<R: Print>(stage: &Stage<'_, R>) -> io::Result<()> {
-    let alloc = stage.alloc();
+fn from_key_values_with_metadata<R: Print>(
+    alloc: Global,
+    lines: &mut Lines<'_, R>,
+) -> Result<(), AllocError> {
     let mut triples = Vec::new(alloc);
     for (key, value) in [("foo", "1"), ("bar", "2")] {
         let metadata = BaggageMetadata::new(alloc, "red;state=on")?;
         triples.push(KeyValueMetadata::new(Key::from(key), StringValue::from(value), metadata))?;
     }
-    stage.answer(Baggage::from_key_values_with_metadata(alloc, triples))
+    lines.answer_of(&Baggage::from_key_values_with_metadata(alloc, triples));
+    Ok(())
 }
 
-/// What changes no more than what is there: replacements, refused inserts, look-ups and removals.
-fn in_place<R: Print>(stage: &Stage<'_, R>) -> io::Result<()> {
-    let mut held = baggage(stage.alloc(), "k", "v")?;
+/// Inserts that change no more than what is there: a replacement, and a key that isn't accepted.
+fn replaced<R: Print>(lines: &mut Lines<'_, R>, held: &mut Baggage) {
     match held.insert(Key::from("k"), StringValue::from("w")) {
-        Ok(old) => stage.free(&old.map_or(false, |old| old.as_str() == "v"))?,
-        Err(error) => stage.free(&error)?,
+        Ok(Some(old)) => lines.free(&(old.as_str() == "v")),
+        Ok(None) => lines.free(&false),
+        Err(error) => lines.free(&error),
     }
     match held.insert(Key::from("a b"), StringValue::from("w")) {
-        Ok(old) => stage.free(&old.is_none())?,
-        Err(error) => stage.free(&error)?,
+        Ok(old) => lines.free(&old.is_none()),
+        Err(error) => lines.free(&error),
     }
-    stage.free(&held.get("k").is_some())?;
-    stage.free(&held.get_with_metadata("j").is_none())?;
-    stage.free(&held)?;
-    stage.free(&held.remove("k").is_some())?;
-    stage.free(&held.len())
+}
+
+fn in_place<R: Print>(alloc: Global, lines: &mut Lines<'_, R>) -> Result<(), AllocError> {
+    let mut held = baggage(alloc, "k", "v")?;
+    replaced(lines, &mut held);
+    lines.free(&held.get("k").is_some());
+    lines.free(&held.get_with_metadata("j").is_none());
+    lines.free(&held);
+    lines.free(&held.remove("k").is_some());
+    lines.free(&held.len());
+    Ok(())
 }

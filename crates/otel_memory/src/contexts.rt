@@ -1,23 +1,41 @@
 //! Calls on contexts.
-use crate::stage::{Shown, Stage};
+use crate::lines::Lines;
+use crate::shown::Parts;
 use otel_base::{AnyValue, Key, StringValue};
 use otel_context::Context;
 use otel_context::baggage::Baggage;
 use otel_ids::{SpanContext, SpanId, TraceFlags, TraceId, TraceState};
 use std::alloc::{AllocError, Global};
-use std::io;
 
-pub fn play<R: Print>(stage: &Stage<'_, R>) -> io::Result<()> {
-    stage.play("context-with-value", with_value)?;
-    stage.play("context-with-baggage", with_baggage)?;
-    stage.play("context-with-cleared-baggage", with_cleared_baggage)?;
-    stage.play("context-with-remote-span-context", with_remote_span_context)?;
-    stage.play(
-        "context-with-telemetry-suppressed",
-        with_telemetry_suppressed,
-    )?;
-    stage.play("context-clone", copy)?;
-    stage.play("context-looks", looks)
+pub fn play<R: Print>(alloc: Global, lines: &mut Lines<'_, R>) {
+    if lines.begin("context-with-value") {
+        let set_up = with_value(alloc, lines);
+        lines.end(set_up);
+    }
+    if lines.begin("context-with-baggage") {
+        let set_up = with_baggage(alloc, lines);
+        lines.end(set_up);
+    }
+    if lines.begin("context-with-cleared-baggage") {
+        let set_up = with_cleared_baggage(alloc, lines);
+        lines.end(set_up);
+    }
+    if lines.begin("context-with-remote-span-context") {
+        let set_up = with_remote_span_context(alloc, lines);
+        lines.end(set_up);
+    }
+    if lines.begin("context-with-telemetry-suppressed") {
+        let set_up = with_telemetry_suppressed(alloc, lines);
+        lines.end(set_up);
+    }
+    if lines.begin("context-clone") {
+        let set_up = copy(alloc, lines);
+        lines.end(set_up);
+    }
+    if lines.begin("context-looks") {
+        let set_up = looks(alloc, lines);
+        lines.end(set_up);
+    }
 }
 
 /// A baggage of that one pair.
@@ -33,86 +51,107 @@ pub fn baggage(
 
 /// A remote span context with those ids, and a trace state.
 fn span_context(alloc: Global, id: u64) -> Result<SpanContext, AllocError> {
-    let state = TraceState::from_str(alloc, "v=1").map_err(|_| AllocError)?;
-    Ok(SpanContext::new(
-        TraceId::from(u128::from(id)),
-        SpanId::from(id),
-        TraceFlags::SAMPLED,
-        true,
-        state,
-    ))
+    let Ok(state) = TraceState::from_str(alloc, "v=1") else {
+        return Err(AllocError);
+    };
+    let trace_id = TraceId::from(u128::from(id));
+    Ok(SpanContext::new(trace_id, SpanId::from(id), TraceFlags::SAMPLED, true, state))
+}
+
+/// A context with a baggage and a remote span context.
+fn sent(alloc: Global) -> Result<Context, AllocError> {
+    let baggage = baggage(alloc, "k", "v")?;
+    let context = Context::new().with_baggage(alloc, baggage)?;
+    let span_context = span_context(alloc, 1)?;
+    context.with_remote_span_context(alloc, span_context)
 }
 
 /// A context with the entry `a`, a baggage and a remote span context.
 pub fn full(alloc: Global) -> Result<Context, AllocError> {
-    let context = Context::new().with_value(alloc, Key::from("a"), AnyValue::Int(1))?;
-    let context = context.with_baggage(alloc, baggage(alloc, "k", "v")?)?;
-    context.with_remote_span_context(alloc, span_context(alloc, 1)?)
+    let context = sent(alloc)?;
+    context.with_value(alloc, Key::from("a"), AnyValue::Int(1))
 }
 
-fn with_value<R: Print>(stage: &Stage<'_, R>) -> io::Result<()> {
-    let context = full(stage.alloc())?;
-    let key = Key::new(String::from_str(stage.alloc(), "b")?);
-    stage.answer(
-        context
-            .with_value(stage.alloc(), key, AnyValue::Int(2))
-            .map(Shown),
-    )?;
-    stage.answer(
-        context
-            .with_value(stage.alloc(), Key::from("a"), AnyValue::Int(3))
-            .map(Shown),
-    )?;
-    stage.receiver(&Shown(context))
+/// Prints the answer of a derivation.
+pub fn answer<R: Print>(lines: &mut Lines<'_, R>, answer: &Result<Context, AllocError>) {
+    match answer {
+        Ok(context) => lines.answer(&Parts(context)),
+        Err(error) => lines.answer(error),
+    }
 }
 
-fn with_baggage<R: Print>(stage: &Stage<'_, R>) -> io::Result<()> {
-    let context = full(stage.alloc())?;
-    let other = baggage(stage.alloc(), "j", "w")?;
-    stage.answer(context.with_baggage(stage.alloc(), other).map(Shown))?;
-    stage.receiver(&Shown(context))
+fn with_value<R: Print>(alloc: Global, lines: &mut Lines<'_, R>) -> Result<(), AllocError> {
+    let key = Key::new(String::from_str(alloc, "b")?);
+    let context = full(alloc)?;
+    answer(lines, &context.with_value(alloc, key, AnyValue::Int(2)));
+    answer(
+        lines,
+        &context.with_value(alloc, Key::from("a"), AnyValue::Int(3)),
+    );
+    lines.receiver(&Parts(&context));
+    Ok(())
 }
 
-fn with_cleared_baggage<R: Print>(stage: &Stage<'_, R>) -> io::Result<()> {
-    let context = full(stage.alloc())?;
-    stage.answer(context.with_cleared_baggage(stage.alloc()).map(Shown))?;
-    stage.receiver(&Shown(context))
+fn with_baggage<R: Print>(alloc: Global, lines: &mut Lines<'_, R>) -> Result<(), AllocError> {
+    let context = full(alloc)?;
+    let other = baggage(alloc, "j", "w")?;
+    answer(lines, &context.with_baggage(alloc, other));
+    lines.receiver(&Parts(&context));
+    Ok(())
 }
 
-fn with_remote_span_context<R: Print>(stage: &Stage<'_, R>) -> io::Result<()> {
-    let context = full(stage.alloc())?;
-    let other = span_context(stage.alloc(), 2)?;
-    stage.answer(
-        context
-            .with_remote_span_context(stage.alloc(), other)
-            .map(Shown),
-    )?;
-    stage.receiver(&Shown(context))
+fn with_cleared_baggage<R: Print>(
+    alloc: Global,
+    lines: &mut Lines<'_, R>,
+) -> Result<(), AllocError> {
+    let context = full(alloc)?;
+    answer(lines, &context.with_cleared_baggage(alloc));
+    lines.receiver(&Parts(&context));
+    Ok(())
 }
 
-fn with_telemetry_suppressed<R: Print>(stage: &Stage<'_, R>) -> io::Result<()> {
-    let context = full(stage.alloc())?;
-    stage.answer(context.with_telemetry_suppressed(stage.alloc()).map(Shown))?;
-    stage.receiver(&Shown(context))
+fn with_remote_span_context<R: Print>(
+    alloc: Global,
+    lines: &mut Lines<'_, R>,
+) -> Result<(), AllocError> {
+    let context = full(alloc)?;
+    let other = span_context(alloc, 2)?;
+    answer(lines, &context.with_remote_span_context(alloc, other));
+    lines.receiver(&Parts(&context));
+    Ok(())
 }
 
-fn copy<R: Print>(stage: &Stage<'_, R>) -> io::Result<()> {
-    let context = full(stage.alloc())?;
-    stage.answer(context.clone().map(Shown))?;
-    stage.answer(
-        context
-            .span_context()
-            .clone()
-            .map(|copy| copy == *context.span_context()),
-    )?;
-    stage.receiver(&Shown(context))
+fn with_telemetry_suppressed<R: Print>(
+    alloc: Global,
+    lines: &mut Lines<'_, R>,
+) -> Result<(), AllocError> {
+    let context = full(alloc)?;
+    answer(lines, &context.with_telemetry_suppressed(alloc));
+    lines.receiver(&Parts(&context));
+    Ok(())
 }
 
-fn looks<R: Print>(stage: &Stage<'_, R>) -> io::Result<()> {
-    let context = full(stage.alloc())?;
-    stage.free(&Shown(Context::new()))?;
-    stage.free(&context.get("b").is_none())?;
-    stage.free(&context.has_active_span())?;
-    stage.free(&context.span_context().is_valid())?;
-    stage.free(&context.is_telemetry_suppressed())
+/// Clones of a context and of a span context take no memory.
+fn copy<R: Print>(alloc: Global, lines: &mut Lines<'_, R>) -> Result<(), AllocError> {
+    let context = full(alloc)?;
+    match context.clone() {
+        Ok(copy) => lines.free(&Parts(&copy)),
+        Err(error) => lines.free(&error),
+    }
+    match context.span_context().clone() {
+        Ok(copy) => lines.free(&(copy == *context.span_context())),
+        Err(error) => lines.free(&error),
+    }
+    lines.receiver(&Parts(&context));
+    Ok(())
+}
+
+fn looks<R: Print>(alloc: Global, lines: &mut Lines<'_, R>) -> Result<(), AllocError> {
+    let context = full(alloc)?;
+    lines.free(&Parts(&Context::new()));
+    lines.free(&context.get("b").is_none());
+    lines.free(&context.has_active_span());
+    lines.free(&context.span_context().is_valid());
+    lines.free(&context.is_telemetry_suppressed());
+    Ok(())
 }

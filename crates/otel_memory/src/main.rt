@@ -1,20 +1,22 @@
-//! Scenarios for runs under a want of memory: each makes library calls on fixed values, and prints what they gave and what
-//! became of what they were lent.
+//! Scenarios for runs in which requests for memory fail: each makes library calls on fixed values, and prints their answers
+//! and what became of what they were lent.
 //!
 //! The name of a scenario is read from standard input; without one all of them run. Nothing here takes memory to print.
 #![tactic(auto)]
 
+mod attaches;
 mod baggages;
 mod contexts;
+mod lines;
 mod propagations;
 mod scopes;
+mod shown;
 mod stacks;
-mod stage;
 mod trace_states;
 mod values;
 
-use stage::Stage;
-use std::io::{self, Read};
+use lines::Lines;
+use std::io::{self, ErrorKind, Read};
 
 /// The longest name of a scenario, and its `\n`.
 const ROOM: usize = 64;
@@ -23,12 +25,19 @@ fn main(rt: HostRuntime) -> io::Result<()> {
     let mut room = [0u8; ROOM];
     let count = rt.stdin().read(&mut room)?;
     let wanted = str::from_utf8(&room[..count]).unwrap_or("").trim_end();
-    let stage = Stage::new(&rt, rt.alloc(), wanted);
-    trace_states::play(&stage)?;
-    values::play(&stage)?;
-    scopes::play(&stage)?;
-    baggages::play(&stage)?;
-    contexts::play(&stage)?;
-    stacks::play(&stage)?;
-    propagations::play(&stage)
+    let mut lines = Lines::new(&rt, wanted);
+    let alloc = rt.alloc();
+    trace_states::play(alloc, &mut lines);
+    values::play(alloc, &mut lines);
+    scopes::play(alloc, &mut lines);
+    baggages::play(alloc, &mut lines);
+    contexts::play(alloc, &mut lines);
+    attaches::play(alloc, &mut lines);
+    stacks::play(alloc, &mut lines);
+    propagations::play(alloc, &mut lines);
+    if lines.is_written() {
+        Ok(())
+    } else {
+        Err(io::Error::from(ErrorKind::WriteZero))
+    }
 }

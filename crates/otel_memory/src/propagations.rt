@@ -1,20 +1,34 @@
 //! Calls on carriers and composites.
-use crate::contexts::full;
-use crate::stage::Stage;
+use crate::lines::Lines;
+use crate::stacks::stack_of_full;
 use opentelemetry::context::{Context, ContextStack};
 use opentelemetry::propagation::{
     Injector, PropagationError, TextMapCompositePropagator, TextMapPropagator,
 };
 use std::alloc::{AllocError, Global};
 use std::collections::HashMap;
-use std::io;
 
-pub fn play<R: Print>(stage: &Stage<'_, R>) -> io::Result<()> {
-    stage.play("carrier-set", set)?;
-    stage.play("carrier-reserve", reserve)?;
-    stage.play("composite-new", new)?;
-    stage.play("composite-inject-context", inject_context)?;
-    stage.play("composite-inject", inject)
+pub fn play<R: Print>(alloc: Global, lines: &mut Lines<'_, R>) {
+    if lines.begin("carrier-set") {
+        let set_up = set(alloc, lines);
+        lines.end(set_up);
+    }
+    if lines.begin("carrier-reserve") {
+        let set_up = reserve(alloc, lines);
+        lines.end(set_up);
+    }
+    if lines.begin("composite-new") {
+        let set_up = new(alloc, lines);
+        lines.end(set_up);
+    }
+    if lines.begin("composite-inject-context") {
+        let set_up = inject_context(alloc, lines);
+        lines.end(set_up);
+    }
+    if lines.begin("composite-inject") {
+        let set_up = inject(alloc, lines);
+        lines.end(set_up);
+    }
 }
 
 /// Sets one text, whatever the context.
@@ -50,8 +64,9 @@ impl TextMapPropagator for Stamp {
 /// A carrier of one text.
 fn carrier(alloc: Global) -> Result<HashMap<String, String>, AllocError> {
     let mut carrier: HashMap<String, String> = HashMap::new(alloc);
+    let value = String::from_str(alloc, "0")?;
     let key = String::from_str(alloc, "kept")?;
-    carrier.insert(key, String::from_str(alloc, "0")?)?;
+    carrier.insert(key, value)?;
     Ok(carrier)
 }
 
@@ -70,67 +85,82 @@ fn is_beginning(carrier: &HashMap<String, String>, len: usize) -> bool {
         && (len < 3 || holds(carrier, "y", "2"))
 }
 
-fn set<R: Print>(stage: &Stage<'_, R>) -> io::Result<()> {
-    let mut carrier = carrier(stage.alloc())?;
-    let value = String::from_str(stage.alloc(), "1")?;
-    let answer = Injector::set(&mut carrier, "X", value);
-    let due = is_beginning(&carrier, if answer.is_ok() { 2 } else { 1 });
-    stage.answer(answer.map(|()| "set"))?;
-    stage.due(due)
+fn set<R: Print>(alloc: Global, lines: &mut Lines<'_, R>) -> Result<(), AllocError> {
+    let value = String::from_str(alloc, "1")?;
+    let mut carrier = carrier(alloc)?;
+    match Injector::set(&mut carrier, "X", value) {
+        Ok(()) => {
+            lines.answer(&"set");
+            lines.due(is_beginning(&carrier, 2));
+        }
+        Err(error) => {
+            lines.answer(&error);
+            lines.due(is_beginning(&carrier, 1));
+        }
+    }
+    Ok(())
 }
 
 /// A hint takes memory or none: what the carrier holds stays.
-fn reserve<R: Print>(stage: &Stage<'_, R>) -> io::Result<()> {
-    let mut carrier = carrier(stage.alloc())?;
+fn reserve<R: Print>(alloc: Global, lines: &mut Lines<'_, R>) -> Result<(), AllocError> {
+    let mut carrier = carrier(alloc)?;
     Injector::reserve(&mut carrier, 1000);
-    stage.free(&is_beginning(&carrier, 1))
+    lines.free(&is_beginning(&carrier, 1));
+    Ok(())
 }
 
-fn new<R: Print>(stage: &Stage<'_, R>) -> io::Result<()> {
-    let alloc = stage.alloc();
+fn new<R: Print>(alloc: Global, lines: &mut Lines<'_, R>) -> Result<(), AllocError> {
     let mut members: Vec<Box<dyn TextMapPropagator>> = Vec::new(alloc);
     members.push(Box::new(alloc, Stamp::new(alloc, "X", "1"))?)?;
     let answer = TextMapCompositePropagator::new(alloc, members);
-    stage.free(&answer.is_ok())
+    lines.free(&answer.is_ok());
+    Ok(())
 }
 
-/// Prints what an injection gave; what is due is all that the members set, or after want of memory a beginning.
+/// Lets the members inject the current context of the stack, or the empty one, and prints what they gave. The carrier
+/// holds all that they set then, or after an error a beginning.
 fn injected<R: Print>(
-    stage: &Stage<'_, R>,
-    answer: Result<(), PropagationError>,
-    carrier: &HashMap<String, String>,
-) -> io::Result<()> {
-    let due = is_beginning(carrier, if answer.is_ok() { 3 } else { carrier.len() });
-    stage.answer(answer.map(|()| "injected"))?;
-    stage.due(due)
+    lines: &mut Lines<'_, R>,
+    composite: &TextMapCompositePropagator,
+    stack: Option<&ContextStack>,
+    carrier: &mut HashMap<String, String>,
+) {
+    let answer = match stack {
+        Some(stack) => composite.inject(stack, carrier),
+        None => composite.inject_context(&Context::new(), carrier),
+    };
+    match answer {
+        Ok(()) => {
+            lines.answer(&"injected");
+            lines.due(is_beginning(carrier, 3));
+        }
+        Err(error) => {
+            lines.answer(&error);
+            lines.due(is_beginning(carrier, carrier.len()));
+        }
+    }
 }
 
-/// Lets a member that sets `x`, and one that sets `y`, inject from the context or from the stack.
+/// Makes a composite of a member that sets `x` and one that sets `y`, and lets it inject.
 fn injected_by_two<R: Print>(
-    stage: &Stage<'_, R>,
-    context: Option<&Context>,
-    stack: &ContextStack,
-) -> io::Result<()> {
-    let alloc = stage.alloc();
+    alloc: Global,
+    lines: &mut Lines<'_, R>,
+    stack: Option<&ContextStack>,
+) -> Result<(), AllocError> {
+    let mut carrier = carrier(alloc)?;
     let mut members: Vec<Box<dyn TextMapPropagator>> = Vec::new(alloc);
     members.push(Box::new(alloc, Stamp::new(alloc, "X", "1"))?)?;
     members.push(Box::new(alloc, Stamp::new(alloc, "y", "2"))?)?;
     let composite = TextMapCompositePropagator::new(alloc, members)?;
-    let mut carrier = carrier(alloc)?;
-    let answer = match context {
-        Some(context) => composite.inject_context(context, &mut carrier),
-        None => composite.inject(stack, &mut carrier),
-    };
-    injected(stage, answer, &carrier)
+    injected(lines, &composite, stack, &mut carrier);
+    Ok(())
 }
 
-fn inject_context<R: Print>(stage: &Stage<'_, R>) -> io::Result<()> {
-    let stack = ContextStack::new(stage.alloc())?;
-    injected_by_two(stage, Some(&Context::new()), &stack)
+fn inject_context<R: Print>(alloc: Global, lines: &mut Lines<'_, R>) -> Result<(), AllocError> {
+    injected_by_two(alloc, lines, None)
 }
 
-fn inject<R: Print>(stage: &Stage<'_, R>) -> io::Result<()> {
-    let mut stack = ContextStack::new(stage.alloc())?;
-    stack.push(full(stage.alloc())?)?;
-    injected_by_two(stage, None, &stack)
+fn inject<R: Print>(alloc: Global, lines: &mut Lines<'_, R>) -> Result<(), AllocError> {
+    let stack = stack_of_full(alloc)?;
+    injected_by_two(alloc, lines, Some(&stack))
 }

@@ -1,67 +1,103 @@
 //! Calls on trace states.
-use crate::stage::{Stage, State, made};
-use otel_ids::TraceState;
-use std::io;
+use crate::lines::Lines;
+use crate::shown::State;
+use otel_ids::{TraceState, TraceStateError};
+use std::alloc::{AllocError, Global};
 
-pub fn play<R: Print>(stage: &Stage<'_, R>) -> io::Result<()> {
-    stage.play("trace-state-from-str", from_str)?;
-    stage.play("trace-state-from-key-value", from_key_value)?;
-    stage.play("trace-state-insert", insert)?;
-    stage.play("trace-state-delete", delete)?;
-    stage.play("trace-state-header", header)?;
-    stage.play("trace-state-faults", faults)?;
-    stage.play("trace-state-looks", looks)
-}
-
-fn from_str<R: Print>(stage: &Stage<'_, R>) -> io::Result<()> {
-    stage.answer(TraceState::from_str(stage.alloc(), " a=1 ,,\tb=2").map(State))
-}
-
-fn from_key_value<R: Print>(stage: &Stage<'_, R>) -> io::Result<()> {
-    let pairs = [("foo", ""), ("apple", "banana")];
-    stage.answer(TraceState::from_key_value(stage.alloc(), &pairs).map(State))
-}
-
-fn insert<R: Print>(stage: &Stage<'_, R>) -> io::Result<()> {
-    let alloc = stage.alloc();
-    let state = made(TraceState::from_str(alloc, "a=1,b=2"))?;
-    stage.answer(state.insert(alloc, "b", "3").map(State))?;
-    stage.receiver(&State(state))
-}
-
-fn delete<R: Print>(stage: &Stage<'_, R>) -> io::Result<()> {
-    let alloc = stage.alloc();
-    let state = made(TraceState::from_str(alloc, "a=1,b=2"))?;
-    stage.answer(state.delete(alloc, "a").map(State))?;
-    stage.receiver(&State(state))
-}
-
-fn header<R: Print>(stage: &Stage<'_, R>) -> io::Result<()> {
-    let alloc = stage.alloc();
-    let state = made(TraceState::from_str(alloc, "a=1,b=2"))?;
-    stage.answer(state.header(alloc))?;
-    stage.answer(state.header_delimited(alloc, ":", ";"))?;
-    stage.receiver(&State(state))
-}
-
-fn faults<R: Print>(stage: &Stage<'_, R>) -> io::Result<()> {
-    let alloc = stage.alloc();
-    let state = made(TraceState::from_str(alloc, "a=1"))?;
-    stage.answer(TraceState::from_str(alloc, "a=1,b").map(State))?;
-    stage.answer(state.insert(alloc, "A", "1").map(State))?;
-    stage.answer(state.insert(alloc, "b", "=").map(State))?;
-    stage.receiver(&State(state))
-}
-
-fn looks<R: Print>(stage: &Stage<'_, R>) -> io::Result<()> {
-    let alloc = stage.alloc();
-    let state = made(TraceState::from_str(alloc, "a=1,b=2"))?;
-    stage.free(&state.get("b").unwrap_or("none"))?;
-    stage.free(&state.iter().len())?;
-    match TraceState::from_str(alloc, " ,\t, ") {
-        Ok(empty) => stage.free(&(empty == TraceState::NONE))?,
-        Err(error) => stage.free(&error)?,
+pub fn play<R: Print>(alloc: Global, lines: &mut Lines<'_, R>) {
+    if lines.begin("trace-state-from-str") {
+        answer(lines, &TraceState::from_str(alloc, " a=1 ,,\tb=2"));
     }
-    stage.free(&(state == TraceState::NONE))?;
-    stage.receiver(&State(state))
+    if lines.begin("trace-state-from-key-value") {
+        let pairs = [("foo", ""), ("apple", "banana")];
+        answer(lines, &TraceState::from_key_value(alloc, &pairs));
+    }
+    if lines.begin("trace-state-insert") {
+        let set_up = insert(alloc, lines);
+        lines.end(set_up);
+    }
+    if lines.begin("trace-state-delete") {
+        let set_up = delete(alloc, lines);
+        lines.end(set_up);
+    }
+    if lines.begin("trace-state-header") {
+        let set_up = header(alloc, lines);
+        lines.end(set_up);
+    }
+    if lines.begin("trace-state-faults") {
+        let set_up = faults(alloc, lines);
+        lines.end(set_up);
+    }
+    if lines.begin("trace-state-looks") {
+        let set_up = looks(alloc, lines);
+        lines.end(set_up);
+    }
+}
+
+/// The trace state of that text, which is a good one.
+fn state(alloc: Global, text: &str) -> Result<TraceState, AllocError> {
+    match TraceState::from_str(alloc, text) {
+        Ok(state) => Ok(state),
+        Err(_) => Err(AllocError),
+    }
+}
+
+fn answer<R: Print>(lines: &mut Lines<'_, R>, answer: &Result<TraceState, TraceStateError>) {
+    match answer {
+        Ok(state) => lines.answer(&State(state)),
+        Err(error) => lines.answer(error),
+    }
+}
+
+fn insert<R: Print>(alloc: Global, lines: &mut Lines<'_, R>) -> Result<(), AllocError> {
+    let state = state(alloc, "a=1,b=2")?;
+    answer(lines, &state.insert(alloc, "b", "3"));
+    lines.receiver(&State(&state));
+    Ok(())
+}
+
+fn delete<R: Print>(alloc: Global, lines: &mut Lines<'_, R>) -> Result<(), AllocError> {
+    let state = state(alloc, "a=1,b=2")?;
+    answer(lines, &state.delete(alloc, "a"));
+    lines.receiver(&State(&state));
+    Ok(())
+}
+
+fn header<R: Print>(alloc: Global, lines: &mut Lines<'_, R>) -> Result<(), AllocError> {
+    let state = state(alloc, "a=1,b=2")?;
+    lines.answer_of(&state.header(alloc));
+    lines.answer_of(&state.header_delimited(alloc, ":", ";"));
+    lines.receiver(&State(&state));
+    Ok(())
+}
+
+fn faults<R: Print>(alloc: Global, lines: &mut Lines<'_, R>) -> Result<(), AllocError> {
+    let state = state(alloc, "a=1")?;
+    answer(lines, &TraceState::from_str(alloc, "a=1,b"));
+    answer(lines, &state.insert(alloc, "A", "1"));
+    answer(lines, &state.insert(alloc, "b", "="));
+    lines.receiver(&State(&state));
+    Ok(())
+}
+
+/// A text of blanks alone, and a clone, which shares the list.
+fn without_memory<R: Print>(alloc: Global, lines: &mut Lines<'_, R>, state: &TraceState) {
+    match TraceState::from_str(alloc, " ,\t, ") {
+        Ok(empty) => lines.free(&(empty == TraceState::NONE)),
+        Err(error) => lines.free(&error),
+    }
+    match state.clone() {
+        Ok(copy) => lines.free(&State(&copy)),
+        Err(error) => lines.free(&error),
+    }
+}
+
+fn looks<R: Print>(alloc: Global, lines: &mut Lines<'_, R>) -> Result<(), AllocError> {
+    let state = state(alloc, "a=1,b=2")?;
+    lines.free(&state.get("b").unwrap_or("none"));
+    lines.free(&state.iter().len());
+    lines.free(&(state == TraceState::NONE));
+    without_memory(alloc, lines, &state);
+    lines.receiver(&State(&state));
+    Ok(())
 }
