@@ -1,6 +1,8 @@
 //! Ids and flags as texts and bytes.
 
 use otel_ids::{SpanId, TraceFlags, TraceId};
+use std::fmt;
+use std::num::IntErrorKind;
 use std::test::Fail;
 
 /// A number, its text of full width, and its shortest text.
@@ -108,6 +110,58 @@ fn other_texts_are_no_ids(rt: HostRuntime) {
     assert!(rt; TraceId::from_hex("10000000000000000").is_ok());
 }
 
+/// A text that is no id of a trace, and why.
+const TRACE_ID_FAULTS: &[(&str, IntErrorKind)] = &[
+    ("", IntErrorKind::Empty),
+    ("+", IntErrorKind::InvalidDigit),
+    ("-", IntErrorKind::InvalidDigit),
+    ("-1", IntErrorKind::InvalidDigit),
+    ("g", IntErrorKind::InvalidDigit),
+    ("\u{e9}", IntErrorKind::InvalidDigit),
+    ("0123456789abcdef+123456789abcdef", IntErrorKind::InvalidDigit),
+    ("0123456789abcdef0123456789abcdeg", IntErrorKind::InvalidDigit),
+    ("0123456789abcde\u{e9}123456789abcdef", IntErrorKind::InvalidDigit),
+    ("100000000000000000000000000000000", IntErrorKind::PosOverflow),
+    ("+100000000000000000000000000000000", IntErrorKind::PosOverflow),
+    ("1000000000000000000000000000000000g", IntErrorKind::PosOverflow),
+];
+
+/// A text that is no id of a span, and why.
+const SPAN_ID_FAULTS: &[(&str, IntErrorKind)] = &[
+    ("", IntErrorKind::Empty),
+    ("+", IntErrorKind::InvalidDigit),
+    ("-1", IntErrorKind::InvalidDigit),
+    ("01234567+9abcdef", IntErrorKind::InvalidDigit),
+    ("0123456789abcdeg", IntErrorKind::InvalidDigit),
+    ("10000000000000000", IntErrorKind::PosOverflow),
+    ("f602d2990a2bd5483", IntErrorKind::PosOverflow),
+];
+
+#[test]
+fn the_kind_of_an_error_is_why_the_text_is_no_id(rt: HostRuntime) {
+    for (text, kind) in TRACE_ID_FAULTS {
+        let read = TraceId::from_hex(text);
+        assert!(rt; matches!(&read, Err(error) if error.kind() == kind), "of {text}");
+    }
+    for (text, kind) in SPAN_ID_FAULTS {
+        let read = SpanId::from_hex(text);
+        assert!(rt; matches!(&read, Err(error) if error.kind() == kind), "of {text}");
+    }
+}
+
+#[test]
+fn a_plus_may_stand_before_the_digits(rt: HostRuntime) -> Result<(), Fail> {
+    let digits = "0123456789abcdef0123456789abcdef";
+    let id = TraceId::from_hex(digits)?;
+    assert_eq!(rt; id, TraceId::from(0x0123_4567_89ab_cdef_0123_4567_89ab_cdef));
+    let text = format!(in rt.alloc(); "+{digits}")?;
+    assert_eq!(rt; TraceId::from_hex(text.as_str())?, id);
+    // 32 bytes, of which 31 are digits.
+    assert_eq!(rt; TraceId::from_hex("+123456789abcdef0123456789abcdef")?, id);
+    assert_eq!(rt; SpanId::from_hex("+23456789abcdef0")?, SpanId::from(0x0234_5678_9abc_def0));
+    Ok(())
+}
+
 #[test]
 fn flags_are_a_byte(rt: HostRuntime) {
     let all = TraceFlags::new(0xff);
@@ -133,5 +187,32 @@ fn flags_are_printed_in_hexadecimal(rt: HostRuntime) -> Result<(), Fail> {
     let all = TraceFlags::new(0xff);
     let text = format!(in rt.alloc(); "{:x} {:02x}", all, TraceFlags::SAMPLED)?;
     assert_eq!(rt; text.as_str(), "ff 01");
+    Ok(())
+}
+
+/// Prints what `LowerHex::fmt` writes, which `{:x}` needn't call.
+#[derive(Clone, Copy)]
+struct Lower<T>(T);
+
+impl<T: fmt::LowerHex> fmt::Display for Lower<T> {
+    fn fmt<W: fmt::Write>(&self, f: &mut fmt::Formatter<W>) -> fmt::Result {
+        fmt::LowerHex::fmt(&self.0, f)
+    }
+}
+
+#[test]
+fn lower_hex_writes_the_number(rt: HostRuntime) -> Result<(), Fail> {
+    let (trace, span, flags) = (
+        Lower(TraceId::from(0xff)),
+        Lower(SpanId::from(0xa0)),
+        Lower(TraceFlags::new(0xff)),
+    );
+    let text = format!(in rt.alloc(); "{trace} {span} {flags}")?;
+    assert_eq!(rt; text.as_str(), "ff a0 ff");
+    for (number, _, short) in TRACE_IDS {
+        let id = Lower(TraceId::from(*number));
+        let text = format!(in rt.alloc(); "{id}")?;
+        assert_eq!(rt; text.as_str(), *short);
+    }
     Ok(())
 }

@@ -193,6 +193,35 @@ fn states_equal_their_clones(rt: HostRuntime) -> Result<(), Fail> {
     Ok(())
 }
 
+#[test]
+fn a_clone_is_walked_like_its_original(rt: HostRuntime) -> Result<(), Fail> {
+    let original = TraceState::from_str(rt.alloc(), "a=1,bc=,d= 23")?;
+    let copy = original.clone()?;
+    drop(original);
+    let mut walk = copy.iter();
+    assert_eq!(rt; walk.next(), Some(("a", "1")));
+    assert_eq!(rt; walk.next(), Some(("bc", "")));
+    assert_eq!(rt; walk.next(), Some(("d", " 23")));
+    assert_eq!(rt; walk.next(), None);
+    assert_eq!(rt; walk.next(), None);
+    Ok(())
+}
+
+#[test]
+fn a_state_is_printed_for_debugging(rt: HostRuntime) -> Result<(), Fail> {
+    let state = TraceState::from_str(rt.alloc(), "a=1,b=2")?;
+    let mut walk = state.iter();
+    let text = format!(in rt.alloc(); "{state:?} {walk:?}")?;
+    assert_eq!(rt; text.as_str(), r#"TraceState("a=1,b=2") TraceStateIter("a=1,b=2")"#);
+    walk.next();
+    let one = format!(in rt.alloc(); "{walk:?}")?;
+    walk.next();
+    let none = format!(in rt.alloc(); "{walk:?} {:?}", TraceState::NONE)?;
+    assert_eq!(rt; one.as_str(), r#"TraceStateIter("b=2")"#);
+    assert_eq!(rt; none.as_str(), r#"TraceStateIter("") TraceState("")"#);
+    Ok(())
+}
+
 /// The delimiter in a pair, the one between pairs, and the header then.
 const DELIMITERS: &[(&str, &str, &str)] = &[
     (":", ";", "a:1;b:2"),
