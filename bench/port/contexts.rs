@@ -1,0 +1,141 @@
+//! Operations on contexts.
+use crate::operation::{Operation, Task, add, repeat};
+use opentelemetry::logs::AnyValue;
+use opentelemetry::trace::{SpanContext, TraceState};
+use opentelemetry::{Context, Key, SpanId, StringValue, TraceFlags, TraceId};
+use std::alloc::{AllocError, Global};
+
+/// The names of entries beside `name`.
+const NAMES: [&str; 15] = [
+    "extra1", "extra2", "extra3", "extra4", "extra5", "extra6", "extra7", "extra8", "extra9",
+    "extra10", "extra11", "extra12", "extra13", "extra14", "extra15",
+];
+
+pub fn play(task: &Task<'_>, alloc: Global) -> Result<Option<u64>, AllocError> {
+    match task.name {
+        "context_clone" => repeat(Copying(named(alloc)?), task.times),
+        "context_clone_remote" => repeat(Copying(remote(alloc)?), task.times),
+        "context_get" => repeat(Getting(with_entries(alloc, task.size)?), task.times),
+        "context_with_value" => {
+            let context = with_entries(alloc, task.size)?;
+            repeat(Deriving { alloc, context }, task.times)
+        }
+        "context_with_value_clone_get" => {
+            let context = with_entries(alloc, task.size)?;
+            repeat(DerivingAndGetting { alloc, context }, task.times)
+        }
+        _ => Ok(None),
+    }
+}
+
+/// A context with the entry `name`.
+#[inline(never)]
+pub fn named(alloc: Global) -> Result<Context, AllocError> {
+    let name = StringValue::from(String::from_str(alloc, "request-name")?);
+    Context::new().with_value(alloc, Key::from("name"), AnyValue::String(name))
+}
+
+/// That context with a remote span context, whose trace state has two pairs.
+#[inline(never)]
+pub fn remote(alloc: Global) -> Result<Context, AllocError> {
+    let state = TraceState::from_str(alloc, "vendor=opaque-value,other@sys=1234").map_err(
+        |_| AllocError,
+    )?;
+    let span_context = SpanContext::new(
+        TraceId::from(1),
+        SpanId::from(1),
+        TraceFlags::SAMPLED,
+        true,
+        state,
+    );
+    named(alloc)?.with_remote_span_context(alloc, span_context)
+}
+
+/// A context with so many entries, at least `name`.
+#[inline(never)]
+fn with_entries(alloc: Global, size: usize) -> Result<Context, AllocError> {
+    let mut context = named(alloc)?;
+    let mut entries = 1;
+    for name in NAMES {
+        if entries < size {
+            entries += 1;
+            context = context.with_value(alloc, Key::from(name), AnyValue::Int(1))?;
+        }
+    }
+    Ok(context)
+}
+
+#[inline(never)]
+pub fn clone_of(context: &Context) -> Result<Context, AllocError> {
+    context.clone()
+}
+
+#[inline(never)]
+pub fn let_go(context: Context) {
+    drop(context);
+}
+
+#[inline(never)]
+fn look_up(context: &Context, key: &str, sum: &mut u64) {
+    match context.get(key) {
+        Some(AnyValue::String(text)) => add(sum, text.as_str().len()),
+        Some(_) => add(sum, 1),
+        None => {}
+    }
+}
+
+#[inline(never)]
+fn with_number(alloc: Global, context: &Context) -> Result<Context, AllocError> {
+    context.with_value(alloc, Key::from("number"), AnyValue::Int(1))
+}
+
+#[derive(Drop)]
+struct Copying(Context);
+
+impl Operation for Copying {
+    fn once(&mut self, _sum: &mut u64) -> Result<(), AllocError> {
+        let_go(clone_of(&self.0)?);
+        Ok(())
+    }
+}
+
+#[derive(Drop)]
+struct Getting(Context);
+
+impl Operation for Getting {
+    fn once(&mut self, sum: &mut u64) -> Result<(), AllocError> {
+        look_up(&self.0, "name", sum);
+        Ok(())
+    }
+}
+
+#[derive(Drop)]
+struct Deriving {
+    alloc: Global,
+    context: Context,
+}
+
+impl Operation for Deriving {
+    fn once(&mut self, _sum: &mut u64) -> Result<(), AllocError> {
+        let_go(with_number(self.alloc, &self.context)?);
+        Ok(())
+    }
+}
+
+/// One entry more, a clone, and a look-up in the clone.
+#[derive(Drop)]
+struct DerivingAndGetting {
+    alloc: Global,
+    context: Context,
+}
+
+impl Operation for DerivingAndGetting {
+    fn once(&mut self, sum: &mut u64) -> Result<(), AllocError> {
+        let more = with_number(self.alloc, &self.context)?;
+        let copy = clone_of(&more)?;
+        look_up(&copy, "number", sum);
+        let_go(copy);
+        let_go(more);
+        Ok(())
+    }
+}

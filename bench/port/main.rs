@@ -1,0 +1,53 @@
+//! Operations of the libraries, each done many times over, so that the instructions that one takes may be counted.
+//!
+//! Standard input is one line, `NAME TIMES SIZE`: which operation is done, how many times, and how large what it is done on
+//! is. What is printed is a number that depends on what the calls gave.
+#![tactic(auto)]
+
+mod baggages;
+mod contexts;
+mod ids;
+mod injections;
+mod members;
+mod operation;
+mod random;
+mod rounds;
+mod runs;
+mod stacks;
+mod states;
+
+use operation::Task;
+use std::alloc::{AllocError, Global};
+use std::io::{self, Read};
+
+/// The longest line that is read.
+const ROOM: usize = 128;
+
+/// What the operation of that name gave, where there is one.
+fn play(task: &Task<'_>, alloc: Global) -> Result<Option<u64>, AllocError> {
+    let (group, _) = task.name.split_once('_').unwrap_or((task.name, ""));
+    match group {
+        "context" => contexts::play(task, alloc),
+        "attach" | "push" => stacks::play(task, alloc),
+        "round" => rounds::play(task, alloc),
+        "state" => states::play(task, alloc),
+        "baggage" => baggages::play(task, alloc),
+        "inject" => injections::play(task, alloc),
+        "run" => runs::play(task, alloc),
+        "id" => ids::play(task, alloc),
+        _ => Ok(None),
+    }
+}
+
+fn main(rt: HostRuntime) -> io::Result<()> {
+    let mut room = [0u8; ROOM];
+    let count = rt.stdin().read(&mut room)?;
+    let line = str::from_utf8(&room[..count]).unwrap_or("").trim_end();
+    let Some(task) = Task::read(line) else {
+        return rt.println("NAME TIMES SIZE");
+    };
+    match play(&task, rt.alloc())? {
+        Some(sum) => println!(rt; "{sum}"),
+        None => rt.println("no such operation"),
+    }
+}

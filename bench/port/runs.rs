@@ -1,0 +1,107 @@
+//! Runs of random attaches and detaches, and an injection at their end.
+use crate::contexts::{clone_of, named, remote};
+use crate::injections::{composite, let_go};
+use crate::operation::{Operation, Task, add, repeat};
+use crate::random::Random;
+use opentelemetry::Context;
+use opentelemetry::carry::{self, RunReport, StackEvent};
+use opentelemetry::propagation::TextMapCompositePropagator;
+use std::alloc::{AllocError, Global};
+use std::collections::HashMap;
+
+pub fn play(task: &Task<'_>, alloc: Global) -> Result<Option<u64>, AllocError> {
+    let source = Source {
+        alloc,
+        named: named(alloc)?,
+        remote: remote(alloc)?,
+        size: task.size,
+    };
+    match task.name {
+        "run_events" => repeat(
+            Running {
+                source,
+                composite: composite(alloc)?,
+            },
+            task.times,
+        ),
+        "run_make_events" => repeat(Making(source), task.times),
+        _ => Ok(None),
+    }
+}
+
+/// Where events come from: so many of them, whose attaches are of one of these contexts.
+#[derive(Drop)]
+struct Source {
+    alloc: Global,
+    named: Context,
+    remote: Context,
+    size: usize,
+}
+
+/// An attach; or, for an odd number, where there was an attach, the detach of any of those so far.
+#[inline(never)]
+fn event(source: &Source, drawn: usize, attaches: usize) -> Result<StackEvent, AllocError> {
+    if attaches > 0 && drawn % 2 == 1 {
+        Ok(StackEvent::Detach(drawn / 2 % attaches))
+    } else if drawn % 4 == 0 {
+        Ok(StackEvent::Attach(clone_of(&source.named)?))
+    } else {
+        Ok(StackEvent::Attach(clone_of(&source.remote)?))
+    }
+}
+
+#[inline(never)]
+fn events(source: &Source) -> Result<Vec<StackEvent>, AllocError> {
+    let mut random = Random::new();
+    let mut events = Vec::new(source.alloc);
+    let mut attaches = 0usize;
+    for _ in 0..source.size {
+        let event = event(source, random.next(), attaches)?;
+        if matches!(&event, StackEvent::Attach(_)) {
+            attaches = attaches.wrapping_add(1);
+        }
+        events.push(event)?;
+    }
+    Ok(events)
+}
+
+#[inline(never)]
+fn let_go_events(events: Vec<StackEvent>, sum: &mut u64) {
+    add(sum, events.len());
+}
+
+#[inline(never)]
+fn let_go_report(report: RunReport, sum: &mut u64) {
+    if report.injected.is_ok() {
+        add(sum, 1);
+    }
+}
+
+/// A run of all events. To make them is part of it, since a run takes them by value.
+#[derive(Drop)]
+struct Running {
+    source: Source,
+    composite: TextMapCompositePropagator,
+}
+
+impl Operation for Running {
+    fn once(&mut self, sum: &mut u64) -> Result<(), AllocError> {
+        let events = events(&self.source)?;
+        let mut carrier = HashMap::new(self.source.alloc);
+        let report = carry::run(self.source.alloc, events, &self.composite, &mut carrier)?;
+        let_go_report(report, sum);
+        let_go(carrier, sum);
+        Ok(())
+    }
+}
+
+/// What of a run is the making of its events, and letting them go.
+#[derive(Drop)]
+struct Making(Source);
+
+impl Operation for Making {
+    fn once(&mut self, sum: &mut u64) -> Result<(), AllocError> {
+        let_go_events(events(&self.0)?, sum);
+        Ok(())
+    }
+}

@@ -1,0 +1,165 @@
+//! Operations on trace states.
+use crate::operation::{Operation, Task, add, repeat};
+use opentelemetry::trace::TraceState;
+use std::alloc::{AllocError, Global};
+
+pub fn play(task: &Task<'_>, alloc: Global) -> Result<Option<u64>, AllocError> {
+    let text = text(alloc, task.size)?;
+    let state = read(alloc, text.as_str())?;
+    let times = task.times;
+    match task.name {
+        "state_read" => repeat(Reading { alloc, text }, times),
+        "state_read_header" => repeat(ReadingAndPrinting { alloc, text }, times),
+        "state_header" => repeat(Printing { alloc, state }, times),
+        "state_clone" => repeat(Copying(state), times),
+        "state_get_last" => {
+            let key = format!(in alloc; "key{}", task.size.saturating_sub(1))?;
+            repeat(Getting { state, key }, times)
+        }
+        "state_insert" => repeat(Inserting { alloc, state }, times),
+        "state_delete" => repeat(Deleting { alloc, state }, times),
+        _ => Ok(None),
+    }
+}
+
+/// So many pairs, `key0=value0` and so on.
+#[inline(never)]
+fn text(alloc: Global, size: usize) -> Result<String, AllocError> {
+    let mut text = String::new(alloc);
+    for number in 0..size {
+        if number > 0 {
+            text.push_str(",")?;
+        }
+        let pair = format!(in alloc; "key{number}=value{number}")?;
+        text.push_str(pair.as_str())?;
+    }
+    Ok(text)
+}
+
+#[inline(never)]
+fn read(alloc: Global, text: &str) -> Result<TraceState, AllocError> {
+    TraceState::from_str(alloc, text).map_err(|_| AllocError)
+}
+
+#[inline(never)]
+fn let_go(state: TraceState) {
+    drop(state);
+}
+
+#[inline(never)]
+fn print(alloc: Global, state: &TraceState, sum: &mut u64) -> Result<(), AllocError> {
+    let text = state.header(alloc)?;
+    add(sum, text.len());
+    Ok(())
+}
+
+#[inline(never)]
+fn clone_of(state: &TraceState) -> Result<TraceState, AllocError> {
+    state.clone()
+}
+
+#[inline(never)]
+fn look_up(state: &TraceState, key: &str, sum: &mut u64) {
+    if let Some(value) = state.get(key) {
+        add(sum, value.len());
+    }
+}
+
+#[inline(never)]
+fn inserted(alloc: Global, state: &TraceState) -> Result<TraceState, AllocError> {
+    state.insert(alloc, "key5", "other").map_err(|_| AllocError)
+}
+
+#[inline(never)]
+fn deleted(alloc: Global, state: &TraceState) -> Result<TraceState, AllocError> {
+    state.delete(alloc, "key5").map_err(|_| AllocError)
+}
+
+#[derive(Drop)]
+struct Reading {
+    alloc: Global,
+    text: String,
+}
+
+impl Operation for Reading {
+    fn once(&mut self, _sum: &mut u64) -> Result<(), AllocError> {
+        let_go(read(self.alloc, self.text.as_str())?);
+        Ok(())
+    }
+}
+
+#[derive(Drop)]
+struct ReadingAndPrinting {
+    alloc: Global,
+    text: String,
+}
+
+impl Operation for ReadingAndPrinting {
+    fn once(&mut self, sum: &mut u64) -> Result<(), AllocError> {
+        let state = read(self.alloc, self.text.as_str())?;
+        print(self.alloc, &state, sum)?;
+        let_go(state);
+        Ok(())
+    }
+}
+
+#[derive(Drop)]
+struct Printing {
+    alloc: Global,
+    state: TraceState,
+}
+
+impl Operation for Printing {
+    fn once(&mut self, sum: &mut u64) -> Result<(), AllocError> {
+        print(self.alloc, &self.state, sum)
+    }
+}
+
+#[derive(Drop)]
+struct Copying(TraceState);
+
+impl Operation for Copying {
+    fn once(&mut self, _sum: &mut u64) -> Result<(), AllocError> {
+        let_go(clone_of(&self.0)?);
+        Ok(())
+    }
+}
+
+#[derive(Drop)]
+struct Getting {
+    state: TraceState,
+    key: String,
+}
+
+impl Operation for Getting {
+    fn once(&mut self, sum: &mut u64) -> Result<(), AllocError> {
+        look_up(&self.state, self.key.as_str(), sum);
+        Ok(())
+    }
+}
+
+#[derive(Drop)]
+struct Inserting {
+    alloc: Global,
+    state: TraceState,
+}
+
+impl Operation for Inserting {
+    fn once(&mut self, _sum: &mut u64) -> Result<(), AllocError> {
+        let_go(inserted(self.alloc, &self.state)?);
+        Ok(())
+    }
+}
+
+#[derive(Drop)]
+struct Deleting {
+    alloc: Global,
+    state: TraceState,
+}
+
+impl Operation for Deleting {
+    fn once(&mut self, _sum: &mut u64) -> Result<(), AllocError> {
+        let_go(deleted(self.alloc, &self.state)?);
+        Ok(())
+    }
+}

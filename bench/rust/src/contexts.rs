@@ -1,0 +1,98 @@
+//! Operations on contexts.
+use crate::task::Task;
+use opentelemetry::trace::{SpanContext, TraceContextExt, TraceState};
+use opentelemetry::{Context, SpanId, TraceFlags, TraceId};
+use std::hint::black_box;
+use std::str::FromStr;
+
+/// The value that names a context.
+pub struct Name(pub String);
+
+/// Values beside it, each of a type of its own: a context has one value of a type.
+struct Extra<const NUMBER: usize>(#[allow(dead_code)] u64);
+
+struct Number(u64);
+
+pub fn play(task: &Task<'_>) -> Option<u64> {
+    match task.name {
+        "context_clone" => copy(task, &named()),
+        "context_clone_remote" => copy(task, &remote()),
+        "context_get" => {
+            let context = with_entries(task.size);
+            task.repeat(|| {
+                let found = black_box(&context).get::<Name>();
+                black_box(found.map_or(0, |name| name.0.len()))
+            })
+        }
+        "context_with_value" => {
+            let context = with_entries(task.size);
+            task.repeat(|| {
+                drop(black_box(black_box(&context).with_value(Number(1))));
+                0
+            })
+        }
+        "context_with_value_clone_get" => {
+            let context = with_entries(task.size);
+            task.repeat(|| {
+                let more = black_box(&context).with_value(Number(1));
+                let copy = black_box(&more).clone();
+                let found = black_box(&copy).get::<Number>();
+                black_box(found.map_or(0, |number| number.0 as usize))
+            })
+        }
+        _ => None,
+    }
+}
+
+/// A context with a name.
+pub fn named() -> Context {
+    Context::new().with_value(Name("request-name".to_string()))
+}
+
+/// That context with a remote span context, whose trace state has two pairs.
+pub fn remote() -> Context {
+    let state = TraceState::from_str("vendor=opaque-value,other@sys=1234").unwrap();
+    named().with_remote_span_context(SpanContext::new(
+        TraceId::from(1),
+        SpanId::from(1),
+        TraceFlags::SAMPLED,
+        true,
+        state,
+    ))
+}
+
+fn copy(task: &Task<'_>, context: &Context) -> Option<u64> {
+    task.repeat(|| {
+        drop(black_box(black_box(context).clone()));
+        0
+    })
+}
+
+/// The context with the value of type `Extra<NUMBER>`, where so many entries have room for it.
+fn extra<const NUMBER: usize>(context: Context, size: usize) -> Context {
+    if NUMBER < size {
+        context.with_value(Extra::<NUMBER>(1))
+    } else {
+        context
+    }
+}
+
+/// A context with so many values, at least its name, and at most 16.
+fn with_entries(size: usize) -> Context {
+    let mut context = named();
+    context = extra::<1>(context, size);
+    context = extra::<2>(context, size);
+    context = extra::<3>(context, size);
+    context = extra::<4>(context, size);
+    context = extra::<5>(context, size);
+    context = extra::<6>(context, size);
+    context = extra::<7>(context, size);
+    context = extra::<8>(context, size);
+    context = extra::<9>(context, size);
+    context = extra::<10>(context, size);
+    context = extra::<11>(context, size);
+    context = extra::<12>(context, size);
+    context = extra::<13>(context, size);
+    context = extra::<14>(context, size);
+    extra::<15>(context, size)
+}

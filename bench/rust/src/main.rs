@@ -1,0 +1,47 @@
+//! The operations of the port's program, on the Rust crate: the same names, sizes and sums.
+//!
+//! Standard input is one line, `NAME TIMES SIZE`: which operation is done, how many times, and how large what it is done on
+//! is. What is printed is a number that depends on what the calls gave.
+
+mod baggages;
+mod contexts;
+mod ids;
+mod injections;
+mod random;
+mod rounds;
+mod runs;
+mod stacks;
+mod states;
+mod task;
+
+use std::io::Read;
+use task::Task;
+
+/// What the operation of that name gave, where there is one.
+fn play(task: &Task<'_>) -> Option<u64> {
+    let (group, _) = task.name.split_once('_').unwrap_or((task.name, ""));
+    match group {
+        "context" => contexts::play(task),
+        "attach" | "push" => stacks::play(task),
+        "round" => rounds::play(task),
+        "state" => states::play(task),
+        "baggage" => baggages::play(task),
+        "inject" => injections::play(task),
+        "run" => runs::play(task),
+        "id" => ids::play(task),
+        _ => None,
+    }
+}
+
+fn main() -> std::io::Result<()> {
+    let mut line = String::new();
+    std::io::stdin().read_to_string(&mut line)?;
+    match Task::read(line.trim_end()) {
+        None => println!("NAME TIMES SIZE"),
+        Some(task) => match play(&task) {
+            Some(sum) => println!("{sum}"),
+            None => println!("no such operation"),
+        },
+    }
+    Ok(())
+}

@@ -1,0 +1,29 @@
+//! Single attaches, each removed at once. The crate's guard stands for the port's guard, and for its position too.
+use crate::contexts::{named, remote};
+use crate::task::Task;
+use opentelemetry::{Context, ContextGuard};
+use std::hint::black_box;
+
+pub fn play(task: &Task<'_>) -> Option<u64> {
+    let below: Vec<ContextGuard> = (0..task.size).map(|_| Context::new().attach()).collect();
+    let sum = match task.name {
+        "attach_empty" | "push_empty" => task.repeat(|| {
+            drop(black_box(black_box(Context::new()).attach()));
+            1
+        }),
+        "attach_cloned" | "push_cloned" => cloned(task, &named()),
+        "attach_remote" | "push_remote" => cloned(task, &remote()),
+        _ => None,
+    };
+    for guard in below.into_iter().rev() {
+        drop(guard);
+    }
+    sum
+}
+
+fn cloned(task: &Task<'_>, context: &Context) -> Option<u64> {
+    task.repeat(|| {
+        drop(black_box(black_box(context).clone().attach()));
+        1
+    })
+}
