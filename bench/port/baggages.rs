@@ -6,19 +6,23 @@ use std::alloc::{AllocError, Global};
 
 pub fn play(task: &Task<'_>, alloc: Global) -> Result<Option<u64>, AllocError> {
     let pairs = pairs(alloc, task.size)?;
-    let baggage = filled(alloc, &pairs)?;
-    let times = task.times;
     match task.name {
-        "baggage_insert" => repeat(Filling { alloc, pairs }, times),
-        "baggage_insert_to_string" => repeat(FillingAndPrinting { alloc, pairs }, times),
-        "baggage_copy_texts" => repeat(CopyingTexts(pairs), times),
-        "baggage_to_string" => repeat(Printing { alloc, baggage }, times),
-        "baggage_get_middle" => {
-            let key = format!(in alloc; "key{}", task.size / 2)?;
-            repeat(Getting { baggage, key }, times)
-        }
+        "baggage_insert" => repeat(Filling { alloc, pairs }, task.times),
+        "baggage_insert_to_string" => repeat(FillingAndPrinting { alloc, pairs }, task.times),
+        "baggage_copy_texts" => repeat(CopyingTexts(pairs), task.times),
+        "baggage_to_string" => print_all(alloc, filled(alloc, &pairs)?, task.times),
+        "baggage_get_middle" => get(alloc, filled(alloc, &pairs)?, task),
         _ => Ok(None),
     }
+}
+
+fn print_all(alloc: Global, baggage: Baggage, times: u64) -> Result<Option<u64>, AllocError> {
+    repeat(Printing { alloc, baggage }, times)
+}
+
+fn get(alloc: Global, baggage: Baggage, task: &Task<'_>) -> Result<Option<u64>, AllocError> {
+    let key = format!(in alloc; "key{}", task.size / 2)?;
+    repeat(Getting { baggage, key }, task.times)
 }
 
 /// So many pairs, `key0` and `value 0` and so on.

@@ -66,13 +66,16 @@ fn with_entries(alloc: Global, size: usize) -> Result<Context, AllocError> {
 }
 
 #[inline(never)]
-pub fn clone_of(context: &Context) -> Result<Context, AllocError> {
+fn clone_of(context: &Context) -> Result<Context, AllocError> {
     context.clone()
 }
 
+/// What a context is used for before it is let go.
 #[inline(never)]
-pub fn let_go(context: Context) {
-    drop(context);
+fn look_at(context: &Context, sum: &mut u64) {
+    if context.is_telemetry_suppressed() {
+        add(sum, 1);
+    }
 }
 
 #[inline(never)]
@@ -93,8 +96,9 @@ fn with_number(alloc: Global, context: &Context) -> Result<Context, AllocError> 
 struct Copying(Context);
 
 impl Operation for Copying {
-    fn once(&mut self, _sum: &mut u64) -> Result<(), AllocError> {
-        let_go(clone_of(&self.0)?);
+    fn once(&mut self, sum: &mut u64) -> Result<(), AllocError> {
+        let copy = clone_of(&self.0)?;
+        look_at(&copy, sum);
         Ok(())
     }
 }
@@ -116,8 +120,9 @@ struct Deriving {
 }
 
 impl Operation for Deriving {
-    fn once(&mut self, _sum: &mut u64) -> Result<(), AllocError> {
-        let_go(with_number(self.alloc, &self.context)?);
+    fn once(&mut self, sum: &mut u64) -> Result<(), AllocError> {
+        let more = with_number(self.alloc, &self.context)?;
+        look_at(&more, sum);
         Ok(())
     }
 }
@@ -134,8 +139,6 @@ impl Operation for DerivingAndGetting {
         let more = with_number(self.alloc, &self.context)?;
         let copy = clone_of(&more)?;
         look_up(&copy, "number", sum);
-        let_go(copy);
-        let_go(more);
         Ok(())
     }
 }

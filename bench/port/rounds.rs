@@ -1,8 +1,8 @@
 //! Rounds of many attaches, and then the removal of each, by positions: a vector of guards couldn't be let go.
-use crate::contexts::{clone_of, named};
+use crate::contexts::named;
 use crate::operation::{Operation, Task, repeat};
 use crate::random::mixed;
-use crate::stacks::{push, remove};
+use crate::stacks::{push_clone, push_empty, remove};
 use opentelemetry::context::{Context, ContextStack};
 use std::alloc::{AllocError, Global};
 
@@ -59,9 +59,9 @@ impl Operation for Rounds {
     fn once(&mut self, sum: &mut u64) -> Result<(), AllocError> {
         match &self.context {
             Some(context) => {
-                push_clones(&mut self.stack, &mut self.positions, context, self.size)?
+                push_all_clones(&mut self.stack, &mut self.positions, context, self.size)?
             }
-            None => push_empty(&mut self.stack, &mut self.positions, self.size)?,
+            None => push_all_empty(&mut self.stack, &mut self.positions, self.size)?,
         }
         match &self.removal {
             Removal::NewestFirst => remove_newest(&mut self.stack, &mut self.positions, sum),
@@ -74,27 +74,27 @@ impl Operation for Rounds {
 }
 
 #[inline(never)]
-fn push_empty(
+fn push_all_empty(
     stack: &mut ContextStack,
     positions: &mut Vec<u16>,
     size: usize,
 ) -> Result<(), AllocError> {
     for _ in 0..size {
-        let position = push(stack, Context::new())?;
+        let position = push_empty(stack)?;
         positions.push(position)?;
     }
     Ok(())
 }
 
 #[inline(never)]
-fn push_clones(
+fn push_all_clones(
     stack: &mut ContextStack,
     positions: &mut Vec<u16>,
     context: &Context,
     size: usize,
 ) -> Result<(), AllocError> {
     for _ in 0..size {
-        let position = push(stack, clone_of(context)?)?;
+        let position = push_clone(stack, context)?;
         positions.push(position)?;
     }
     Ok(())

@@ -1,5 +1,5 @@
 //! Runs of random attaches and detaches, and an injection at their end.
-use crate::contexts::{clone_of, named, remote};
+use crate::contexts::{named, remote};
 use crate::injections::{composite, let_go};
 use crate::operation::{Operation, Task, add, repeat};
 use crate::random::Random;
@@ -10,23 +10,16 @@ use std::alloc::{AllocError, Global};
 use std::collections::HashMap;
 
 pub fn play(task: &Task<'_>, alloc: Global) -> Result<Option<u64>, AllocError> {
-    let source = Source {
-        alloc,
-        named: named(alloc)?,
-        remote: remote(alloc)?,
-        size: task.size,
-    };
     match task.name {
-        "run_events" => repeat(
-            Running {
-                source,
-                composite: composite(alloc)?,
-            },
-            task.times,
-        ),
-        "run_make_events" => repeat(Making(source), task.times),
+        "run_events" => run(source_of(alloc, task.size)?, task.times),
+        "run_make_events" => repeat(Making(source_of(alloc, task.size)?), task.times),
         _ => Ok(None),
     }
+}
+
+fn run(source: Source, times: u64) -> Result<Option<u64>, AllocError> {
+    let composite = composite(source.alloc)?;
+    repeat(Running { source, composite }, times)
 }
 
 /// Where events come from: so many of them, whose attaches are of one of these contexts.
@@ -38,15 +31,25 @@ struct Source {
     size: usize,
 }
 
+fn source_of(alloc: Global, size: usize) -> Result<Source, AllocError> {
+    let named = named(alloc)?;
+    let remote = remote(alloc)?;
+    Ok(Source {
+        alloc,
+        named,
+        remote,
+        size,
+    })
+}
+
 /// An attach; or, for an odd number, where there was an attach, the detach of any of those so far.
-#[inline(never)]
 fn event(source: &Source, drawn: usize, attaches: usize) -> Result<StackEvent, AllocError> {
     if attaches > 0 && drawn % 2 == 1 {
         Ok(StackEvent::Detach(drawn / 2 % attaches))
     } else if drawn % 4 == 0 {
-        Ok(StackEvent::Attach(clone_of(&source.named)?))
+        Ok(StackEvent::Attach(source.named.clone()?))
     } else {
-        Ok(StackEvent::Attach(clone_of(&source.remote)?))
+        Ok(StackEvent::Attach(source.remote.clone()?))
     }
 }
 

@@ -1,36 +1,37 @@
 //! Single attaches, each removed at once.
-use crate::contexts::{clone_of, named, remote};
+use crate::contexts::{named, remote};
 use crate::operation::{Operation, Task, add, repeat};
 use opentelemetry::context::{Context, ContextGuard, ContextStack};
 use std::alloc::{AllocError, Global};
 
 pub fn play(task: &Task<'_>, alloc: Global) -> Result<Option<u64>, AllocError> {
-    let stack = stack_of(alloc, task.size)?;
     match task.name {
-        "attach_empty" => repeat(AttachingEmpty(stack), task.times),
-        "attach_cloned" => attach_cloned(stack, named(alloc)?, task.times),
-        "attach_remote" => attach_cloned(stack, remote(alloc)?, task.times),
-        "push_empty" => repeat(PushingEmpty(stack), task.times),
-        "push_cloned" => push_cloned(stack, named(alloc)?, task.times),
-        "push_remote" => push_cloned(stack, remote(alloc)?, task.times),
+        "attach_empty" => repeat(AttachingEmpty(stack_of(alloc, task.size)?), task.times),
+        "attach_cloned" => attach_clones(task, alloc, named(alloc)?),
+        "attach_remote" => attach_clones(task, alloc, remote(alloc)?),
+        "push_empty" => repeat(PushingEmpty(stack_of(alloc, task.size)?), task.times),
+        "push_cloned" => push_clones(task, alloc, named(alloc)?),
+        "push_remote" => push_clones(task, alloc, remote(alloc)?),
         _ => Ok(None),
     }
 }
 
-fn attach_cloned(
-    stack: ContextStack,
+fn attach_clones(
+    task: &Task<'_>,
+    alloc: Global,
     context: Context,
-    times: u64,
 ) -> Result<Option<u64>, AllocError> {
-    repeat(AttachingClones { stack, context }, times)
+    let stack = stack_of(alloc, task.size)?;
+    repeat(AttachingClones { stack, context }, task.times)
 }
 
-fn push_cloned(
-    stack: ContextStack,
+fn push_clones(
+    task: &Task<'_>,
+    alloc: Global,
     context: Context,
-    times: u64,
 ) -> Result<Option<u64>, AllocError> {
-    repeat(PushingClones { stack, context }, times)
+    let stack = stack_of(alloc, task.size)?;
+    repeat(PushingClones { stack, context }, task.times)
 }
 
 /// A stack with so many attachments of the empty context.
@@ -38,14 +39,19 @@ fn push_cloned(
 fn stack_of(alloc: Global, size: usize) -> Result<ContextStack, AllocError> {
     let mut stack = ContextStack::new(alloc)?;
     for _ in 0..size {
-        push(&mut stack, Context::new())?;
+        push_empty(&mut stack)?;
     }
     Ok(stack)
 }
 
 #[inline(never)]
-fn attach(stack: &mut ContextStack, context: Context) -> Result<ContextGuard, AllocError> {
-    stack.attach(context)
+fn attach_empty(stack: &mut ContextStack) -> Result<ContextGuard, AllocError> {
+    stack.attach(Context::new())
+}
+
+#[inline(never)]
+fn attach_clone(stack: &mut ContextStack, context: &Context) -> Result<ContextGuard, AllocError> {
+    stack.attach(context.clone()?)
 }
 
 #[inline(never)]
@@ -56,8 +62,13 @@ fn detach(stack: &mut ContextStack, guard: ContextGuard, sum: &mut u64) {
 }
 
 #[inline(never)]
-pub fn push(stack: &mut ContextStack, context: Context) -> Result<u16, AllocError> {
-    stack.push(context)
+pub fn push_empty(stack: &mut ContextStack) -> Result<u16, AllocError> {
+    stack.push(Context::new())
+}
+
+#[inline(never)]
+pub fn push_clone(stack: &mut ContextStack, context: &Context) -> Result<u16, AllocError> {
+    stack.push(context.clone()?)
 }
 
 #[inline(never)]
@@ -72,7 +83,7 @@ struct AttachingEmpty(ContextStack);
 
 impl Operation for AttachingEmpty {
     fn once(&mut self, sum: &mut u64) -> Result<(), AllocError> {
-        let guard = attach(&mut self.0, Context::new())?;
+        let guard = attach_empty(&mut self.0)?;
         detach(&mut self.0, guard, sum);
         Ok(())
     }
@@ -86,8 +97,7 @@ struct AttachingClones {
 
 impl Operation for AttachingClones {
     fn once(&mut self, sum: &mut u64) -> Result<(), AllocError> {
-        let copy = clone_of(&self.context)?;
-        let guard = attach(&mut self.stack, copy)?;
+        let guard = attach_clone(&mut self.stack, &self.context)?;
         detach(&mut self.stack, guard, sum);
         Ok(())
     }
@@ -98,7 +108,7 @@ struct PushingEmpty(ContextStack);
 
 impl Operation for PushingEmpty {
     fn once(&mut self, sum: &mut u64) -> Result<(), AllocError> {
-        let position = push(&mut self.0, Context::new())?;
+        let position = push_empty(&mut self.0)?;
         remove(&mut self.0, position, sum);
         Ok(())
     }
@@ -112,8 +122,7 @@ struct PushingClones {
 
 impl Operation for PushingClones {
     fn once(&mut self, sum: &mut u64) -> Result<(), AllocError> {
-        let copy = clone_of(&self.context)?;
-        let position = push(&mut self.stack, copy)?;
+        let position = push_clone(&mut self.stack, &self.context)?;
         remove(&mut self.stack, position, sum);
         Ok(())
     }

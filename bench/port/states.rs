@@ -4,22 +4,39 @@ use opentelemetry::trace::TraceState;
 use std::alloc::{AllocError, Global};
 
 pub fn play(task: &Task<'_>, alloc: Global) -> Result<Option<u64>, AllocError> {
-    let text = text(alloc, task.size)?;
-    let state = read(alloc, text.as_str())?;
-    let times = task.times;
     match task.name {
-        "state_read" => repeat(Reading { alloc, text }, times),
-        "state_read_header" => repeat(ReadingAndPrinting { alloc, text }, times),
-        "state_header" => repeat(Printing { alloc, state }, times),
-        "state_clone" => repeat(Copying(state), times),
-        "state_get_last" => {
-            let key = format!(in alloc; "key{}", task.size.saturating_sub(1))?;
-            repeat(Getting { state, key }, times)
+        "state_read" => {
+            let text = text(alloc, task.size)?;
+            repeat(Reading { alloc, text }, task.times)
         }
-        "state_insert" => repeat(Inserting { alloc, state }, times),
-        "state_delete" => repeat(Deleting { alloc, state }, times),
+        "state_read_header" => {
+            let text = text(alloc, task.size)?;
+            repeat(ReadingAndPrinting { alloc, text }, task.times)
+        }
+        _ => play_on(task, alloc, state_of(alloc, task.size)?),
+    }
+}
+
+/// The operations on a state that is there.
+fn play_on(task: &Task<'_>, alloc: Global, state: TraceState) -> Result<Option<u64>, AllocError> {
+    match task.name {
+        "state_header" => repeat(Printing { alloc, state }, task.times),
+        "state_clone" => repeat(Copying(state), task.times),
+        "state_get_last" => get(alloc, state, task),
+        "state_insert" => repeat(Inserting { alloc, state }, task.times),
+        "state_delete" => repeat(Deleting { alloc, state }, task.times),
         _ => Ok(None),
     }
+}
+
+fn get(alloc: Global, state: TraceState, task: &Task<'_>) -> Result<Option<u64>, AllocError> {
+    let key = format!(in alloc; "key{}", task.size.saturating_sub(1))?;
+    repeat(Getting { state, key }, task.times)
+}
+
+fn state_of(alloc: Global, size: usize) -> Result<TraceState, AllocError> {
+    let text = text(alloc, size)?;
+    read(alloc, text.as_str())
 }
 
 /// So many pairs, `key0=value0` and so on.

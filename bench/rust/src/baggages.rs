@@ -39,7 +39,9 @@ pub fn play(task: &Task<'_>) -> Option<u64> {
 
 /// So many pairs, `key0` and `value 0` and so on.
 fn pairs(size: usize) -> Vec<(String, String)> {
-    (0..size).map(|number| (format!("key{number}"), format!("value {number}"))).collect()
+    (0..size)
+        .map(|number| (format!("key{number}"), format!("value {number}")))
+        .collect()
 }
 
 fn filled(pairs: &[(String, String)]) -> Baggage {

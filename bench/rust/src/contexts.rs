@@ -26,10 +26,7 @@ pub fn play(task: &Task<'_>) -> Option<u64> {
         }
         "context_with_value" => {
             let context = with_entries(task.size);
-            task.repeat(|| {
-                drop(black_box(black_box(&context).with_value(Number(1))));
-                0
-            })
+            task.repeat(|| look_at(&black_box(&context).with_value(Number(1))))
         }
         "context_with_value_clone_get" => {
             let context = with_entries(task.size);
@@ -61,11 +58,14 @@ pub fn remote() -> Context {
     ))
 }
 
+/// What a context is used for before it is let go.
+#[inline(never)]
+fn look_at(context: &Context) -> usize {
+    usize::from(black_box(context).is_telemetry_suppressed())
+}
+
 fn copy(task: &Task<'_>, context: &Context) -> Option<u64> {
-    task.repeat(|| {
-        drop(black_box(black_box(context).clone()));
-        0
-    })
+    task.repeat(|| look_at(&black_box(context).clone()))
 }
 
 /// The context with the value of type `Extra<NUMBER>`, where so many entries have room for it.

@@ -47,6 +47,8 @@ fn read(text: &str) -> TraceState {
 
 /// So many pairs, `key0=value0` and so on.
 fn text(size: usize) -> String {
-    let pairs: Vec<String> = (0..size).map(|number| format!("key{number}=value{number}")).collect();
+    let pairs: Vec<String> = (0..size)
+        .map(|number| format!("key{number}=value{number}"))
+        .collect();
     pairs.join(",")
 }
