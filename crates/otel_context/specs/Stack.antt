@@ -9,7 +9,7 @@ abbrev pub Live : Type 0
 Live = List (ℕ × ContextRecord)
 
 -- what contracts see of a stack: the live attachments, how many attaches were accepted, and how many emptied slots were stepped over
--- No running program holds the two counts (own).
+-- No running program holds the two counts. A removal finds the neighbours of its position in the slot, looks at no emptied one, and so leaves `stepped` (own).
 pub record StackState : Type 0 where
   pub live : Live
   pub accepted : ℕ
@@ -69,7 +69,7 @@ attached context stack = record {
 abbrev pub emptied_of : Live → ℕ
 emptied_of live = length (filter (λ p. not (is_live p live)) (range_with_len 1 (newest_of live)))
 
--- how many emptied slots stand between the newest, at `p`, and the one that is newest without it (own)
+-- how many emptied slots stand between the newest, at `p`, and the one that is newest without it: how many a removal would step over that looked for it slot by slot (own)
 -- of 4 in (1, A) ∷ (4, D) ∷ []: 2, as positions 2 and 3 are emptied; of 1: 0
 abbrev pub step_of : ℕ → Live → ℕ
 step_of p live = if p == newest_of live then p - 1 - newest_of (without p live) else 0
