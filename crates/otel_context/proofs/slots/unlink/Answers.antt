@@ -1,4 +1,4 @@
-use Rattle.std.proofs.Common.{◌<◌, false, length, refl, ◌∙◌, arith}
+use Rattle.std.proofs.Common.{◌<◌, length, refl, ◌∙◌, arith}
 use Rattle.std.specs.Prelude.{slice_set}
 use Rattle.std.proofs.lemmas.List.{length-set}
 use Rattle.otel_context.specs.Fields.{record_of}
