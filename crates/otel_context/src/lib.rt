@@ -5,6 +5,7 @@ pub mod baggage;
 mod context;
 mod counter;
 mod current;
+mod entries;
 mod guard;
 pub mod laws;
 mod parts;
