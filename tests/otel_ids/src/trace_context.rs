@@ -118,12 +118,30 @@ const TRACE_ID_FAULTS: &[(&str, IntErrorKind)] = &[
     ("-1", IntErrorKind::InvalidDigit),
     ("g", IntErrorKind::InvalidDigit),
     ("\u{e9}", IntErrorKind::InvalidDigit),
-    ("0123456789abcdef+123456789abcdef", IntErrorKind::InvalidDigit),
-    ("0123456789abcdef0123456789abcdeg", IntErrorKind::InvalidDigit),
-    ("0123456789abcde\u{e9}123456789abcdef", IntErrorKind::InvalidDigit),
-    ("100000000000000000000000000000000", IntErrorKind::PosOverflow),
-    ("+100000000000000000000000000000000", IntErrorKind::PosOverflow),
-    ("1000000000000000000000000000000000g", IntErrorKind::PosOverflow),
+    (
+        "0123456789abcdef+123456789abcdef",
+        IntErrorKind::InvalidDigit,
+    ),
+    (
+        "0123456789abcdef0123456789abcdeg",
+        IntErrorKind::InvalidDigit,
+    ),
+    (
+        "0123456789abcde\u{e9}123456789abcdef",
+        IntErrorKind::InvalidDigit,
+    ),
+    (
+        "100000000000000000000000000000000",
+        IntErrorKind::PosOverflow,
+    ),
+    (
+        "+100000000000000000000000000000000",
+        IntErrorKind::PosOverflow,
+    ),
+    (
+        "1000000000000000000000000000000000g",
+        IntErrorKind::PosOverflow,
+    ),
 ];
 
 /// A text that is no id of a span, and why.
@@ -141,11 +159,17 @@ const SPAN_ID_FAULTS: &[(&str, IntErrorKind)] = &[
 fn the_kind_of_an_error_is_why_the_text_is_no_id(rt: HostRuntime) {
     for (text, kind) in TRACE_ID_FAULTS {
         let read = TraceId::from_hex(text);
-        assert!(rt; matches!(&read, Err(error) if error.kind() == kind), "of {text}");
+        assert!(rt;
+            matches!(&read, Err(error) if error.kind() == kind),
+            "of {text}"
+        );
     }
     for (text, kind) in SPAN_ID_FAULTS {
         let read = SpanId::from_hex(text);
-        assert!(rt; matches!(&read, Err(error) if error.kind() == kind), "of {text}");
+        assert!(rt;
+            matches!(&read, Err(error) if error.kind() == kind),
+            "of {text}"
+        );
     }
 }
 
@@ -153,12 +177,18 @@ fn the_kind_of_an_error_is_why_the_text_is_no_id(rt: HostRuntime) {
 fn a_plus_may_stand_before_the_digits(rt: HostRuntime) -> Result<(), Fail> {
     let digits = "0123456789abcdef0123456789abcdef";
     let id = TraceId::from_hex(digits)?;
-    assert_eq!(rt; id, TraceId::from(0x0123_4567_89ab_cdef_0123_4567_89ab_cdef));
+    assert_eq!(rt;
+        id,
+        TraceId::from(0x0123_4567_89ab_cdef_0123_4567_89ab_cdef)
+    );
     let text = format!(in rt.alloc(); "+{digits}")?;
     assert_eq!(rt; TraceId::from_hex(text.as_str())?, id);
     // 32 bytes, of which 31 are digits.
     assert_eq!(rt; TraceId::from_hex("+123456789abcdef0123456789abcdef")?, id);
-    assert_eq!(rt; SpanId::from_hex("+23456789abcdef0")?, SpanId::from(0x0234_5678_9abc_def0));
+    assert_eq!(rt;
+        SpanId::from_hex("+23456789abcdef0")?,
+        SpanId::from(0x0234_5678_9abc_def0)
+    );
     Ok(())
 }
 

@@ -212,7 +212,10 @@ fn a_state_is_printed_for_debugging(rt: HostRuntime) -> Result<(), Fail> {
     let state = TraceState::from_str(rt.alloc(), "a=1,b=2")?;
     let mut walk = state.iter();
     let text = format!(in rt.alloc(); "{state:?} {walk:?}")?;
-    assert_eq!(rt; text.as_str(), r#"TraceState("a=1,b=2") TraceStateIter("a=1,b=2")"#);
+    assert_eq!(rt;
+        text.as_str(),
+        r#"TraceState("a=1,b=2") TraceStateIter("a=1,b=2")"#
+    );
     walk.next();
     let one = format!(in rt.alloc(); "{walk:?}")?;
     walk.next();
