@@ -3,6 +3,7 @@ use Rattle.std.specs.Prelude.{ℕ, List, [], ◌∷◌, true, false, Option, Som
 use Rattle.std.specs.Option.{option_map_or}
 use Rattle.std.specs.FinMap as map
 use Rattle.otel_ids.specs.Reading.{Pair}
+use Rattle.otel_ids.specs.SpanContext.{SpanContextRecord}
 use Rattle.otel_ids.specs.State.{header}
 use Rattle.otel_base.specs.Tree.{Tree, whole, text, truth, bytes, list, map as map_tree}
 use Rattle.otel_context.specs.Context.{ContextRecord, span_context_of}
@@ -36,15 +37,16 @@ pairs_of_state (p ∷ ps) = (codes "tracestate", header (p ∷ ps)) ∷ []
 abbrev pub state_pairs : ContextRecord → Pairs
 state_pairs context = pairs_of_state (span_context_of context).trace_state
 
--- The context of an attach: the empty one with the entry `name`, and where a trace state is given with a remote span
--- context whose ids are both `id` and whose one flag is `sampled` (own).
+-- the span context of an attach with this trace state: it is remote, its ids are both `id`, and its one flag is `sampled` (own)
+abbrev pub span_context_for : List Pair → ℕ → SpanContextRecord
+span_context_for state id = record { trace_id = id; span_id = id; trace_flags = 1; is_remote = true; trace_state = state }
+
+-- The context of an attach: the empty one with the entry `name`, and where a trace state is given with the span context
+-- of that state (own).
 abbrev pub context_for : List ℕ → Option (List Pair) → ℕ → ContextRecord
 context_for name state id = record {
   entries = map.insert map.empty (codes "name") (text name);
   baggage = None;
-  span = option_map (λ pairs. record {
-    context = record { trace_id = id; span_id = id; trace_flags = 1; is_remote = true; trace_state = pairs };
-    number = None;
-  }) state;
+  span = option_map (λ pairs. record { context = span_context_for pairs id; number = None }) state;
   suppressed = false;
 }

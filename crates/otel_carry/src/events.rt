@@ -1,7 +1,7 @@
 //! The events that the lines of the input ask for.
 ghost use Rattle.std.specs.Prelude.{◌≡◌, ◌<◌, ◌-◌, ◌^◌, IfOk, IfErr};
 ghost use Rattle.otel_carry.specs.Events.{AreRead, AsksFor, IsFaultIn, IsTold};
-ghost use Rattle.otel_carry.specs.Members.{context_for};
+ghost use Rattle.otel_carry.specs.Members.{context_for, span_context_for};
 
 use crate::failure::Failure;
 use crate::lines::{Fault, Line, parse};
@@ -73,13 +73,13 @@ fn context_of(
     let Some(state) = state else {
         return Ok(context);
     };
+    context.with_remote_span_context(alloc, span_context_of(state, id))
+}
+
+/// The span context of the attach of this trace state; `id` is 1 for the first attach.
+fn span_context_of(state: TraceState, id: u64) -> SpanContext
+    ensures { result ≡ span_context_for state id }
+{
     let trace_id = TraceId::from(u128::from(id));
-    let span_context = SpanContext::new(
-        trace_id,
-        SpanId::from(id),
-        TraceFlags::SAMPLED,
-        true,
-        state,
-    );
-    context.with_remote_span_context(alloc, span_context)
+    SpanContext::new(trace_id, SpanId::from(id), TraceFlags::SAMPLED, true, state)
 }
