@@ -9,37 +9,31 @@ const INITIAL_ROOM: u16 = 8;
 /// So many attachments that a stack has to take room for them.
 const MANY: u16 = 100;
 
-pub fn play<R: Print>(alloc: Global, lines: &mut Lines<'_, R>) {
+pub fn play<R: Print>(alloc: Global, lines: &Lines<'_, R>) {
     if lines.begin("stack-new") {
         new(alloc, lines);
     }
     if lines.begin("stack-first-room") {
-        let set_up = first_room(alloc, lines);
-        lines.end(set_up);
+        lines.end(first_room(alloc, lines));
     }
     if lines.begin("stack-push") {
-        let set_up = push(alloc, lines);
-        lines.end(set_up);
+        lines.end(push(alloc, lines));
     }
     if lines.begin("stack-push-again") {
-        let set_up = push_again(alloc, lines);
-        lines.end(set_up);
+        lines.end(push_again(alloc, lines));
     }
     if lines.begin("stack-attach") {
-        let set_up = attach(alloc, lines);
-        lines.end(set_up);
+        lines.end(attach(alloc, lines));
     }
     if lines.begin("stack-attach-again") {
-        let set_up = attach_again(alloc, lines);
-        lines.end(set_up);
+        lines.end(attach_again(alloc, lines));
     }
     if lines.begin("stack-enter-telemetry-suppressed-scope") {
-        let set_up = enter(alloc, lines);
-        lines.end(set_up);
+        lines.end(enter(alloc, lines));
     }
 }
 
-fn new<R: Print>(alloc: Global, lines: &mut Lines<'_, R>) {
+fn new<R: Print>(alloc: Global, lines: &Lines<'_, R>) {
     match ContextStack::new(alloc) {
         Ok(stack) => lines.answer(&stack.newest_position()),
         Err(error) => lines.answer(&error),
@@ -47,10 +41,10 @@ fn new<R: Print>(alloc: Global, lines: &mut Lines<'_, R>) {
 }
 
 /// After a stack is made eight attaches take no memory.
-fn first_room<R: Print>(alloc: Global, lines: &mut Lines<'_, R>) -> Result<(), AllocError> {
+fn first_room<R: Print>(alloc: Global, lines: &Lines<'_, R>) -> Result<(), AllocError> {
     let mut stack = ContextStack::new(alloc)?;
     for _ in 0..INITIAL_ROOM {
-        lines.free_of(&stack.push(Context::new()));
+        lines.free_of(stack.push(Context::new()));
     }
     Ok(())
 }
@@ -98,11 +92,11 @@ fn unwound(stack: &mut ContextStack, count: u16) -> bool {
 }
 
 /// Pushes until the stack has no room left and can't get any: what was attached before is all there then.
-fn push<R: Print>(alloc: Global, lines: &mut Lines<'_, R>) -> Result<(), AllocError> {
+fn push<R: Print>(alloc: Global, lines: &Lines<'_, R>) -> Result<(), AllocError> {
     let suppressed = Context::new().with_telemetry_suppressed(alloc)?;
     let mut stack = ContextStack::new(alloc)?;
     let (count, last) = filled(&mut stack, &suppressed);
-    lines.answer_of(&last);
+    lines.answer_of(last);
     lines.due(unwound(&mut stack, count));
     Ok(())
 }
@@ -117,17 +111,26 @@ fn emptied(stack: &mut ContextStack, count: u16) -> bool {
     stands(stack, 0, false)
 }
 
+/// Fills and empties the stack, and fills it again.
+fn refilled<R: Print>(
+    lines: &Lines<'_, R>,
+    stack: &mut ContextStack,
+    suppressed: &Context,
+) -> Result<(), AllocError> {
+    let (count, last) = filled(stack, suppressed);
+    last?;
+    lines.free(&emptied(stack, count));
+    let (count, last) = filled(stack, suppressed);
+    lines.free_of(last);
+    lines.free(&unwound(stack, count));
+    Ok(())
+}
+
 /// A stack keeps the room that it took: as many pushes take no memory again.
-fn push_again<R: Print>(alloc: Global, lines: &mut Lines<'_, R>) -> Result<(), AllocError> {
+fn push_again<R: Print>(alloc: Global, lines: &Lines<'_, R>) -> Result<(), AllocError> {
     let suppressed = Context::new().with_telemetry_suppressed(alloc)?;
     let mut stack = ContextStack::new(alloc)?;
-    let (count, last) = filled(&mut stack, &suppressed);
-    last?;
-    lines.free(&emptied(&mut stack, count));
-    let (count, last) = filled(&mut stack, &suppressed);
-    lines.free_of(&last);
-    lines.free(&unwound(&mut stack, count));
-    Ok(())
+    refilled(lines, &mut stack, &suppressed)
 }
 
 /// How a context is attached.
@@ -179,31 +182,40 @@ fn nested(stack: &mut ContextStack, way: &Way<'_>, depth: u16) -> (Result<u16, A
     }
 }
 
-fn attach<R: Print>(alloc: Global, lines: &mut Lines<'_, R>) -> Result<(), AllocError> {
+fn attach<R: Print>(alloc: Global, lines: &Lines<'_, R>) -> Result<(), AllocError> {
     let suppressed = Context::new().with_telemetry_suppressed(alloc)?;
     let mut stack = ContextStack::new(alloc)?;
     let (answer, is_due) = nested(&mut stack, &Way::Given(&suppressed), MANY);
-    lines.answer_of(&answer);
+    lines.answer_of(answer);
     lines.due(is_due);
     Ok(())
 }
 
-/// As many attaches take no memory again.
-fn attach_again<R: Print>(alloc: Global, lines: &mut Lines<'_, R>) -> Result<(), AllocError> {
-    let suppressed = Context::new().with_telemetry_suppressed(alloc)?;
-    let mut stack = ContextStack::new(alloc)?;
-    let (answer, _) = nested(&mut stack, &Way::Given(&suppressed), MANY);
+/// Attaches and detaches that many, and does so again.
+fn nested_again<R: Print>(
+    lines: &Lines<'_, R>,
+    stack: &mut ContextStack,
+    way: &Way<'_>,
+) -> Result<(), AllocError> {
+    let (answer, _) = nested(stack, way, MANY);
     answer?;
-    let (answer, is_due) = nested(&mut stack, &Way::Given(&suppressed), MANY);
-    lines.free_of(&answer);
+    let (answer, is_due) = nested(stack, way, MANY);
+    lines.free_of(answer);
     lines.free(&is_due);
     Ok(())
 }
 
-fn enter<R: Print>(alloc: Global, lines: &mut Lines<'_, R>) -> Result<(), AllocError> {
+/// As many attaches take no memory again.
+fn attach_again<R: Print>(alloc: Global, lines: &Lines<'_, R>) -> Result<(), AllocError> {
+    let suppressed = Context::new().with_telemetry_suppressed(alloc)?;
+    let mut stack = ContextStack::new(alloc)?;
+    nested_again(lines, &mut stack, &Way::Given(&suppressed))
+}
+
+fn enter<R: Print>(alloc: Global, lines: &Lines<'_, R>) -> Result<(), AllocError> {
     let mut stack = ContextStack::new(alloc)?;
     let (answer, is_due) = nested(&mut stack, &Way::Suppressed, MANY);
-    lines.answer_of(&answer);
+    lines.answer_of(answer);
     lines.due(is_due);
     Ok(())
 }

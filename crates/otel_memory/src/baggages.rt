@@ -5,71 +5,69 @@ use otel_base::{Key, KeyValue, StringValue, Value};
 use otel_context::baggage::{Baggage, BaggageMetadata, KeyValueMetadata};
 use std::alloc::{AllocError, Global};
 
-pub fn play<R: Print>(alloc: Global, lines: &mut Lines<'_, R>) {
+pub fn play<R: Print>(alloc: Global, lines: &Lines<'_, R>) {
     if lines.begin("baggage-metadata") {
-        let set_up = metadata(alloc, lines);
-        lines.end(set_up);
+        lines.end(metadata(alloc, lines));
+    }
+    if lines.begin("baggage-from-key-value") {
+        from_key_value(alloc, lines);
     }
     if lines.begin("baggage-key-value-metadata") {
-        let set_up = key_value_metadata(alloc, lines);
-        lines.end(set_up);
+        lines.end(key_value_metadata(alloc, lines));
     }
     if lines.begin("baggage-insert") {
-        let set_up = insert(alloc, lines);
-        lines.end(set_up);
+        lines.end(insert(alloc, lines));
     }
     if lines.begin("baggage-insert-with-metadata") {
-        let set_up = insert_with_metadata(alloc, lines);
-        lines.end(set_up);
+        lines.end(insert_with_metadata(alloc, lines));
     }
     play_made(alloc, lines);
     if lines.begin("baggage-in-place") {
-        let set_up = in_place(alloc, lines);
-        lines.end(set_up);
+        lines.end(in_place(alloc, lines));
     }
 }
 
-fn play_made<R: Print>(alloc: Global, lines: &mut Lines<'_, R>) {
+fn play_made<R: Print>(alloc: Global, lines: &Lines<'_, R>) {
     if lines.begin("baggage-from-pairs") {
-        let set_up = from_pairs(alloc, lines);
-        lines.end(set_up);
+        lines.end(from_pairs(alloc, lines));
     }
     if lines.begin("baggage-from-key-values") {
-        let set_up = from_key_values(alloc, lines);
-        lines.end(set_up);
+        lines.end(from_key_values(alloc, lines));
     }
     if lines.begin("baggage-from-key-values-with-metadata") {
-        let set_up = from_key_values_with_metadata(alloc, lines);
-        lines.end(set_up);
+        lines.end(from_key_values_with_metadata(alloc, lines));
     }
 }
 
-fn metadata<R: Print>(alloc: Global, lines: &mut Lines<'_, R>) -> Result<(), AllocError> {
+fn metadata<R: Print>(alloc: Global, lines: &Lines<'_, R>) -> Result<(), AllocError> {
     let metadata = BaggageMetadata::new(alloc, "n")?;
-    lines.answer_of(&BaggageMetadata::new(alloc, " m=1 "));
-    lines.answer_of(&metadata.clone());
+    lines.answer_of(BaggageMetadata::new(alloc, " m=1 "));
+    lines.answer_of(metadata.clone());
     lines.receiver(&metadata);
     lines.free(&BaggageMetadata::default());
     Ok(())
 }
 
 fn answer<R: Print>(
-    lines: &mut Lines<'_, R>,
+    lines: &Lines<'_, R>,
     made: &str,
-    answer: &Result<KeyValueMetadata, AllocError>,
+    answer: Result<KeyValueMetadata, AllocError>,
 ) {
     match answer {
         Ok(_) => lines.answer(&made),
-        Err(error) => lines.answer(error),
+        Err(error) => lines.answer(&error),
     }
 }
 
-fn key_value_metadata<R: Print>(alloc: Global, lines: &mut Lines<'_, R>) -> Result<(), AllocError> {
+fn from_key_value<R: Print>(alloc: Global, lines: &Lines<'_, R>) {
     let pair = KeyValue::new(Key::from("k"), Value::I64(7));
-    answer(lines, "k=7", &KeyValueMetadata::from_key_value(alloc, pair));
+    answer(lines, "k=7", KeyValueMetadata::from_key_value(alloc, pair));
+}
+
+fn key_value_metadata<R: Print>(alloc: Global, lines: &Lines<'_, R>) -> Result<(), AllocError> {
     let text = StringValue::from(String::from_str(alloc, "v")?);
     let triple = KeyValueMetadata::new(Key::from("k"), text, BaggageMetadata::default());
-    answer(lines, "a copy", &triple.clone());
+    answer(lines, "a copy", triple.clone());
     Ok(())
 }
 
@@ -81,7 +79,7 @@ fn is_as_made(baggage: &Baggage) -> bool {
     }
 }
 
-fn insert<R: Print>(alloc: Global, lines: &mut Lines<'_, R>) -> Result<(), AllocError> {
+fn insert<R: Print>(alloc: Global, lines: &Lines<'_, R>) -> Result<(), AllocError> {
     let mut held = baggage(alloc, "k", "v")?;
     match held.insert(Key::from("j"), StringValue::from("w")) {
         Ok(old) => {
@@ -96,10 +94,7 @@ fn insert<R: Print>(alloc: Global, lines: &mut Lines<'_, R>) -> Result<(), Alloc
     Ok(())
 }
 
-fn insert_with_metadata<R: Print>(
-    alloc: Global,
-    lines: &mut Lines<'_, R>,
-) -> Result<(), AllocError> {
+fn insert_with_metadata<R: Print>(alloc: Global, lines: &Lines<'_, R>) -> Result<(), AllocError> {
     let metadata = BaggageMetadata::new(alloc, "m")?;
     let mut held = baggage(alloc, "k", "v")?;
     match held.insert_with_metadata(Key::from("j"), StringValue::from("w"), metadata) {
@@ -115,40 +110,58 @@ fn insert_with_metadata<R: Print>(
     Ok(())
 }
 
-fn from_pairs<R: Print>(alloc: Global, lines: &mut Lines<'_, R>) -> Result<(), AllocError> {
+/// The pairs `a=1`, `a b=2` and `c=3`.
+fn pairs(alloc: Global) -> Result<Vec<(Key, (StringValue, BaggageMetadata))>, AllocError> {
     let mut pairs = Vec::new(alloc);
     for (key, value) in [("a", "1"), ("a b", "2"), ("c", "3")] {
         let value = (StringValue::from(value), BaggageMetadata::default());
         pairs.push((Key::from(key), value))?;
     }
-    lines.answer_of(&Baggage::from_pairs(alloc, pairs));
+    Ok(pairs)
+}
+
+fn from_pairs<R: Print>(alloc: Global, lines: &Lines<'_, R>) -> Result<(), AllocError> {
+    let pairs = pairs(alloc)?;
+    lines.answer_of(Baggage::from_pairs(alloc, pairs));
     Ok(())
 }
 
-fn from_key_values<R: Print>(alloc: Global, lines: &mut Lines<'_, R>) -> Result<(), AllocError> {
+/// The attributes `a=1`, `b=2` and `a=3`.
+fn key_values(alloc: Global) -> Result<Vec<KeyValue>, AllocError> {
     let mut pairs = Vec::new(alloc);
     for (key, number) in [("a", 1), ("b", 2), ("a", 3)] {
         pairs.push(KeyValue::new(Key::from(key), Value::I64(number)))?;
     }
-    lines.answer_of(&Baggage::from_key_values(alloc, pairs));
+    Ok(pairs)
+}
+
+fn from_key_values<R: Print>(alloc: Global, lines: &Lines<'_, R>) -> Result<(), AllocError> {
+    let pairs = key_values(alloc)?;
+    lines.answer_of(Baggage::from_key_values(alloc, pairs));
     Ok(())
 }
 
-fn from_key_values_with_metadata<R: Print>(
-    alloc: Global,
-    lines: &mut Lines<'_, R>,
-) -> Result<(), AllocError> {
+/// The triples `foo=1` and `bar=2` with the metadata `red;state=on`.
+fn triples(alloc: Global) -> Result<Vec<KeyValueMetadata>, AllocError> {
     let mut triples = Vec::new(alloc);
     for (key, value) in [("foo", "1"), ("bar", "2")] {
         let metadata = BaggageMetadata::new(alloc, "red;state=on")?;
         triples.push(KeyValueMetadata::new(Key::from(key), StringValue::from(value), metadata))?;
     }
-    lines.answer_of(&Baggage::from_key_values_with_metadata(alloc, triples));
+    Ok(triples)
+}
+
+fn from_key_values_with_metadata<R: Print>(
+    alloc: Global,
+    lines: &Lines<'_, R>,
+) -> Result<(), AllocError> {
+    let triples = triples(alloc)?;
+    lines.answer_of(Baggage::from_key_values_with_metadata(alloc, triples));
     Ok(())
 }
 
 /// Inserts that change no more than what is there: a replacement, and a key that isn't accepted.
-fn replaced<R: Print>(lines: &mut Lines<'_, R>, held: &mut Baggage) {
+fn replaced<R: Print>(lines: &Lines<'_, R>, held: &mut Baggage) {
     match held.insert(Key::from("k"), StringValue::from("w")) {
         Ok(Some(old)) => lines.free(&(old.as_str() == "v")),
         Ok(None) => lines.free(&false),
@@ -160,13 +173,17 @@ fn replaced<R: Print>(lines: &mut Lines<'_, R>, held: &mut Baggage) {
     }
 }
 
-fn in_place<R: Print>(alloc: Global, lines: &mut Lines<'_, R>) -> Result<(), AllocError> {
+fn in_place<R: Print>(alloc: Global, lines: &Lines<'_, R>) -> Result<(), AllocError> {
     let mut held = baggage(alloc, "k", "v")?;
     replaced(lines, &mut held);
+    looked_at(lines, &mut held);
+    Ok(())
+}
+
+fn looked_at<R: Print>(lines: &Lines<'_, R>, held: &mut Baggage) {
     lines.free(&held.get("k").is_some());
     lines.free(&held.get_with_metadata("j").is_none());
-    lines.free(&held);
+    lines.free(held);
     lines.free(&held.remove("k").is_some());
     lines.free(&held.len());
-    Ok(())
 }

@@ -7,34 +7,27 @@ use otel_context::baggage::Baggage;
 use otel_ids::{SpanContext, SpanId, TraceFlags, TraceId, TraceState};
 use std::alloc::{AllocError, Global};
 
-pub fn play<R: Print>(alloc: Global, lines: &mut Lines<'_, R>) {
+pub fn play<R: Print>(alloc: Global, lines: &Lines<'_, R>) {
     if lines.begin("context-with-value") {
-        let set_up = with_value(alloc, lines);
-        lines.end(set_up);
+        lines.end(with_value(alloc, lines));
     }
     if lines.begin("context-with-baggage") {
-        let set_up = with_baggage(alloc, lines);
-        lines.end(set_up);
+        lines.end(with_baggage(alloc, lines));
     }
     if lines.begin("context-with-cleared-baggage") {
-        let set_up = with_cleared_baggage(alloc, lines);
-        lines.end(set_up);
+        lines.end(with_cleared_baggage(alloc, lines));
     }
     if lines.begin("context-with-remote-span-context") {
-        let set_up = with_remote_span_context(alloc, lines);
-        lines.end(set_up);
+        lines.end(with_remote_span_context(alloc, lines));
     }
     if lines.begin("context-with-telemetry-suppressed") {
-        let set_up = with_telemetry_suppressed(alloc, lines);
-        lines.end(set_up);
+        lines.end(with_telemetry_suppressed(alloc, lines));
     }
     if lines.begin("context-clone") {
-        let set_up = copy(alloc, lines);
-        lines.end(set_up);
+        lines.end(copy(alloc, lines));
     }
     if lines.begin("context-looks") {
-        let set_up = looks(alloc, lines);
-        lines.end(set_up);
+        lines.end(looks(alloc, lines));
     }
 }
 
@@ -73,66 +66,63 @@ pub fn full(alloc: Global) -> Result<Context, AllocError> {
 }
 
 /// Prints the answer of a derivation.
-pub fn answer<R: Print>(lines: &mut Lines<'_, R>, answer: &Result<Context, AllocError>) {
+pub fn answer<R: Print>(lines: &Lines<'_, R>, answer: Result<Context, AllocError>) {
     match answer {
-        Ok(context) => lines.answer(&Parts(context)),
-        Err(error) => lines.answer(error),
+        Ok(context) => lines.answer(&Parts(&context)),
+        Err(error) => lines.answer(&error),
     }
 }
 
-fn with_value<R: Print>(alloc: Global, lines: &mut Lines<'_, R>) -> Result<(), AllocError> {
+fn with_value<R: Print>(alloc: Global, lines: &Lines<'_, R>) -> Result<(), AllocError> {
     let key = Key::new(String::from_str(alloc, "b")?);
     let context = full(alloc)?;
-    answer(lines, &context.with_value(alloc, key, AnyValue::Int(2)));
+    answer(lines, context.with_value(alloc, key, AnyValue::Int(2)));
     answer(
         lines,
-        &context.with_value(alloc, Key::from("a"), AnyValue::Int(3)),
+        context.with_value(alloc, Key::from("a"), AnyValue::Int(3)),
     );
     lines.receiver(&Parts(&context));
     Ok(())
 }
 
-fn with_baggage<R: Print>(alloc: Global, lines: &mut Lines<'_, R>) -> Result<(), AllocError> {
+fn with_baggage<R: Print>(alloc: Global, lines: &Lines<'_, R>) -> Result<(), AllocError> {
     let context = full(alloc)?;
     let other = baggage(alloc, "j", "w")?;
-    answer(lines, &context.with_baggage(alloc, other));
+    answer(lines, context.with_baggage(alloc, other));
     lines.receiver(&Parts(&context));
     Ok(())
 }
 
-fn with_cleared_baggage<R: Print>(
-    alloc: Global,
-    lines: &mut Lines<'_, R>,
-) -> Result<(), AllocError> {
+fn with_cleared_baggage<R: Print>(alloc: Global, lines: &Lines<'_, R>) -> Result<(), AllocError> {
     let context = full(alloc)?;
-    answer(lines, &context.with_cleared_baggage(alloc));
+    answer(lines, context.with_cleared_baggage(alloc));
     lines.receiver(&Parts(&context));
     Ok(())
 }
 
 fn with_remote_span_context<R: Print>(
     alloc: Global,
-    lines: &mut Lines<'_, R>,
+    lines: &Lines<'_, R>,
 ) -> Result<(), AllocError> {
     let context = full(alloc)?;
     let other = span_context(alloc, 2)?;
-    answer(lines, &context.with_remote_span_context(alloc, other));
+    answer(lines, context.with_remote_span_context(alloc, other));
     lines.receiver(&Parts(&context));
     Ok(())
 }
 
 fn with_telemetry_suppressed<R: Print>(
     alloc: Global,
-    lines: &mut Lines<'_, R>,
+    lines: &Lines<'_, R>,
 ) -> Result<(), AllocError> {
     let context = full(alloc)?;
-    answer(lines, &context.with_telemetry_suppressed(alloc));
+    answer(lines, context.with_telemetry_suppressed(alloc));
     lines.receiver(&Parts(&context));
     Ok(())
 }
 
 /// Clones of a context and of a span context take no memory.
-fn copy<R: Print>(alloc: Global, lines: &mut Lines<'_, R>) -> Result<(), AllocError> {
+fn copy<R: Print>(alloc: Global, lines: &Lines<'_, R>) -> Result<(), AllocError> {
     let context = full(alloc)?;
     match context.clone() {
         Ok(copy) => lines.free(&Parts(&copy)),
@@ -146,7 +136,7 @@ fn copy<R: Print>(alloc: Global, lines: &mut Lines<'_, R>) -> Result<(), AllocEr
     Ok(())
 }
 
-fn looks<R: Print>(alloc: Global, lines: &mut Lines<'_, R>) -> Result<(), AllocError> {
+fn looks<R: Print>(alloc: Global, lines: &Lines<'_, R>) -> Result<(), AllocError> {
     let context = full(alloc)?;
     lines.free(&Parts(&Context::new()));
     lines.free(&context.get("b").is_none());

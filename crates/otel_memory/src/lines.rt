@@ -1,5 +1,6 @@
 //! The lines that the scenarios print.
 use std::alloc::AllocError;
+use std::cell::Cell;
 use std::fmt::Display;
 
 /// The output of the scenarios, and the name of the one that is wanted. Nothing here takes memory.
@@ -7,7 +8,7 @@ use std::fmt::Display;
 pub struct Lines<'a, R> {
     rt: &'a R,
     wanted: &'a str,
-    is_written: bool,
+    is_written: Cell<bool>,
 }
 
 impl<'a, R: Print> Lines<'a, R> {
@@ -16,72 +17,72 @@ impl<'a, R: Print> Lines<'a, R> {
         Lines {
             rt,
             wanted,
-            is_written: true,
+            is_written: Cell::new(true),
         }
     }
 
     /// Whether every line so far was written.
     pub fn is_written(&self) -> bool {
-        self.is_written
+        self.is_written.get()
     }
 
     /// Prints the heading of a scenario, where it is wanted. The answer is whether it is.
-    pub fn begin(&mut self, name: &str) -> bool {
+    pub fn begin(&self, name: &str) -> bool {
         if !self.wanted.is_empty() && self.wanted != name {
             return false;
         }
         if println!(self.rt; "== {name}").is_err() {
-            self.is_written = false;
+            self.is_written.set(false);
         }
         true
     }
 
     /// Ends a scenario. One that couldn't get the memory of what it begins with says so.
-    pub fn end(&mut self, set_up: Result<(), AllocError>) {
+    pub fn end(&self, set_up: Result<(), AllocError>) {
         if set_up.is_err() {
             self.line("set-up", &"no memory");
         }
     }
 
     /// Prints the answer of a call that takes memory.
-    pub fn answer<T: Display>(&mut self, answer: &T) {
+    pub fn answer<T: Display>(&self, answer: &T) {
         self.line("answer", answer);
     }
 
     /// Prints the answer of a call that takes memory, or its error.
-    pub fn answer_of<T: Display, E: Display>(&mut self, answer: &Result<T, E>) {
+    pub fn answer_of<T: Display + Drop, E: Display + Drop>(&self, answer: Result<T, E>) {
         match answer {
-            Ok(answer) => self.line("answer", answer),
-            Err(error) => self.line("answer", error),
+            Ok(answer) => self.line("answer", &answer),
+            Err(error) => self.line("answer", &error),
         }
     }
 
     /// Prints what a call was lent, as it is afterwards.
-    pub fn receiver<T: Display>(&mut self, value: &T) {
+    pub fn receiver<T: Display>(&self, value: &T) {
         self.line("receiver", value);
     }
 
     /// Prints whether what a call was lent is as it should be after the call's answer: after an error, as it was before.
-    pub fn due(&mut self, is_due: bool) {
+    pub fn due(&self, is_due: bool) {
         self.line("receiver", if is_due { &"as due" } else { &"not as due" });
     }
 
     /// Prints the answer of a call that takes no memory.
-    pub fn free<T: Display>(&mut self, value: &T) {
+    pub fn free<T: Display>(&self, value: &T) {
         self.line("free", value);
     }
 
     /// Prints the answer of a call that takes no memory, or the error that it never gives.
-    pub fn free_of<T: Display, E: Display>(&mut self, answer: &Result<T, E>) {
+    pub fn free_of<T: Display + Drop, E: Display + Drop>(&self, answer: Result<T, E>) {
         match answer {
-            Ok(answer) => self.line("free", answer),
-            Err(error) => self.line("free", error),
+            Ok(answer) => self.line("free", &answer),
+            Err(error) => self.line("free", &error),
         }
     }
 
-    fn line<T: Display>(&mut self, kind: &str, value: &T) {
+    fn line<T: Display>(&self, kind: &str, value: &T) {
         if println!(self.rt; "{kind}: {value}").is_err() {
-            self.is_written = false;
+            self.is_written.set(false);
         }
     }
 }

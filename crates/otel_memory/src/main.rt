@@ -25,16 +25,16 @@ fn main(rt: HostRuntime) -> io::Result<()> {
     let mut room = [0u8; ROOM];
     let count = rt.stdin().read(&mut room)?;
     let wanted = str::from_utf8(&room[..count]).unwrap_or("").trim_end();
-    let mut lines = Lines::new(&rt, wanted);
+    let lines = Lines::new(&rt, wanted);
     let alloc = rt.alloc();
-    trace_states::play(alloc, &mut lines);
-    values::play(alloc, &mut lines);
-    scopes::play(alloc, &mut lines);
-    baggages::play(alloc, &mut lines);
-    contexts::play(alloc, &mut lines);
-    attaches::play(alloc, &mut lines);
-    stacks::play(alloc, &mut lines);
-    propagations::play(alloc, &mut lines);
+    trace_states::play(alloc, &lines);
+    values::play(alloc, &lines);
+    scopes::play(alloc, &lines);
+    baggages::play(alloc, &lines);
+    contexts::play(alloc, &lines);
+    attaches::play(alloc, &lines);
+    stacks::play(alloc, &lines);
+    propagations::play(alloc, &lines);
     if lines.is_written() {
         Ok(())
     } else {

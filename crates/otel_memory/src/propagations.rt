@@ -8,26 +8,21 @@ use opentelemetry::propagation::{
 use std::alloc::{AllocError, Global};
 use std::collections::HashMap;
 
-pub fn play<R: Print>(alloc: Global, lines: &mut Lines<'_, R>) {
+pub fn play<R: Print>(alloc: Global, lines: &Lines<'_, R>) {
     if lines.begin("carrier-set") {
-        let set_up = set(alloc, lines);
-        lines.end(set_up);
+        lines.end(set(alloc, lines));
     }
     if lines.begin("carrier-reserve") {
-        let set_up = reserve(alloc, lines);
-        lines.end(set_up);
+        lines.end(reserve(alloc, lines));
     }
     if lines.begin("composite-new") {
-        let set_up = new(alloc, lines);
-        lines.end(set_up);
+        lines.end(new(alloc, lines));
     }
     if lines.begin("composite-inject-context") {
-        let set_up = inject_context(alloc, lines);
-        lines.end(set_up);
+        lines.end(inject_context(alloc, lines));
     }
     if lines.begin("composite-inject") {
-        let set_up = inject(alloc, lines);
-        lines.end(set_up);
+        lines.end(inject(alloc, lines));
     }
 }
 
@@ -37,12 +32,6 @@ struct Stamp {
     alloc: Global,
     key: &'static str,
     value: &'static str,
-}
-
-impl Stamp {
-    fn new(alloc: Global, key: &'static str, value: &'static str) -> Stamp {
-        Stamp { alloc, key, value }
-    }
 }
 
 impl TextMapPropagator for Stamp {
@@ -85,7 +74,7 @@ fn is_beginning(carrier: &HashMap<String, String>, len: usize) -> bool {
         && (len < 3 || holds(carrier, "y", "2"))
 }
 
-fn set<R: Print>(alloc: Global, lines: &mut Lines<'_, R>) -> Result<(), AllocError> {
+fn set<R: Print>(alloc: Global, lines: &Lines<'_, R>) -> Result<(), AllocError> {
     let value = String::from_str(alloc, "1")?;
     let mut carrier = carrier(alloc)?;
     match Injector::set(&mut carrier, "X", value) {
@@ -102,16 +91,17 @@ fn set<R: Print>(alloc: Global, lines: &mut Lines<'_, R>) -> Result<(), AllocErr
 }
 
 /// A hint takes memory or none: what the carrier holds stays.
-fn reserve<R: Print>(alloc: Global, lines: &mut Lines<'_, R>) -> Result<(), AllocError> {
+fn reserve<R: Print>(alloc: Global, lines: &Lines<'_, R>) -> Result<(), AllocError> {
     let mut carrier = carrier(alloc)?;
     Injector::reserve(&mut carrier, 1000);
     lines.free(&is_beginning(&carrier, 1));
     Ok(())
 }
 
-fn new<R: Print>(alloc: Global, lines: &mut Lines<'_, R>) -> Result<(), AllocError> {
+fn new<R: Print>(alloc: Global, lines: &Lines<'_, R>) -> Result<(), AllocError> {
     let mut members: Vec<Box<dyn TextMapPropagator>> = Vec::new(alloc);
-    members.push(Box::new(alloc, Stamp::new(alloc, "X", "1"))?)?;
+    let (key, value) = ("X", "1");
+    members.push(Box::new(alloc, Stamp { alloc, key, value })?)?;
     let answer = TextMapCompositePropagator::new(alloc, members);
     lines.free(&answer.is_ok());
     Ok(())
@@ -120,7 +110,7 @@ fn new<R: Print>(alloc: Global, lines: &mut Lines<'_, R>) -> Result<(), AllocErr
 /// Lets the members inject the current context of the stack, or the empty one, and prints what they gave. The carrier
 /// holds all that they set then, or after an error a beginning.
 fn injected<R: Print>(
-    lines: &mut Lines<'_, R>,
+    lines: &Lines<'_, R>,
     composite: &TextMapCompositePropagator,
     stack: Option<&ContextStack>,
     carrier: &mut HashMap<String, String>,
@@ -144,23 +134,24 @@ fn injected<R: Print>(
 /// Makes a composite of a member that sets `x` and one that sets `y`, and lets it inject.
 fn injected_by_two<R: Print>(
     alloc: Global,
-    lines: &mut Lines<'_, R>,
+    lines: &Lines<'_, R>,
     stack: Option<&ContextStack>,
 ) -> Result<(), AllocError> {
-    let mut carrier = carrier(alloc)?;
     let mut members: Vec<Box<dyn TextMapPropagator>> = Vec::new(alloc);
-    members.push(Box::new(alloc, Stamp::new(alloc, "X", "1"))?)?;
-    members.push(Box::new(alloc, Stamp::new(alloc, "y", "2"))?)?;
+    for (key, value) in [("X", "1"), ("y", "2")] {
+        members.push(Box::new(alloc, Stamp { alloc, key, value })?)?;
+    }
     let composite = TextMapCompositePropagator::new(alloc, members)?;
+    let mut carrier = carrier(alloc)?;
     injected(lines, &composite, stack, &mut carrier);
     Ok(())
 }
 
-fn inject_context<R: Print>(alloc: Global, lines: &mut Lines<'_, R>) -> Result<(), AllocError> {
+fn inject_context<R: Print>(alloc: Global, lines: &Lines<'_, R>) -> Result<(), AllocError> {
     injected_by_two(alloc, lines, None)
 }
 
-fn inject<R: Print>(alloc: Global, lines: &mut Lines<'_, R>) -> Result<(), AllocError> {
+fn inject<R: Print>(alloc: Global, lines: &Lines<'_, R>) -> Result<(), AllocError> {
     let stack = stack_of_full(alloc)?;
     injected_by_two(alloc, lines, Some(&stack))
 }

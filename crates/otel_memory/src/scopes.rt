@@ -6,17 +6,17 @@ use otel_base::{
 };
 use std::alloc::{AllocError, Global};
 
-pub fn play<R: Print>(alloc: Global, lines: &mut Lines<'_, R>) {
+pub fn play<R: Print>(alloc: Global, lines: &Lines<'_, R>) {
     if lines.begin("scope-build") {
-        let set_up = build(alloc, lines);
-        lines.end(set_up);
+        lines.end(build(alloc, lines));
     }
     if lines.begin("scope-clone") {
-        let set_up = copy(alloc, lines);
-        lines.end(set_up);
+        lines.end(copy(alloc, lines));
     }
     if lines.begin("scope-without-attributes") {
-        without_attributes(alloc, lines);
+        if let Err(error) = without_attributes(alloc, lines) {
+            lines.free(&error);
+        }
     }
 }
 
@@ -36,7 +36,7 @@ fn builder(attributes: Vec<KeyValue>) -> InstrumentationScopeBuilder {
         .with_attributes(attributes)
 }
 
-fn build<R: Print>(alloc: Global, lines: &mut Lines<'_, R>) -> Result<(), AllocError> {
+fn build<R: Print>(alloc: Global, lines: &Lines<'_, R>) -> Result<(), AllocError> {
     let attributes = attributes(alloc)?;
     match builder(attributes).build(alloc) {
         Ok(scope) => lines.answer(&Scope(&scope)),
@@ -45,33 +45,42 @@ fn build<R: Print>(alloc: Global, lines: &mut Lines<'_, R>) -> Result<(), AllocE
     Ok(())
 }
 
-fn copy<R: Print>(alloc: Global, lines: &mut Lines<'_, R>) -> Result<(), AllocError> {
-    let attributes = attributes(alloc)?;
-    let scope = builder(attributes).build(alloc)?;
+fn cloned<R: Print>(lines: &Lines<'_, R>, scope: &InstrumentationScope) {
     match scope.clone() {
-        Ok(copy) => lines.answer(&(copy == scope)),
+        Ok(copy) => lines.answer(&(copy == *scope)),
         Err(error) => lines.answer(&error),
     }
-    lines.receiver(&Scope(&scope));
+    lines.receiver(&Scope(scope));
+}
+
+fn copy<R: Print>(alloc: Global, lines: &Lines<'_, R>) -> Result<(), AllocError> {
+    let attributes = attributes(alloc)?;
+    let scope = builder(attributes).build(alloc)?;
+    cloned(lines, &scope);
     Ok(())
 }
 
-/// The name of a scope without attributes, given none or the empty list.
-fn bare<R: Print>(lines: &mut Lines<'_, R>, answer: &Result<InstrumentationScope, AllocError>) {
-    match answer {
-        Ok(scope) => lines.free(&scope.name()),
-        Err(error) => lines.free(error),
+/// A scope that was given no attributes, or the empty list.
+fn bare(alloc: Global, has_list: bool) -> Result<InstrumentationScope, AllocError> {
+    let mut builder = InstrumentationScope::builder(StringValue::from("m"));
+    if has_list {
+        builder = builder.with_attributes(Vec::new(alloc));
     }
+    builder.build(alloc)
 }
 
-fn without_attributes<R: Print>(alloc: Global, lines: &mut Lines<'_, R>) {
-    let none = InstrumentationScope::builder(StringValue::from("m")).build(alloc);
-    let empty = InstrumentationScope::builder(StringValue::from("m"))
-        .with_attributes(Vec::new(alloc))
-        .build(alloc);
-    bare(lines, &none);
-    bare(lines, &empty);
-    if let (Ok(none), Ok(empty)) = (&none, &empty) {
-        lines.free(&(none == empty));
-    }
+fn equal<R: Print>(
+    lines: &Lines<'_, R>,
+    scope: &InstrumentationScope,
+    other: &InstrumentationScope,
+) {
+    lines.free(&scope.name());
+    lines.free(&(scope == other));
+}
+
+fn without_attributes<R: Print>(alloc: Global, lines: &Lines<'_, R>) -> Result<(), AllocError> {
+    let scope = bare(alloc, false)?;
+    let other = bare(alloc, true)?;
+    equal(lines, &scope, &other);
+    Ok(())
 }

@@ -1,7 +1,8 @@
 //! How values of the libraries are printed without taking memory.
-use otel_base::{AnyValue, InstrumentationScope};
+use otel_base::{AnyValue, InstrumentationScope, Key};
 use otel_context::Context;
 use otel_ids::TraceState;
+use std::collections::BTreeMap;
 use std::fmt::{self, Display};
 
 /// Prints the pairs of a trace state.
@@ -25,23 +26,30 @@ pub struct Tree<'a>(pub &'a AnyValue);
 impl Display for Tree<'_> {
     fn fmt<W: fmt::Write>(&self, f: &mut fmt::Formatter<W>) -> fmt::Result {
         match self.0 {
-            AnyValue::ListAny(values) => {
-                f.write_str("[")?;
-                for value in values.as_slice() {
-                    write!(f, "{};", Leaf(value))?;
-                }
-                f.write_str("]")
-            }
-            AnyValue::Map(entries) => {
-                f.write_str("{")?;
-                for (key, value) in entries.iter() {
-                    write!(f, "{key}={};", Leaf(value))?;
-                }
-                f.write_str("}")
-            }
+            AnyValue::ListAny(values) => write_list(f, values.as_slice()),
+            AnyValue::Map(entries) => write_map(f, entries),
             leaf => Leaf(leaf).fmt(f),
         }
     }
+}
+
+fn write_list<W: fmt::Write>(f: &mut fmt::Formatter<W>, values: &[AnyValue]) -> fmt::Result {
+    f.write_str("[")?;
+    for value in values {
+        write!(f, "{};", Leaf(value))?;
+    }
+    f.write_str("]")
+}
+
+fn write_map<W: fmt::Write>(
+    f: &mut fmt::Formatter<W>,
+    entries: &BTreeMap<Key, AnyValue>,
+) -> fmt::Result {
+    f.write_str("{")?;
+    for (key, value) in entries.iter() {
+        write!(f, "{key}={};", Leaf(value))?;
+    }
+    f.write_str("}")
 }
 
 /// Prints a value tree, and of a list or map how long it is.

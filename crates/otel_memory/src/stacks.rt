@@ -7,22 +7,18 @@ use opentelemetry::context::{Context, ContextStack, HasCurrent};
 use opentelemetry::logs::AnyValue;
 use std::alloc::{AllocError, Global};
 
-pub fn play<R: Print>(alloc: Global, lines: &mut Lines<'_, R>) {
+pub fn play<R: Print>(alloc: Global, lines: &Lines<'_, R>) {
     if lines.begin("stack-current-with-value") {
-        let set_up = current_with_value(alloc, lines);
-        lines.end(set_up);
+        lines.end(current_with_value(alloc, lines));
     }
     if lines.begin("stack-current-with-baggage") {
-        let set_up = current_with_baggage(alloc, lines);
-        lines.end(set_up);
+        lines.end(current_with_baggage(alloc, lines));
     }
     if lines.begin("stack-looks") {
-        let set_up = looks(alloc, lines);
-        lines.end(set_up);
+        lines.end(looks(alloc, lines));
     }
     if lines.begin("stack-guard-of-another") {
-        let set_up = guard_of_another(alloc, lines);
-        lines.end(set_up);
+        lines.end(guard_of_another(alloc, lines));
     }
 }
 
@@ -34,23 +30,20 @@ pub fn stack_of_full(alloc: Global) -> Result<ContextStack, AllocError> {
     Ok(stack)
 }
 
-fn current_with_value<R: Print>(alloc: Global, lines: &mut Lines<'_, R>) -> Result<(), AllocError> {
+fn current_with_value<R: Print>(alloc: Global, lines: &Lines<'_, R>) -> Result<(), AllocError> {
     let stack = stack_of_full(alloc)?;
     answer(
         lines,
-        &stack.current_with_value(Key::from("b"), AnyValue::Int(2)),
+        stack.current_with_value(Key::from("b"), AnyValue::Int(2)),
     );
     lines.receiver(&Parts(stack.current()));
     Ok(())
 }
 
-fn current_with_baggage<R: Print>(
-    alloc: Global,
-    lines: &mut Lines<'_, R>,
-) -> Result<(), AllocError> {
+fn current_with_baggage<R: Print>(alloc: Global, lines: &Lines<'_, R>) -> Result<(), AllocError> {
     let stack = stack_of_full(alloc)?;
     let other = baggage(alloc, "j", "w")?;
-    answer(lines, &stack.current_with_baggage(other));
+    answer(lines, stack.current_with_baggage(other));
     lines.receiver(&Parts(stack.current()));
     Ok(())
 }
@@ -59,19 +52,23 @@ fn has_span(stack: &ContextStack) -> bool {
     stack.map_current(|context| context.has_active_span())
 }
 
-fn looks<R: Print>(alloc: Global, lines: &mut Lines<'_, R>) -> Result<(), AllocError> {
-    let mut stack = stack_of_full(alloc)?;
-    lines.free(&has_span(&stack));
+fn looked_at<R: Print>(lines: &Lines<'_, R>, stack: &mut ContextStack) {
+    lines.free(&has_span(stack));
     lines.free(&stack.is_current_telemetry_suppressed());
     lines.free(&stack.newest_position());
     lines.free(&stack.pop_id(2).is_none());
     lines.free(&stack.pop_id(1).is_some());
-    lines.free(&has_span(&stack));
+    lines.free(&has_span(stack));
+}
+
+fn looks<R: Print>(alloc: Global, lines: &Lines<'_, R>) -> Result<(), AllocError> {
+    let mut stack = stack_of_full(alloc)?;
+    looked_at(lines, &mut stack);
     Ok(())
 }
 
 /// A guard removes what is live at its position in the stack that it is given to.
-fn guard_of_another<R: Print>(alloc: Global, lines: &mut Lines<'_, R>) -> Result<(), AllocError> {
+fn guard_of_another<R: Print>(alloc: Global, lines: &Lines<'_, R>) -> Result<(), AllocError> {
     let mut other = stack_of_full(alloc)?;
     let mut stack = ContextStack::new(alloc)?;
     let guard = stack.attach(Context::new())?;

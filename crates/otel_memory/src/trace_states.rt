@@ -4,33 +4,28 @@ use crate::shown::State;
 use otel_ids::{TraceState, TraceStateError};
 use std::alloc::{AllocError, Global};
 
-pub fn play<R: Print>(alloc: Global, lines: &mut Lines<'_, R>) {
+pub fn play<R: Print>(alloc: Global, lines: &Lines<'_, R>) {
     if lines.begin("trace-state-from-str") {
-        answer(lines, &TraceState::from_str(alloc, " a=1 ,,\tb=2"));
+        answer(lines, TraceState::from_str(alloc, " a=1 ,,\tb=2"));
     }
     if lines.begin("trace-state-from-key-value") {
         let pairs = [("foo", ""), ("apple", "banana")];
-        answer(lines, &TraceState::from_key_value(alloc, &pairs));
+        answer(lines, TraceState::from_key_value(alloc, &pairs));
     }
     if lines.begin("trace-state-insert") {
-        let set_up = insert(alloc, lines);
-        lines.end(set_up);
+        lines.end(insert(alloc, lines));
     }
     if lines.begin("trace-state-delete") {
-        let set_up = delete(alloc, lines);
-        lines.end(set_up);
+        lines.end(delete(alloc, lines));
     }
     if lines.begin("trace-state-header") {
-        let set_up = header(alloc, lines);
-        lines.end(set_up);
+        lines.end(header(alloc, lines));
     }
     if lines.begin("trace-state-faults") {
-        let set_up = faults(alloc, lines);
-        lines.end(set_up);
+        lines.end(faults(alloc, lines));
     }
     if lines.begin("trace-state-looks") {
-        let set_up = looks(alloc, lines);
-        lines.end(set_up);
+        lines.end(looks(alloc, lines));
     }
 }
 
@@ -42,46 +37,46 @@ fn state(alloc: Global, text: &str) -> Result<TraceState, AllocError> {
     }
 }
 
-fn answer<R: Print>(lines: &mut Lines<'_, R>, answer: &Result<TraceState, TraceStateError>) {
+fn answer<R: Print>(lines: &Lines<'_, R>, answer: Result<TraceState, TraceStateError>) {
     match answer {
-        Ok(state) => lines.answer(&State(state)),
-        Err(error) => lines.answer(error),
+        Ok(state) => lines.answer(&State(&state)),
+        Err(error) => lines.answer(&error),
     }
 }
 
-fn insert<R: Print>(alloc: Global, lines: &mut Lines<'_, R>) -> Result<(), AllocError> {
+fn insert<R: Print>(alloc: Global, lines: &Lines<'_, R>) -> Result<(), AllocError> {
     let state = state(alloc, "a=1,b=2")?;
-    answer(lines, &state.insert(alloc, "b", "3"));
+    answer(lines, state.insert(alloc, "b", "3"));
     lines.receiver(&State(&state));
     Ok(())
 }
 
-fn delete<R: Print>(alloc: Global, lines: &mut Lines<'_, R>) -> Result<(), AllocError> {
+fn delete<R: Print>(alloc: Global, lines: &Lines<'_, R>) -> Result<(), AllocError> {
     let state = state(alloc, "a=1,b=2")?;
-    answer(lines, &state.delete(alloc, "a"));
+    answer(lines, state.delete(alloc, "a"));
     lines.receiver(&State(&state));
     Ok(())
 }
 
-fn header<R: Print>(alloc: Global, lines: &mut Lines<'_, R>) -> Result<(), AllocError> {
+fn header<R: Print>(alloc: Global, lines: &Lines<'_, R>) -> Result<(), AllocError> {
     let state = state(alloc, "a=1,b=2")?;
-    lines.answer_of(&state.header(alloc));
-    lines.answer_of(&state.header_delimited(alloc, ":", ";"));
+    lines.answer_of(state.header(alloc));
+    lines.answer_of(state.header_delimited(alloc, ":", ";"));
     lines.receiver(&State(&state));
     Ok(())
 }
 
-fn faults<R: Print>(alloc: Global, lines: &mut Lines<'_, R>) -> Result<(), AllocError> {
+fn faults<R: Print>(alloc: Global, lines: &Lines<'_, R>) -> Result<(), AllocError> {
     let state = state(alloc, "a=1")?;
-    answer(lines, &TraceState::from_str(alloc, "a=1,b"));
-    answer(lines, &state.insert(alloc, "A", "1"));
-    answer(lines, &state.insert(alloc, "b", "="));
+    answer(lines, TraceState::from_str(alloc, "a=1,b"));
+    answer(lines, state.insert(alloc, "A", "1"));
+    answer(lines, state.insert(alloc, "b", "="));
     lines.receiver(&State(&state));
     Ok(())
 }
 
 /// A text of blanks alone, and a clone, which shares the list.
-fn without_memory<R: Print>(alloc: Global, lines: &mut Lines<'_, R>, state: &TraceState) {
+fn without_memory<R: Print>(alloc: Global, lines: &Lines<'_, R>, state: &TraceState) {
     match TraceState::from_str(alloc, " ,\t, ") {
         Ok(empty) => lines.free(&(empty == TraceState::NONE)),
         Err(error) => lines.free(&error),
@@ -92,7 +87,7 @@ fn without_memory<R: Print>(alloc: Global, lines: &mut Lines<'_, R>, state: &Tra
     }
 }
 
-fn looks<R: Print>(alloc: Global, lines: &mut Lines<'_, R>) -> Result<(), AllocError> {
+fn looks<R: Print>(alloc: Global, lines: &Lines<'_, R>) -> Result<(), AllocError> {
     let state = state(alloc, "a=1,b=2")?;
     lines.free(&state.get("b").unwrap_or("none"));
     lines.free(&state.iter().len());
