@@ -10,8 +10,11 @@ use otel_ids::{TraceState, TraceStateError};
 use std::alloc::{AllocError, Global};
 
 /// The header of the trace state, or the text of the error.
-fn told(alloc: Global, answer: Result<TraceState, TraceStateError>) -> Result<String, AllocError> {
-    match answer {
+fn header_or_error(
+    alloc: Global,
+    outcome: Result<TraceState, TraceStateError>,
+) -> Result<String, AllocError> {
+    match outcome {
         Ok(state) => state.header(alloc),
         Err(TraceStateError::Memory(error)) => Err(error),
         Err(error) => format!(in alloc; "{error}"),

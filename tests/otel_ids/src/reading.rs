@@ -1,6 +1,6 @@
 //! Texts that are read as trace states.
 
-use crate::{has_bad_key, has_bad_value, numbered, told};
+use crate::{has_bad_key, has_bad_value, header_or_error, numbered};
 use otel_ids::{TraceState, TraceStateError};
 use std::alloc::{AllocError, Global};
 use std::test::Fail;
@@ -32,7 +32,7 @@ const HEADERS: &[(&str, &str)] = &[
 #[test]
 fn texts_read_as_these_headers(rt: HostRuntime) -> Result<(), Fail> {
     for (text, header) in HEADERS {
-        let read = told(rt.alloc(), TraceState::from_str(rt.alloc(), text))?;
+        let read = header_or_error(rt.alloc(), TraceState::from_str(rt.alloc(), text))?;
         assert_eq!(rt; read.as_str(), *header, "of {text}");
     }
     assert!(rt; TraceState::from_str(rt.alloc(), " \t ")? == TraceState::NONE);
@@ -67,7 +67,7 @@ const FAULTS: &[(&str, &str, &str, &str)] = &[
 #[test]
 fn texts_have_these_faults(rt: HostRuntime) -> Result<(), Fail> {
     for (text, bad, kind, section) in FAULTS {
-        let read = told(rt.alloc(), TraceState::from_str(rt.alloc(), text))?;
+        let read = header_or_error(rt.alloc(), TraceState::from_str(rt.alloc(), text))?;
         let want = fault(rt.alloc(), bad, kind, section)?;
         assert_eq!(rt; read.as_str(), want.as_str(), "of {text}");
     }
@@ -83,7 +83,7 @@ fn errors_hold_the_text_that_stood_there(rt: HostRuntime) {
 }
 
 #[test]
-fn a_want_of_memory_is_told(rt: HostRuntime) -> Result<(), Fail> {
+fn memory_running_out_has_a_text(rt: HostRuntime) -> Result<(), Fail> {
     let text = format!(in rt.alloc(); "{}", TraceStateError::from(AllocError))?;
     assert_eq!(rt; text.as_str(), "no memory");
     Ok(())
@@ -95,11 +95,11 @@ fn the_first_32_pieces_are_read(rt: HostRuntime) -> Result<(), Fail> {
     let first = numbered(alloc, 32)?;
     for count in [32, 33, 64] {
         let text = numbered(alloc, count)?;
-        let read = told(alloc, TraceState::from_str(alloc, text.as_str()))?;
+        let read = header_or_error(alloc, TraceState::from_str(alloc, text.as_str()))?;
         assert_eq!(rt; read.as_str(), first.as_str());
     }
     let fewer = numbered(alloc, 31)?;
-    let read = told(alloc, TraceState::from_str(alloc, fewer.as_str()))?;
+    let read = header_or_error(alloc, TraceState::from_str(alloc, fewer.as_str()))?;
     assert_eq!(rt; read.as_str(), fewer.as_str());
     Ok(())
 }
@@ -144,7 +144,7 @@ fn long_texts_are_read_at_once(rt: HostRuntime) -> Result<(), Fail> {
 fn many_blanks_after_a_value_are_cut_at_once(rt: HostRuntime) -> Result<(), Fail> {
     let blanks = " ".repeat(rt.alloc(), 1_000_000)?;
     let text = format!(in rt.alloc(); "a=1{blanks}")?;
-    let read = told(rt.alloc(), TraceState::from_str(rt.alloc(), text.as_str()))?;
+    let read = header_or_error(rt.alloc(), TraceState::from_str(rt.alloc(), text.as_str()))?;
     assert_eq!(rt; read.as_str(), "a=1");
     Ok(())
 }
@@ -153,7 +153,7 @@ fn many_blanks_after_a_value_are_cut_at_once(rt: HostRuntime) -> Result<(), Fail
 fn many_equals_signs_stand_for_one(rt: HostRuntime) -> Result<(), Fail> {
     let equals = "=".repeat(rt.alloc(), 1_000)?;
     let text = format!(in rt.alloc(); "a{equals}")?;
-    let read = told(rt.alloc(), TraceState::from_str(rt.alloc(), text.as_str()))?;
+    let read = header_or_error(rt.alloc(), TraceState::from_str(rt.alloc(), text.as_str()))?;
     assert_eq!(rt; read.as_str(), "a=");
     Ok(())
 }

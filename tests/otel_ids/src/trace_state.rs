@@ -1,6 +1,6 @@
 //! Trace states that are made, changed and walked.
 
-use crate::{has_bad_key, has_bad_value, numbered, told};
+use crate::{has_bad_key, has_bad_value, header_or_error, numbered};
 use otel_ids::{TraceState, TraceStateError};
 use std::alloc::{AllocError, Global};
 use std::hash::{DefaultHasher, Hash, Hasher};
@@ -45,9 +45,9 @@ fn these_keys_are_taken(rt: HostRuntime) -> Result<(), Fail> {
     let alloc = rt.alloc();
     for (key, is_taken) in KEYS {
         let want = header_of(alloc, key, *is_taken)?;
-        let inserted = told(alloc, TraceState::NONE.insert(alloc, key, "1"))?;
+        let inserted = header_or_error(alloc, TraceState::NONE.insert(alloc, key, "1"))?;
         assert_eq!(rt; inserted.as_str(), want.as_str(), "insert of {key}");
-        let given = told(alloc, TraceState::from_key_value(alloc, &[(key, "1")]))?;
+        let given = header_or_error(alloc, TraceState::from_key_value(alloc, &[(key, "1")]))?;
         assert_eq!(rt; given.as_str(), want.as_str(), "the pair of {key}");
         assert_eq!(rt; TraceState::NONE.delete(alloc, key).is_ok(), *is_taken);
     }
@@ -57,7 +57,7 @@ fn these_keys_are_taken(rt: HostRuntime) -> Result<(), Fail> {
 #[test]
 fn an_insert_comes_first(rt: HostRuntime) -> Result<(), Fail> {
     let twice = TraceState::from_str(rt.alloc(), "a=1,a=2")?;
-    let inserted = told(rt.alloc(), twice.insert(rt.alloc(), "a", "3"))?;
+    let inserted = header_or_error(rt.alloc(), twice.insert(rt.alloc(), "a", "3"))?;
     assert_eq!(rt; inserted.as_str(), "a=3,a=2");
     assert_eq!(rt; twice.get("a"), Some("1"));
     Ok(())
@@ -78,7 +78,7 @@ fn what_was_inserted_is_deleted(rt: HostRuntime) -> Result<(), Fail> {
 }
 
 #[test]
-fn a_refused_insert_tells_the_key_first(rt: HostRuntime) {
+fn a_refused_insert_reports_the_key_first(rt: HostRuntime) {
     let key = TraceState::NONE.insert(rt.alloc(), "Foo", "1=2");
     assert!(rt; has_bad_key(&key, "Foo"));
     let value = TraceState::NONE.insert(rt.alloc(), "foo", "1,2");
@@ -264,7 +264,7 @@ fn a_loop_goes_over_the_pairs_in_order(rt: HostRuntime) -> Result<(), Fail> {
 }
 
 #[test]
-fn a_walk_knows_how_many_are_left(rt: HostRuntime) -> Result<(), Fail> {
+fn an_iterator_knows_how_many_are_left(rt: HostRuntime) -> Result<(), Fail> {
     let state = TraceState::from_str(rt.alloc(), "a=1,b=2,c=3")?;
     let mut walk = state.iter();
     assert_eq!(rt; walk.size_hint(), (3, Some(3)));
