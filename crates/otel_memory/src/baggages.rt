@@ -5,6 +5,9 @@ use otel_base::{Key, KeyValue, StringValue, Value};
 use otel_context::baggage::{Baggage, BaggageMetadata, KeyValueMetadata};
 use std::alloc::{AllocError, Global};
 
+/// So many keys that a baggage takes room for them more than once.
+const KEYS: [&str; 12] = ["a", "b", "c", "d", "e", "f", "g", "h", "i", "j", "k", "l"];
+
 pub fn play<R: Print>(alloc: Global, lines: &Lines<'_, R>) {
     if lines.begin("baggage-metadata") {
         lines.end(metadata(alloc, lines));
@@ -16,10 +19,10 @@ pub fn play<R: Print>(alloc: Global, lines: &Lines<'_, R>) {
         lines.end(key_value_metadata(alloc, lines));
     }
     if lines.begin("baggage-insert") {
-        lines.end(insert(alloc, lines));
+        insert(alloc, lines, false);
     }
     if lines.begin("baggage-insert-with-metadata") {
-        lines.end(insert_with_metadata(alloc, lines));
+        insert(alloc, lines, true);
     }
     play_made(alloc, lines);
     if lines.begin("baggage-in-place") {
@@ -71,43 +74,43 @@ fn key_value_metadata<R: Print>(alloc: Global, lines: &Lines<'_, R>) -> Result<(
     Ok(())
 }
 
-/// Whether the baggage holds `k=v`, and nothing else.
-fn is_as_made(baggage: &Baggage) -> bool {
-    match baggage.get("k") {
-        Some(value) => baggage.len() == 1 && value.as_str() == "v",
-        None => false,
-    }
-}
-
-fn insert<R: Print>(alloc: Global, lines: &Lines<'_, R>) -> Result<(), AllocError> {
-    let mut held = baggage(alloc, "k", "v")?;
-    match held.insert(Key::from("j"), StringValue::from("w")) {
-        Ok(old) => {
-            lines.answer(&old.is_none());
-            lines.due(held.len() == 2 && held.get("j").is_some());
-        }
-        Err(error) => {
-            lines.answer(&error);
-            lines.due(is_as_made(&held));
-        }
+/// Inserts a new key, with metadata or without.
+fn insert_key(held: &mut Baggage, key: &'static str, has_metadata: bool) -> Result<(), AllocError> {
+    let value = StringValue::from("v");
+    if has_metadata {
+        let metadata = BaggageMetadata::default();
+        let _ = held.insert_with_metadata(Key::from(key), value, metadata)?;
+    } else {
+        let _ = held.insert(Key::from(key), value)?;
     }
     Ok(())
 }
 
-fn insert_with_metadata<R: Print>(alloc: Global, lines: &Lines<'_, R>) -> Result<(), AllocError> {
-    let metadata = BaggageMetadata::new(alloc, "m")?;
-    let mut held = baggage(alloc, "k", "v")?;
-    match held.insert_with_metadata(Key::from("j"), StringValue::from("w"), metadata) {
-        Ok(old) => {
-            lines.answer(&old.is_none());
-            lines.due(held.len() == 2 && held.get_with_metadata("j").is_some());
-        }
-        Err(error) => {
-            lines.answer(&error);
-            lines.due(is_as_made(&held));
+/// Inserts the keys in turn until an insert fails. The answer is how many are there then, and the error.
+fn inserted(held: &mut Baggage, has_metadata: bool) -> (usize, Result<usize, AllocError>) {
+    for count in 0..KEYS.len() {
+        if let Err(error) = insert_key(held, KEYS[count], has_metadata) {
+            return (count, Err(error));
         }
     }
-    Ok(())
+    (KEYS.len(), Ok(KEYS.len()))
+}
+
+/// Whether the first so many of the keys are there, and nothing else.
+fn is_beginning(held: &Baggage, count: usize) -> bool {
+    for place in 0..KEYS.len() {
+        if held.get(KEYS[place]).is_some() != (place < count) {
+            return false;
+        }
+    }
+    held.len() == count
+}
+
+fn insert<R: Print>(alloc: Global, lines: &Lines<'_, R>, has_metadata: bool) {
+    let mut held = Baggage::new(alloc);
+    let (count, answer) = inserted(&mut held, has_metadata);
+    lines.answer_of(answer);
+    lines.due(is_beginning(&held, count));
 }
 
 /// The pairs `a=1`, `a b=2` and `c=3`.

@@ -53,11 +53,11 @@ fn clone_text<R: Print>(lines: &Lines<'_, R>, text: &StringValue) {
     lines.receiver(text);
 }
 
-/// A clone of an owned text copies it, and one of a static text doesn't.
+/// The clone of an owned text takes memory.
 fn text_clone<R: Print>(alloc: Global, lines: &Lines<'_, R>) -> Result<(), AllocError> {
     let key = String::from_str(alloc, "k")?;
-    clone_key(lines, &Key::new(key));
     let text = String::from_str(alloc, "v")?;
+    clone_key(lines, &Key::new(key));
     clone_text(lines, &StringValue::from(text));
     Ok(())
 }
