@@ -1,4 +1,4 @@
-use Rattle.std.proofs.Common.{◌≡◌, sym, ap, ◌∙◌}
+use Rattle.std.proofs.Common.{◌≡◌, ap, ◌∙◌}
 use Rattle.std.specs.FinMap.{insert}
 use Rattle.otel_base.specs.View.{tree}
 use Rattle.otel_context.specs.Context.{EntryMap}
