@@ -16,7 +16,7 @@ pub trait HasCurrent {
     fn lend_current(&self) -> &Self::Current
         ensures { result.now ≡ Self.current_value self.now };
 
-    /// Calls `f` once on the current value, and gives its answer.
+    /// Calls `f` once on the current value, and returns what it returns.
     final fn map_current<T, F: FnOnce(&Self::Current) -> T>(&self, f: F) -> T
         requires { F.IsAlwaysCallable f }
         ensures { FnOnceReturnsAt F.FnOnce f (Self.current_value self.now) result }
