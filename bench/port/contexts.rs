@@ -15,7 +15,10 @@ pub fn play(task: &Task<'_>, alloc: Global) -> Result<Option<u64>, AllocError> {
     match task.name {
         "context_clone" => repeat(Copying(named(alloc)?), task.times),
         "context_clone_remote" => repeat(Copying(remote(alloc)?), task.times),
-        "context_get" => repeat(Getting(with_entries(alloc, task.size)?), task.times),
+        "context_get_oldest" => get(with_entries(alloc, task.size)?, "name", task.times),
+        "context_get_newest" => {
+            get(with_entries(alloc, task.size)?, newest_name(task.size), task.times)
+        }
         "context_with_value" => {
             let context = with_entries(alloc, task.size)?;
             repeat(Deriving { alloc, context }, task.times)
@@ -65,6 +68,18 @@ fn with_entries(alloc: Global, size: usize) -> Result<Context, AllocError> {
     Ok(context)
 }
 
+/// The name of the entry that was set last.
+fn newest_name(size: usize) -> &'static str {
+    match NAMES.get(size.wrapping_sub(2)) {
+        Some(name) => *name,
+        None => "name",
+    }
+}
+
+fn get(context: Context, key: &'static str, times: u64) -> Result<Option<u64>, AllocError> {
+    repeat(Getting { context, key }, times)
+}
+
 #[inline(never)]
 fn clone_of(context: &Context) -> Result<Context, AllocError> {
     context.clone()
@@ -104,11 +119,14 @@ impl Operation for Copying {
 }
 
 #[derive(Drop)]
-struct Getting(Context);
+struct Getting {
+    context: Context,
+    key: &'static str,
+}
 
 impl Operation for Getting {
     fn once(&mut self, sum: &mut u64) -> Result<(), AllocError> {
-        look_up(&self.0, "name", sum);
+        look_up(&self.context, self.key, sum);
         Ok(())
     }
 }

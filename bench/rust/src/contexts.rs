@@ -9,7 +9,7 @@ use std::str::FromStr;
 pub struct Name(pub String);
 
 /// Values beside it, each of a type of its own: a context has one value of a type.
-struct Extra<const NUMBER: usize>(#[allow(dead_code)] u64);
+struct Extra<const NUMBER: usize>(u64);
 
 struct Number(u64);
 
@@ -17,13 +17,19 @@ pub fn play(task: &Task<'_>) -> Option<u64> {
     match task.name {
         "context_clone" => copy(task, &named()),
         "context_clone_remote" => copy(task, &remote()),
-        "context_get" => {
+        "context_get_oldest" => {
             let context = with_entries(task.size);
             task.repeat(|| {
                 let found = black_box(&context).get::<Name>();
                 black_box(found.map_or(0, |name| name.0.len()))
             })
         }
+        "context_get_newest" => match task.size {
+            3 => get::<2>(task),
+            4 => get::<3>(task),
+            16 => get::<15>(task),
+            _ => None,
+        },
         "context_with_value" => {
             let context = with_entries(task.size);
             task.repeat(|| look_at(&black_box(&context).with_value(Number(1))))
@@ -56,6 +62,15 @@ pub fn remote() -> Context {
         true,
         state,
     ))
+}
+
+/// Looks up the value of type `Extra<NUMBER>`, the last that was set.
+fn get<const NUMBER: usize>(task: &Task<'_>) -> Option<u64> {
+    let context = with_entries(task.size);
+    task.repeat(|| {
+        let found = black_box(&context).get::<Extra<NUMBER>>();
+        black_box(found.map_or(0, |extra| extra.0 as usize))
+    })
 }
 
 /// What a context is used for before it is let go.
