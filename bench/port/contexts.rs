@@ -17,7 +17,11 @@ pub fn play(task: &Task<'_>, alloc: Global) -> Result<Option<u64>, AllocError> {
         "context_clone_remote" => repeat(Copying(remote(alloc)?), task.times),
         "context_get_oldest" => get(with_entries(alloc, task.size)?, "name", task.times),
         "context_get_newest" => {
-            get(with_entries(alloc, task.size)?, newest_name(task.size), task.times)
+            get(
+                with_entries(alloc, task.size)?,
+                newest_name(task.size),
+                task.times,
+            )
         }
         "context_with_value" => {
             let context = with_entries(alloc, task.size)?;
