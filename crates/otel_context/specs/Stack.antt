@@ -1,5 +1,5 @@
 -- What a stack of contexts is: a list of live attachments with rising positions, and two counts.
-use Rattle.std.specs.Prelude.{◌≡◌, ◌≤◌, ℕ, ◌+◌, ◌-◌, ◌<◌, ◌==◌, if◌then◌else◌, Bool, not, List, [], ◌∷◌, ◌++◌, length, map, filter, Option, option_map}
+use Rattle.std.specs.Prelude.{◌≡◌, ◌≤◌, ℕ, ◌+◌, ◌<◌, ◌==◌, Bool, not, List, [], ◌∷◌, ◌++◌, length, map, filter, Option, option_map}
 use Rattle.std.specs.List.{find, list_any, range_with_len}
 use Rattle.otel_context.specs.Context.{ContextRecord, empty_context}
 
@@ -68,11 +68,6 @@ attached context stack = record {
 -- of (1, A) ∷ (4, D) ∷ []: 2
 abbrev pub emptied_of : Live → ℕ
 emptied_of live = length (filter (λ p. not (is_live p live)) (range_with_len 1 (newest_of live)))
-
--- how many emptied slots stand between the newest, at `p`, and the one that is newest without it: how many a removal would step over that looked for it slot by slot (own)
--- of 4 in (1, A) ∷ (4, D) ∷ []: 2, as positions 2 and 3 are emptied; of 1: 0
-abbrev pub step_of : ℕ → Live → ℕ
-step_of p live = if p == newest_of live then p - 1 - newest_of (without p live) else 0
 
 -- each number is above the one before it, the first above `p`
 abbrev pub RisesAbove : ℕ → List ℕ → Type 0

@@ -48,7 +48,7 @@ const STRANGE_POSITIONS: &[Row] = &[
     (Remove(1000, ""), "a", 1),
 ];
 
-/// Three emptied slots are stepped over at once.
+/// Three positions below the newest are emptied before it is removed.
 const THREE_EMPTIED: &[Row] = &[
     (Attach("a", 1), "a", 1),
     (Attach("b", 2), "b", 2),
