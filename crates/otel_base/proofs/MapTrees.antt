@@ -1,4 +1,4 @@
--- A map's tree is told by what stands at each key.
+-- What stands at each key determines a map's tree.
 use Rattle.std.proofs.Common.{◌≡◌, ℕ, List, [], ◌∷◌, Bool, true, false, ◌&&◌, cond, T, Option, Some, nat_cmp, refl, sym, ap, ◌∙◌, subst}
 use Rattle.std.specs.Cmp.Lexicographic.{slice_cmp}
 use Rattle.std.specs.List.{AllByRecursion}

@@ -1,4 +1,4 @@
--- Lists in key order are told apart by the pairs under each key.
+-- The pairs under each key determine a list in key order.
 use Rattle.std.specs.Prelude.{◌≡◌, ℕ, List, [], ◌∷◌, map, Bool, true, false, cond}
 use Rattle.std.specs.List.{AllByRecursion, filter}
 use Rattle.std.specs.Ordering.{nat_cmp, is_gt, is_eq, ordering_reverse}

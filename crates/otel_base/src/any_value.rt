@@ -33,6 +33,10 @@ pub enum AnyValue {
 
 impl AnyValue {
     /// The list of the given trees, in order (the Rust crate's `FromIterator<T> for AnyValue`).
+    ///
+    /// # Errors
+    ///
+    /// `AllocError` where a request for memory fails. The trees are dropped.
     pub fn list(alloc: Global, values: Vec<AnyValue>) -> Result<AnyValue, AllocError>
         ensures { IfOk result (λ v. tree v ≡ list (trees_view values.items)) }
     {
@@ -41,6 +45,10 @@ impl AnyValue {
 
     /// The map of the given pairs, where the last value of a key wins (the Rust crate's `FromIterator<(K, V)> for
     /// AnyValue`).
+    ///
+    /// # Errors
+    ///
+    /// `AllocError` where a request for memory fails. The pairs are dropped.
     pub fn map(alloc: Global, pairs: Vec<(Key, AnyValue)>) -> Result<AnyValue, AllocError>
         ensures { IfOk result (λ v. IsMapOf (pairs_view pairs.items) (tree v)) }
     {
@@ -52,6 +60,10 @@ impl AnyValue {
     }
 
     /// A copy of the given bytes (the Rust crate's `From<&[u8]> for AnyValue`).
+    ///
+    /// # Errors
+    ///
+    /// `AllocError` where a request for memory fails.
     pub fn bytes(alloc: Global, value: &[u8]) -> Result<AnyValue, AllocError>
         ensures { IfOk result (λ v. tree v ≡ bytes value.now) }
     {
@@ -63,7 +75,7 @@ impl AnyValue {
 impl Clone for AnyValue {
     ghost is_clone = { λ v w. tree w ≡ tree v };
 
-    /// A tree of the same meaning, made in one walk.
+    /// A tree of the same meaning, made in one walk. Its `AllocError` reports that a request for memory failed.
     fn clone(&self) -> Result<AnyValue, AllocError> {
         copy(self)
     }

@@ -148,6 +148,10 @@ impl Value {
     /// The `Display` text.
     ///
     /// A text is borrowed and takes no memory; any other value is written out.
+    ///
+    /// # Errors
+    ///
+    /// `AllocError` where the value is no text and a request for memory fails.
     pub fn as_str(&self, alloc: Global) -> Result<CowStr<'_>, AllocError>
         ensures text { IfOk result (λ s. cow_str_bytes s ≡ datum_text (datum_of self.now)) }
         ensures without_memory { IsTrue (is_text (datum_of self.now)) → IsOk result }

@@ -57,6 +57,10 @@ impl Key {
     /// The text as an owned `String` (the Rust crate's `From<Key> for String`).
     ///
     /// A key made from a `String` gives it back without taking memory; a static or shared text is copied.
+    ///
+    /// # Errors
+    ///
+    /// `AllocError` where the request for the copy's memory fails. The text is dropped.
     pub fn into_string(self, alloc: Global) -> Result<String, AllocError>
         ensures { IfOk result (λ s. string_bytes s ≡ self) }
     {

@@ -268,8 +268,11 @@ impl InstrumentationScopeBuilder {
 
     /// The scope of the given parts.
     ///
-    /// Puts the positions of the attributes into the order of their keys, once. Without attributes it takes no memory;
-    /// after a want of memory the parts are gone.
+    /// Puts the positions of the attributes into the order of their keys, once. Without attributes it takes no memory.
+    ///
+    /// # Errors
+    ///
+    /// `AllocError` where there are attributes and a request for memory fails. The parts are dropped.
     pub fn build(self, alloc: Global) -> Result<InstrumentationScope, AllocError>
         ensures built { IfOk result (λ s. s ≡ self) }
         ensures without_memory { self.attributes ≡ [] → IsOk result }

@@ -98,7 +98,7 @@ impl Severity {
 
     /// The number of the OpenTelemetry logs data model, from 1 for `TRACE` to 24 for `FATAL4`.
     ///
-    /// It stands for `severity as u8` (own).
+    /// It stands for `severity as u8`. Not in the Rust crate.
     pub fn number(&self) -> u8
         ensures { result ≡ number_of self.now }
     {

@@ -44,6 +44,10 @@ impl StringValue {
     /// The text as an owned `String` (the Rust crate's `From<StringValue> for String`).
     ///
     /// A value made from a `String` gives it back without taking memory; a static or shared text is copied.
+    ///
+    /// # Errors
+    ///
+    /// `AllocError` where the request for the copy's memory fails. The text is dropped.
     pub fn into_string(self, alloc: Global) -> Result<String, AllocError>
         ensures { IfOk result (λ s. string_bytes s ≡ self) }
     {
@@ -53,6 +57,10 @@ impl StringValue {
     /// The `Display` text of a value (the Rust crate's `From<Value> for StringValue`).
     ///
     /// A text is handed on without taking memory.
+    ///
+    /// # Errors
+    ///
+    /// `AllocError` where the value is no text and a request for memory fails. The value is dropped.
     pub fn from_value(alloc: Global, value: Value) -> Result<StringValue, AllocError>
         ensures text { IfOk result (λ s. s ≡ datum_text (datum_of value)) }
         ensures without_memory { IsTrue (is_text (datum_of value)) → IsOk result }

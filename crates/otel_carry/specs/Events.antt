@@ -1,4 +1,4 @@
--- The events that the lines of the input ask for, and which line is told to be at fault.
+-- The events that the lines of the input ask for, and which line is reported as faulty.
 use Rattle.std.specs.Prelude.{◌≡◌, ℕ, ◌+◌, List, ◌∷◌, ◌++◌, Option, Some, None, IsSome, codes}
 use denote.Ref.{Bor}
 use Rattle.otel_ids.specs.Reading.{Pair, fault_of, Reads as ReadsState}

@@ -16,7 +16,7 @@ pub enum Failure {
     NotUtf8,
     /// The first faulty line: its number, 1 for the first, and what is wrong with it.
     Line(usize, Fault),
-    /// A growth was refused.
+    /// A request for memory failed.
     NoMemory,
 }
 

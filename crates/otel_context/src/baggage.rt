@@ -84,10 +84,13 @@ impl Baggage {
 
     /// Puts the value with empty metadata, and gives the value that it took the place of.
     ///
-    /// `None` is the answer for a new key, and also where the triple isn't accepted,
+    /// It returns `None` for a new key, and also where the triple isn't accepted,
     /// as [`insert_with_metadata`](Self::insert_with_metadata) says; the baggage is then unchanged.
     ///
-    /// Only a new key that is accepted takes memory. Want of memory leaves the baggage unchanged.
+    /// # Errors
+    ///
+    /// `AllocError` where a request for memory fails, which comes only for a new key that is accepted. The baggage stays;
+    /// what was handed in is dropped.
     pub fn insert(
         &mut self,
         key: Key,
@@ -111,10 +114,13 @@ impl Baggage {
     ///
     /// A present key keeps its place, and isn't checked again; a new key goes last. The triple is accepted where
     /// at most 8192 bytes are held then, the old ones of its key taken off, and where a new key is valid
-    /// and fewer than 64 triples are held. `None` is the answer for a new key, and also where the triple
+    /// and fewer than 64 triples are held. It returns `None` for a new key, and also where the triple
     /// isn't accepted; the baggage is then unchanged.
     ///
-    /// Only a new key that is accepted takes memory. Want of memory leaves the baggage unchanged.
+    /// # Errors
+    ///
+    /// `AllocError` where a request for memory fails, which comes only for a new key that is accepted. The baggage stays;
+    /// what was handed in is dropped.
     pub fn insert_with_metadata(
         &mut self,
         key: Key,
@@ -179,7 +185,9 @@ impl Baggage {
 
     /// The baggage of these triples, inserted in order into the empty one. What isn't accepted is left out.
     ///
-    /// Want of memory is the only error.
+    /// # Errors
+    ///
+    /// `AllocError` at the first request for memory that fails. What was inserted until then is dropped.
     pub fn from_pairs(
         alloc: Global,
         pairs: Vec<(Key, (StringValue, BaggageMetadata))>,
@@ -196,7 +204,9 @@ impl Baggage {
     /// The baggage of these attributes, inserted in order into the empty one, each with the printed text of its value
     /// and no metadata. What isn't accepted is left out.
     ///
-    /// Want of memory is the only error.
+    /// # Errors
+    ///
+    /// `AllocError` at the first request for memory that fails. What was inserted until then is dropped.
     pub fn from_key_values(alloc: Global, pairs: Vec<KeyValue>) -> Result<Baggage, AllocError>
         ensures { IfOk result (λ baggage. baggage ≡ offered_all [] (map_list plain_triple pairs.items)) }
     {
@@ -211,7 +221,9 @@ impl Baggage {
 
     /// The baggage of these triples, inserted in order into the empty one. What isn't accepted is left out.
     ///
-    /// Want of memory is the only error.
+    /// # Errors
+    ///
+    /// `AllocError` at the first request for memory that fails. What was inserted until then is dropped.
     pub fn from_key_values_with_metadata(
         alloc: Global,
         pairs: Vec<KeyValueMetadata>,

@@ -2,7 +2,7 @@
 ghost use Rattle.std.specs.Prelude.{◌≡◌};
 ghost use Rattle.std.specs.Fn.{FnOnceReturnsAt};
 
-/// What has a current value, as a `ContextStack` has the current context (own).
+/// What has a current value, as a `ContextStack` has the current context. Not in the Rust crate.
 ///
 /// It stands for the method `map_current` of the Rust crate's `Context`: a caller brings the trait in, and writes
 /// `stack.map_current(|context| ..)`.

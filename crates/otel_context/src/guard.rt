@@ -30,14 +30,16 @@ impl ContextGuard {
         ContextGuard { position }
     }
 
-    /// The position of the attached context, from 1 to 65534, or 65535 where no position was left (own).
+    /// The position of the attached context, from 1 to 65534, or 65535 where no position was left. Not in the
+    /// Rust crate.
     pub fn position(&self) -> u16
         ensures { result ≡ self.now }
     {
         self.position
     }
 
-    /// Whether the attach was accepted: whether the position isn't 65535. It stays so whatever is removed later (own).
+    /// Whether the attach was accepted: whether the position isn't 65535. It stays so whatever is removed later. Not
+    /// in the Rust crate.
     pub fn is_attached(&self) -> bool
         ensures { IsTrue result ↔ (self.now ≢ no_position) }
     {

@@ -2,7 +2,7 @@
 ghost use Rattle.otel_context.specs.BaggageLaws.{HeaderTells, HeaderIsShort};
 ghost use Rattle.otel_context.specs.StackLaws.{DetachRestores, AttachIsCurrent, AttachLeavesAll, RemovalLeavesOthers, RemovalKeepsOrder};
 
-/// What the header of a baggage tells, for a caller to cite (own).
+/// What the header of a baggage says of its triples, for a caller to cite. Not in the Rust crate.
 ///
 /// - Where no metadata holds a comma, baggages that print equal headers hold equal lists of triples.
 /// - A header has at most 24575 bytes.

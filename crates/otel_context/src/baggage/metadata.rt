@@ -37,7 +37,9 @@ impl Model for BaggageMetadata {
 impl BaggageMetadata {
     /// Metadata of the text, cut of the Unicode white space at both of its ends (`From<&str>` of the Rust crate).
     ///
-    /// The text is copied, so want of memory is answered where there is no room for the copy.
+    /// # Errors
+    ///
+    /// `AllocError` where the request for the copy's memory fails.
     pub fn new(alloc: Global, text: &str) -> Result<BaggageMetadata, AllocError>
         ensures { IfOk result (λ m. m ≡ trim text.now) }
     {
@@ -70,7 +72,7 @@ impl Default for BaggageMetadata {
 impl Clone for BaggageMetadata {
     ghost is_clone = { λ s copy. copy ≡ s };
 
-    /// The same text. Want of memory leaves the original as it was.
+    /// The same text. Its `AllocError` reports that a request for memory failed.
     fn clone(&self) -> Result<BaggageMetadata, AllocError> {
         Ok(BaggageMetadata {
             text: self.text.clone()?,
@@ -121,8 +123,12 @@ impl KeyValueMetadata {
 
     /// An attribute's key and the printed text of its value, with no metadata (`From<KeyValue>` of the Rust crate).
     ///
-    /// A text is handed on without taking memory. The text of another value is written anew, so want of memory
-    /// is answered where there is no room for it.
+    /// A text is handed on without taking memory.
+    ///
+    /// # Errors
+    ///
+    /// `AllocError` where the value is no text and a request for the memory of its printed text fails. The attribute is
+    /// dropped.
     pub fn from_key_value(alloc: Global, pair: KeyValue) -> Result<KeyValueMetadata, AllocError>
         ensures triple { IfOk result (λ k. k ≡ plain_triple pair) }
         ensures without_memory { IsTrue (is_text (datum_of pair.value)) → IsOk result }
@@ -145,7 +151,7 @@ impl KeyValueMetadata {
 impl Clone for KeyValueMetadata {
     ghost is_clone = { λ s copy. copy ≡ s };
 
-    /// The same three parts. Want of memory leaves the original as it was.
+    /// The same three parts. Its `AllocError` reports that a request for memory failed.
     fn clone(&self) -> Result<KeyValueMetadata, AllocError> {
         Ok(KeyValueMetadata {
             key: self.key.clone()?,
