@@ -1,8 +1,9 @@
 //! The named entries of a context.
-ghost use Rattle.std.specs.Prelude.{◌≡◌, IfOk, option_map};
+ghost use Rattle.std.specs.Prelude.{◌≡◌, length, IfOk, option_map};
 ghost use Rattle.std.specs.FinMap as map;
+ghost use Rattle.std.specs.List.Sorted.{IsSearchInRange, IsBinarySearchResult};
 ghost use Rattle.otel_base.specs.View.{tree};
-ghost use Rattle.otel_context.specs.Fields.{pairs, without_key};
+ghost use Rattle.otel_context.specs.Fields.{by_key};
 
 use otel_base::{AnyValue, Key};
 use std::alloc::{AllocError, Global};
@@ -20,20 +21,22 @@ struct Entry {
 /// It doesn't change. A map that differs in one entry shares the others.
 #[derive(Drop)]
 pub struct Entries {
-    // In the order in which they were set.
+    // In rising order of their keys' bytes.
     items: Vec<Rc<Entry>>,
 }
 
 impl Model for Entries {
     ghost use Rattle.otel_context.specs.Context.{EntryMap};
     ghost use Rattle.otel_context.specs.ContextCode.{entries_code};
-    ghost use Rattle.otel_context.specs.Fields.{entries_seen};
+    ghost use Rattle.otel_context.specs.Fields.{entries_seen, IsRising};
 
     ghost Value = { EntryMap };
 
     ghost coded = { entries_code };
 
     ghost view = { λ e. entries_seen e.items.items };
+
+    ghost invariant = { λ e. IsRising e.items.items };
 }
 
 impl Entries {
@@ -50,12 +53,10 @@ impl Entries {
     pub fn get(&self, key: &str) -> Option<&AnyValue>
         ensures { option_map (λ v. tree v.now) result ≡ map.get self.now key.now }
     {
-        for entry in &self.items {
-            if key == entry.key.as_str() {
-                return Some(&entry.as_ref().value);
-            }
+        match place(&self.items, key) {
+            Ok(at) => Some(&self.items[at].as_ref().value),
+            Err(_) => None,
         }
-        None
     }
 
     /// A map with the entry set, in place of an older one of that name.
@@ -64,8 +65,14 @@ impl Entries {
     pub fn with(&self, alloc: Global, key: Key, value: AnyValue) -> Result<Entries, AllocError>
         ensures { IfOk result (λ es. es ≡ map.insert self.now key (tree value)) }
     {
-        let mut items = others(alloc, &self.items, key.as_str())?;
+        let (before, after) = match place(&self.items, key.as_str()) {
+            Ok(at) => (at, at + 1),
+            Err(at) => (at, at),
+        };
+        let mut items = Vec::with_capacity(alloc, self.items.len().saturating_add(1))?;
+        items.extend_with_clones(&self.items[..before])?;
         items.push(Rc::new(alloc, Entry { key, value })?)?;
+        items.extend_with_clones(&self.items[after..])?;
         Ok(Entries { items })
     }
 }
@@ -80,15 +87,10 @@ impl Clone for Entries {
     }
 }
 
-/// The entries of other names, with room for one more.
-fn others(alloc: Global, items: &[Rc<Entry>], key: &str) -> Result<Vec<Rc<Entry>>, AllocError>
-    ensures { IfOk result (λ kept. pairs kept.items ≡ without_key key.now (pairs items.now)) }
+/// Where the entry of that name is, or where it would go.
+fn place(items: &[Rc<Entry>], key: &str) -> Result<usize, usize>
+    ensures bound { IsSearchInRange result (length items.now) }
+    ensures position { IsBinarySearchResult (by_key key.now) items.now result }
 {
-    let mut kept = Vec::with_capacity(alloc, items.len().saturating_add(1))?;
-    for entry in items {
-        if entry.key.as_str() != key {
-            kept.push(entry.clone()?)?;
-        }
-    }
-    Ok(kept)
+    items.binary_search_by(|entry| entry.key.as_str().cmp(key))
 }

@@ -1,37 +1,29 @@
-use Rattle.std.proofs.Common.{◌≡◌, Some, true, false, bytes_eq, sym, ap, ◌∙◌}
-use Rattle.std.proofs.lemmas.List.{drop_all}
-use Rattle.std.specs.FinMap.{get, find}
+use Rattle.std.proofs.Common.{Some, get_or, sym, ap, subst, ◌∙◌}
+use Rattle.std.specs.FinMap.{get}
+use Rattle.std.specs.declared.alloc.Global.{Global}
+use Rattle.std.specs.declared.rc.Rc.{Rc}
 use Rattle.otel_base.specs.View.{tree}
 use Rattle.otel_context.specs.Context.{EntryMap}
-use Rattle.otel_context.specs.Fields.{pairs, entries_seen}
+use Rattle.otel_context.specs.Fields.{IsRising, entries_seen}
 use Rattle.otel_context.specs.declared.entries.Entry.{Entry}
-use Rattle.otel_context.proofs.EntryLemmas.{text_cmp, get_seen, find_here, find_later, from_place}
+use Rattle.otel_context.proofs.EntryLemmas.{get_seen, searchable, find-found, find-missed}
 use Rattle.otel_context.proofs.entries.Entries.get.Goals as goal
 
-pub returns-then-eq : goal.returns-then-eq
-returns-then-eq c =
-    let named : bytes_eq c.args.key.now c.entry-item.result.value.key ≡ true = cc in
-    let here = from_place c.deref-entry-items.result.now c.loop-entry.entry-index c.entry-item.result c.entry-item.is c.loop-entry-test.true in
+pub returns-in-Ok : goal.returns-in-Ok
+returns-in-Ok c =
+    let rising = subst IsRising (sym c.deref.ensures.value) c.self.invariant in
     sym (ap (λ (m : EntryMap). get m c.args.key.now) (sym c.self.view_is)
-    ∙ ap (λ es. get (entries_seen es) c.args.key.now) (sym c.deref-entry-items.ensures.value)
-    ∙ get_seen c.deref-entry-items.result.now c.args.key.now
-    ∙ c.loop-entry.invariant
-    ∙ ap (λ es. find text_cmp c.args.key.now (pairs es)) here
-    ∙ find_here c.entry-item.result _ c.args.key.now named
+    ∙ ap (λ es. get (entries_seen es) c.args.key.now) (sym c.deref.ensures.value)
+    ∙ get_seen c.deref.result.now c.args.key.now
+    ∙ find-found c.args.key.now c.deref.result.now c.in-Ok.at c.index.result.now rising c.in-Ok.ensures.bound c.in-Ok.ensures.position
+    ∙ ap (λ es. Some (tree (get_or es c.in-Ok.at c.index.result.now).value.value)) c.deref.ensures.value
+    ∙ ap (λ (e : Rc Entry Global). Some (tree e.value.value)) (sym c.index.ensures)
     ∙ ap (λ (e : Entry). Some (tree e.value)) (sym c.as_ref.ensures))
 
-pub loop-entry-preserved : goal.loop-entry-preserved
-loop-entry-preserved c =
-    let other : bytes_eq c.args.key.now c.entry-item.result.value.key ≡ false = cc in
-    let here = from_place c.deref-entry-items.result.now c.loop-entry.entry-index c.entry-item.result c.entry-item.is c.loop-entry-test.true in
-    c.loop-entry.invariant
-    ∙ ap (λ es. find text_cmp c.args.key.now (pairs es)) here
-    ∙ find_later c.entry-item.result _ c.args.key.now other
-
-pub returns : goal.returns
-returns c =
+pub returns-in-Err : goal.returns-in-Err
+returns-in-Err c =
+    let rising = subst IsRising (sym c.deref.ensures.value) c.self.invariant in
     sym (ap (λ (m : EntryMap). get m c.args.key.now) (sym c.self.view_is)
-    ∙ ap (λ es. get (entries_seen es) c.args.key.now) (sym c.deref-entry-items.ensures.value)
-    ∙ get_seen c.deref-entry-items.result.now c.args.key.now
-    ∙ c.loop-entry.invariant
-    ∙ ap (λ es. find text_cmp c.args.key.now (pairs es)) (drop_all c.loop-entry.entry-index c.deref-entry-items.result.now c.loop-entry-test.false))
+    ∙ ap (λ es. get (entries_seen es) c.args.key.now) (sym c.deref.ensures.value)
+    ∙ get_seen c.deref.result.now c.args.key.now
+    ∙ find-missed c.args.key.now c.deref.result.now c.in-Err.field-0 (c.in-Err.ensures.position (searchable _ _ rising)))
