@@ -76,3 +76,40 @@ fn entries_are_any_value_trees_under_any_text(rt: HostRuntime) -> Result<(), Fai
     assert!(rt; context.get("e").is_none());
     Ok(())
 }
+
+/// Names in no order, some of them beginnings of others.
+const NAMES: &[&str] = &[
+    "m", "c", "x", "a", "mm", "z", "b", "ma", "y", "n", "", "d", "M", "zz", "ab", "l",
+];
+
+/// The entry of that name where it is a whole number, else -1.
+fn number_at(context: &Context, name: &str) -> i64 {
+    match context.get(name) {
+        Some(AnyValue::Int(number)) => *number,
+        _ => -1,
+    }
+}
+
+#[test]
+fn entries_set_in_any_order_are_found_and_replaced(rt: HostRuntime) -> Result<(), Fail> {
+    let mut context = Context::new();
+    for name in NAMES {
+        context = context.with_value(rt.alloc(), Key::from(*name), AnyValue::from(*name))?;
+    }
+    for (number, name) in NAMES.iter().enumerate() {
+        assert_eq!(rt; text_of(&context, name), *name);
+        let value = AnyValue::from(number as u32);
+        context = context.with_value(rt.alloc(), Key::from(*name), value)?;
+    }
+    for (number, name) in NAMES.iter().enumerate() {
+        assert_eq!(rt;
+            number_at(&context, name),
+            number as i64,
+            "the entry {name}"
+        );
+    }
+    for name in ["A", "aa", "k", "mmm", "~"] {
+        assert!(rt; context.get(name).is_none(), "the entry {name}");
+    }
+    Ok(())
+}
