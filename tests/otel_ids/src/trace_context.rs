@@ -246,3 +246,11 @@ fn lower_hex_writes_the_number(rt: HostRuntime) -> Result<(), Fail> {
     }
     Ok(())
 }
+
+#[test]
+fn lower_hex_of_a_trace_id_obeys_its_options(rt: HostRuntime) -> Result<(), Fail> {
+    let id = Lower(TraceId::from(0xff));
+    let text = format!(in rt.alloc(); "{id:6}|{id:<6}|{id:06}|{id:#}|{id:#08}|{id:+}")?;
+    assert_eq!(rt; text.as_str(), "    ff|ff    |0000ff|0xff|0x0000ff|+ff");
+    Ok(())
+}
