@@ -11,13 +11,11 @@ ghost use Rattle.otel_context.specs.Baggage.{offered, replaced, without_key, at_
 ghost use Rattle.otel_context.specs.BaggageAttribute.{plain_triple};
 ghost use Rattle.otel_context.specs.BaggageHeader.{header};
 
-mod by_text;
 mod header;
 mod key;
 mod metadata;
 mod weight;
 
-use self::by_text::ByText;
 use self::header::write_header;
 pub use self::metadata::{BaggageMetadata, KeyValueMetadata};
 use self::weight::{weight_after, weight_of};
@@ -65,7 +63,7 @@ impl Baggage {
         }
     }
 
-    /// The value of the key, or `None` where the key isn't held. It takes constant time and no memory.
+    /// The value of the key, or `None` where the key isn't held. It compares at most 64 keys, and takes no memory.
     pub fn get(&self, key: &str) -> Option<&StringValue>
         ensures { option_copied result ≡ option_map (λ pair. pair.0) (at_key self.now key.now) }
     {
@@ -73,7 +71,7 @@ impl Baggage {
         Some(value)
     }
 
-    /// The value and the metadata of the key, or `None` where the key isn't held. It takes constant time and no memory.
+    /// The value and the metadata of the key, or `None` where the key isn't held. It compares at most 64 keys, and takes no memory.
     pub fn get_with_metadata(&self, key: &str) -> Option<&(StringValue, BaggageMetadata)>
         ensures { option_copied result ≡ at_key self.now key.now }
     {
@@ -243,7 +241,7 @@ impl Baggage {
 fn index_of(held: &IndexMap<Key, (StringValue, BaggageMetadata)>, key: &str) -> Option<usize>
     ensures { result ≡ position (bytes_eq key.now) (keys_of held.now.entries) }
 {
-    held.get_index_of(ByText(key))
+    held.keys().position(|name| key == name.as_str())
 }
 
 impl fmt::Display for Baggage {
