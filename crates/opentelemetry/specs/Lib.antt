@@ -6,3 +6,5 @@ pub mod Progress
 pub mod Laws
 pub mod WorkedRuns
 pub mod LongRuns
+pub mod Event
+pub mod View

@@ -1,0 +1,21 @@
+//! Lists of attributes, as events and links hold them.
+ghost use Rattle.std.specs.Prelude.{◌≡◌, IfOk, map};
+ghost use Rattle.otel_base.specs.Seen.{pair_of};
+ghost use Rattle.opentelemetry.specs.Event.{attributes_eq};
+
+use otel_base::KeyValue;
+use std::alloc::AllocError;
+
+// Whether both have the same attributes in the same order.
+pub fn same_attributes(left: &Vec<KeyValue>, right: &Vec<KeyValue>) -> bool
+    ensures { result ≡ attributes_eq (map pair_of left.now.items) (map pair_of right.now.items) }
+{
+    *left == *right
+}
+
+// The same attributes in the same order.
+pub fn copy_attributes(attributes: &Vec<KeyValue>) -> Result<Vec<KeyValue>, AllocError>
+    ensures { IfOk result (λ copy. map pair_of copy.items ≡ map pair_of attributes.now.items) }
+{
+    Ok(attributes.clone()?)
+}

@@ -1,0 +1,97 @@
+//! Something that happened at one moment of a span.
+ghost use Rattle.std.specs.Prelude.{◌≡◌, ◌↔◌, IsTrue, [], map};
+ghost use Rattle.std.specs.Cmp.{on_per, partial_equiv_from_equiv};
+ghost use Rattle.otel_base.specs.AttributeLaws.{equiv_from_decides};
+ghost use Rattle.otel_base.specs.Seen.{pair_of};
+ghost use Rattle.opentelemetry.specs.Event.{event_eq, event_eq-Decides};
+ghost use Rattle.opentelemetry.specs.View.{event};
+
+use crate::trace::attributes::{copy_attributes, same_attributes};
+use otel_base::{KeyValue, StringValue};
+use std::alloc::{AllocError, Global};
+
+/// Something that happened at one moment of a span, with attributes (the Rust crate's `Event`).
+///
+/// Contracts see the record of its four parts, the attributes as a list.
+#[derive(Debug, Drop)]
+pub struct Event {
+    /// What happened.
+    pub name: StringValue,
+    /// When it happened, in nanoseconds since 1970-01-01T00:00:00Z.
+    pub timestamp: u64,
+    /// What is said of it, in given order.
+    pub attributes: Vec<KeyValue>,
+    /// How many attributes were left out, for a limit for example.
+    pub dropped_attributes_count: u32,
+}
+
+impl Event {
+    /// The event of the four parts.
+    pub fn new(
+        name: StringValue,
+        timestamp: u64,
+        attributes: Vec<KeyValue>,
+        dropped_attributes_count: u32,
+    ) -> Event
+        ensures { event result ≡ record {
+          name = name;
+          timestamp = timestamp;
+          attributes = map pair_of attributes.items;
+          dropped_attributes_count = dropped_attributes_count;
+        } }
+    {
+        Event {
+            name,
+            timestamp,
+            attributes,
+            dropped_attributes_count,
+        }
+    }
+
+    /// An event without attributes, at a moment in nanoseconds since 1970-01-01T00:00:00Z.
+    pub fn with_name(alloc: Global, name: StringValue, timestamp: u64) -> Event
+        ensures { event result ≡ record {
+          name = name;
+          timestamp = timestamp;
+          attributes = [];
+          dropped_attributes_count = 0;
+        } }
+    {
+        Event::new(name, timestamp, Vec::new(alloc), 0)
+    }
+}
+
+impl Clone for Event {
+    ghost is_clone = { λ e copy. event copy ≡ event e };
+
+    /// An event of the same parts.
+    ///
+    /// # Errors
+    ///
+    /// `AllocError` where a request for memory fails. The event is unchanged.
+    fn clone(&self) -> Result<Event, AllocError> {
+        Ok(Event {
+            name: self.name.clone()?,
+            timestamp: self.timestamp,
+            attributes: copy_attributes(&self.attributes)?,
+            dropped_attributes_count: self.dropped_attributes_count,
+        })
+    }
+}
+
+impl PartialEq for Event {
+    ghost eq = { λ a b. event_eq (event a) (event b) };
+
+    ghost laws = { on_per event (partial_equiv_from_equiv (equiv_from_decides event_eq event_eq-Decides)) };
+
+    /// Whether both have the same four parts, the attributes in the same order.
+    fn eq(&self, other: &Event) -> bool
+        ensures value { result ≡ event_eq (event self.now) (event other.now) }
+        ensures same { IsTrue result ↔ (event self.now ≡ event other.now) }
+    {
+        self.name == other.name
+            && self.timestamp == other.timestamp
+            && same_attributes(&self.attributes, &other.attributes)
+            && self.dropped_attributes_count == other.dropped_attributes_count
+    }
+}

@@ -1,0 +1,91 @@
+//! A span that another one has to do with.
+ghost use Rattle.std.specs.Prelude.{◌≡◌, ◌↔◌, IsTrue, [], map};
+ghost use Rattle.std.specs.Cmp.{on_per, partial_equiv_from_equiv};
+ghost use Rattle.otel_base.specs.AttributeLaws.{equiv_from_decides};
+ghost use Rattle.otel_base.specs.Seen.{pair_of};
+ghost use Rattle.opentelemetry.specs.Event.{link_eq, link_eq-Decides};
+ghost use Rattle.opentelemetry.specs.View.{link};
+
+use crate::trace::attributes::{copy_attributes, same_attributes};
+use otel_base::KeyValue;
+use otel_ids::SpanContext;
+use std::alloc::{AllocError, Global};
+
+/// A span that another one has to do with, without being its parent (the Rust crate's `Link`).
+///
+/// Contracts see the record of its three parts, the attributes as a list.
+#[derive(Debug, Drop)]
+pub struct Link {
+    /// The span context of the other span.
+    pub span_context: SpanContext,
+    /// What is said of the link, in given order.
+    pub attributes: Vec<KeyValue>,
+    /// How many attributes were left out, for a limit for example.
+    pub dropped_attributes_count: u32,
+}
+
+impl Link {
+    /// The link of the three parts.
+    pub fn new(
+        span_context: SpanContext,
+        attributes: Vec<KeyValue>,
+        dropped_attributes_count: u32,
+    ) -> Link
+        ensures { link result ≡ record {
+          span_context = span_context;
+          attributes = map pair_of attributes.items;
+          dropped_attributes_count = dropped_attributes_count;
+        } }
+    {
+        Link {
+            span_context,
+            attributes,
+            dropped_attributes_count,
+        }
+    }
+
+    /// A link without attributes.
+    pub fn with_context(alloc: Global, span_context: SpanContext) -> Link
+        ensures { link result ≡ record {
+          span_context = span_context;
+          attributes = [];
+          dropped_attributes_count = 0;
+        } }
+    {
+        Link::new(span_context, Vec::new(alloc), 0)
+    }
+}
+
+impl Clone for Link {
+    ghost is_clone = { λ l copy. link copy ≡ link l };
+
+    /// A link of the same parts.
+    ///
+    /// # Errors
+    ///
+    /// `AllocError` where a request for memory fails, or where the count of those that share the pairs of the trace
+    /// state is at its limit. The link is unchanged.
+    fn clone(&self) -> Result<Link, AllocError> {
+        Ok(Link {
+            span_context: self.span_context.clone()?,
+            attributes: copy_attributes(&self.attributes)?,
+            dropped_attributes_count: self.dropped_attributes_count,
+        })
+    }
+}
+
+impl PartialEq for Link {
+    ghost eq = { λ a b. link_eq (link a) (link b) };
+
+    ghost laws = { on_per link (partial_equiv_from_equiv (equiv_from_decides link_eq link_eq-Decides)) };
+
+    /// Whether both have the same three parts, the attributes in the same order.
+    fn eq(&self, other: &Link) -> bool
+        ensures value { result ≡ link_eq (link self.now) (link other.now) }
+        ensures same { IsTrue result ↔ (link self.now ≡ link other.now) }
+    {
+        self.span_context == other.span_context
+            && same_attributes(&self.attributes, &other.attributes)
+            && self.dropped_attributes_count == other.dropped_attributes_count
+    }
+}
