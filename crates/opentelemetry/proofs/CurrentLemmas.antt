@@ -20,10 +20,10 @@ record IsLast (lefts : List Left) (context : ContextRecord) : Type 0 where
   number : ℕ
   position : ℕ
   at : slice_get lefts number ≡ Some (Some (position, context))
-  latest : (other place : ℕ) (its : ContextRecord) → slice_get lefts other ≡ Some (Some (place, its)) → other ≤ number
+  latest : (other its_position : ℕ) (its : ContextRecord) → slice_get lefts other ≡ Some (Some (its_position, its)) → other ≤ number
 
 record HasNone (lefts : List Left) (base context : ContextRecord) : Type 0 where
-  none : (other place : ℕ) (its : ContextRecord) → slice_get lefts other ≡ Some (Some (place, its)) → ⊥
+  none : (other its_position : ℕ) (its : ContextRecord) → slice_get lefts other ≡ Some (Some (its_position, its)) → ⊥
   same : context ≡ base
 
 later : (x : Left) (lefts : List Left) (context : ContextRecord) → IsLast lefts context → IsLast (x ∷ lefts) context
@@ -31,30 +31,30 @@ later x lefts context l = record {
   number = suc l.number;
   position = l.position;
   at = l.at;
-  latest = λ other place its. latest other place its;
+  latest = λ other its_position its. latest other its_position its;
 } where
-  latest : (other place : ℕ) (its : ContextRecord) → slice_get (x ∷ lefts) other ≡ Some (Some (place, its)) → other ≤ suc l.number
-  latest zero place its e = omega arith
-  latest (suc other) place its e = omega (arith, l.latest other place its e)
+  latest : (other its_position : ℕ) (its : ContextRecord) → slice_get (x ∷ lefts) other ≡ Some (Some (its_position, its)) → other ≤ suc l.number
+  latest zero its_position its e = omega arith
+  latest (suc other) its_position its e = omega (arith, l.latest other its_position its e)
 
 last_of : (base : ContextRecord) (lefts : List Left) → IsLast lefts (last_context base lefts) ⊎ HasNone lefts base (last_context base lefts)
-last_of base [] = inr (record { none = λ other place its e. cc; same = refl })
+last_of base [] = inr (record { none = λ other its_position its e. cc; same = refl })
 last_of base (None ∷ lefts) = elim (last_of base lefts) [
   | inl l ↦ inl (later None lefts (last_context base lefts) l)
   | inr n ↦ inr (record { none = none n.none; same = n.same })
 ] where
-  none : ((other place : ℕ) (its : ContextRecord) → slice_get lefts other ≡ Some (Some (place, its)) → ⊥)
-      → (other place : ℕ) (its : ContextRecord) → slice_get (None ∷ lefts) other ≡ Some (Some (place, its)) → ⊥
-  none h zero place its e = cc
-  none h (suc other) place its e = h other place its e
+  none : ((other its_position : ℕ) (its : ContextRecord) → slice_get lefts other ≡ Some (Some (its_position, its)) → ⊥)
+      → (other its_position : ℕ) (its : ContextRecord) → slice_get (None ∷ lefts) other ≡ Some (Some (its_position, its)) → ⊥
+  none h zero its_position its e = cc
+  none h (suc other) its_position its e = h other its_position its e
 last_of base (Some a ∷ lefts) = elim (last_of a.1 lefts) [
   | inl l ↦ inl (later (Some a) lefts (last_context a.1 lefts) l)
   | inr n ↦ inl (record { number = 0; position = a.0; at = ap (λ c. Some (Some (a.0, c))) (sym n.same); latest = first n.none })
 ] where
-  first : ((other place : ℕ) (its : ContextRecord) → slice_get lefts other ≡ Some (Some (place, its)) → ⊥)
-      → (other place : ℕ) (its : ContextRecord) → slice_get (Some a ∷ lefts) other ≡ Some (Some (place, its)) → other ≤ 0
-  first h zero place its e = omega arith
-  first h (suc other) place its e = absurd (h other place its e)
+  first : ((other its_position : ℕ) (its : ContextRecord) → slice_get lefts other ≡ Some (Some (its_position, its)) → ⊥)
+      → (other its_position : ℕ) (its : ContextRecord) → slice_get (Some a ∷ lefts) other ≡ Some (Some (its_position, its)) → other ≤ 0
+  first h zero its_position its e = omega arith
+  first h (suc other) its_position its e = absurd (h other its_position its e)
 
 pub current : (events : List StackEvent) (outcomes : List AttachOutcome) → IsCurrent events outcomes (current_of (survivors events outcomes))
 current events outcomes = elim (last_of empty_context (left_by 0 events outcomes)) [
@@ -62,10 +62,10 @@ current events outcomes = elim (last_of empty_context (left_by 0 events outcomes
     number = l.number;
     position = l.position;
     survives = (those events outcomes l.number l.position (current_of (survivors events outcomes))).0 l.at;
-    latest = λ other place its s. l.latest other place its ((those events outcomes other place its).1 s);
+    latest = λ other its_position its s. l.latest other its_position its ((those events outcomes other its_position its).1 s);
   })
   | inr n ↦ inr (record {
-    none = λ other place its s. n.none other place its ((those events outcomes other place its).1 s);
+    none = λ other its_position its s. n.none other its_position its ((those events outcomes other its_position its).1 s);
     empty = n.same;
   })
 ]

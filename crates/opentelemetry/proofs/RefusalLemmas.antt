@@ -5,6 +5,7 @@ use Rattle.std.specs.List.{slice_get}
 use Rattle.std.proofs.lemmas.List.{length-append}
 use Rattle.std.proofs.lemmas.List.Elements.{filter_map-append, filter-append}
 use Rattle.otel_context.specs.Context.{ContextRecord}
+use Rattle.otel_context.specs.Stack.{Live, StackState}
 use Rattle.opentelemetry.specs.declared.carry.event.StackEvent.{StackEvent}
 use Rattle.opentelemetry.specs.declared.carry.event.StackEvent.TheVariants.{Attach}
 use Rattle.opentelemetry.specs.declared.carry.event.AttachOutcome.{AttachOutcome}
@@ -27,12 +28,17 @@ clear-nothing (None ∷ xs) zero h = refl
 clear-nothing (Some a ∷ xs) zero h = absurd (h a.0 a.1 refl)
 clear-nothing (x ∷ xs) (suc n) h = ap (λ (l : List Left). x ∷ l) (clear-nothing xs n h)
 
+-- stacks with the same attachments and counts are the same
+same_stack : (live live' : Live) (n n' : ℕ) → live ≡ live' → n ≡ n'
+    → ◌≡◌ {A = StackState} (record { live = live; accepted = n; stepped = 0 }) (record { live = live'; accepted = n'; stepped = 0 })
+same_stack live live' n n' p q = rw (p, q) refl
+
 pub nothing : RefusalsChangeNothing
 nothing events outcomes n = record {
-  full = λ context. survivors-attach events outcomes context Full n ∙ append-nil (survivors events outcomes);
-  no_memory = λ context. survivors-attach events outcomes context NoMemory n ∙ append-nil (survivors events outcomes);
-  accepted_full = rw (filter-append, length-append) (add-zero (accepted_of outcomes));
-  accepted_no_memory = rw (filter-append, length-append) (add-zero (accepted_of outcomes));
-  detach = λ number gone. ap survivors_of (left_by-detached number events outcomes
-      ∙ clear-nothing (left_by 0 events outcomes) number (λ position context e. gone position context ((those events outcomes number position context).0 e)));
+  full = λ context. same_stack _ _ _ _ (survivors-attach events outcomes context Full n ∙ append-nil (survivors events outcomes))
+      (rw (filter-append, length-append) (add-zero (accepted_of outcomes)));
+  no_memory = λ context. same_stack _ _ _ _ (survivors-attach events outcomes context NoMemory n ∙ append-nil (survivors events outcomes))
+      (rw (filter-append, length-append) (add-zero (accepted_of outcomes)));
+  detach = λ number gone. same_stack _ _ _ _ (ap survivors_of (left_by-detached number events outcomes
+      ∙ clear-nothing (left_by 0 events outcomes) number (λ position context e. gone position context ((those events outcomes number position context).0 e)))) refl;
 }

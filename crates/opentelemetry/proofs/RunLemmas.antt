@@ -187,9 +187,10 @@ stands-attach done outcomes places stack context o place s allowed lawful is = r
   legal = legal-attach done outcomes context o s.legal (rw (← s.live) allowed);
   live = live_is;
   current = current_is (done ++ Attach context ∷ []) (outcomes ++ o ∷ []) (after_attach stack o context).live live_is;
-  places_are = rw (more, map_push, ← s.places_are, is) refl;
+  kept_are = rw (more, map_push, ← s.kept_are, is) refl;
   lawful = lawful;
   accepted = rw (filter-append, length-append) (accepted o);
+  stepped = stepped o;
 } where
   more : left_by 0 (done ++ Attach context ∷ []) (outcomes ++ o ∷ []) ≡ left_by 0 done outcomes ++ attachment_of o context ∷ []
   more = left_by-attach 0 done outcomes context o s.legal.one_each
@@ -206,6 +207,11 @@ stands-attach done outcomes places stack context o place s allowed lawful is = r
   accepted (Attached p) = ap (λ n. n + 1) s.accepted
   accepted Full = s.accepted ∙ sym (add-zero _)
   accepted NoMemory = s.accepted ∙ sym (add-zero _)
+
+  stepped : (o : AttachOutcome) → (after_attach stack o context).stepped ≡ 0
+  stepped (Attached p) = s.stepped
+  stepped Full = s.stepped
+  stepped NoMemory = s.stepped
 
 -- the list of what is left, after one more detach
 pub left_by-detached : (n : ℕ) (done : List StackEvent) (outcomes : List AttachOutcome) → left_by 0 (done ++ Detach n ∷ []) outcomes ≡ slice_set (left_by 0 done outcomes) n None
@@ -226,19 +232,20 @@ at_no_place (x ∷ xs) (suc n) e = at_no_place xs n e
 
 -- what stands after a detach of an attach that left something
 pub stands-detach : (done : List StackEvent) (outcomes : List AttachOutcome) (places : List (Option ℕ)) (stack new : StackState) (n p : ℕ)
-    → Stands done outcomes places stack → slice_get places n ≡ Some (Some p) → new.live ≡ without p stack.live → new.accepted ≡ stack.accepted → IsLawful new
+    → Stands done outcomes places stack → slice_get places n ≡ Some (Some p) → new.live ≡ without p stack.live → new.accepted ≡ stack.accepted → new.stepped ≡ stack.stepped → IsLawful new
     → Stands (done ++ Detach n ∷ []) outcomes (slice_set places n None) new
-stands-detach done outcomes places stack new n p s at live accepted lawful = record {
+stands-detach done outcomes places stack new n p s at live accepted stepped lawful = record {
   legal = legal-detach done outcomes n s.legal;
   live = live_is;
   current = current_is (done ++ Detach n ∷ []) outcomes new.live live_is;
-  places_are = rw (left_by-detached, map-set) (ap (λ (l : List (Option ℕ)). slice_set l n None) s.places_are);
+  kept_are = rw (left_by-detached, map-set) (ap (λ (l : List (Option ℕ)). slice_set l n None) s.kept_are);
   lawful = lawful;
   accepted = accepted ∙ s.accepted;
+  stepped = stepped ∙ s.stepped;
 } where
   live_is : new.live ≡ survivors (done ++ Detach n ∷ []) outcomes
   live_is =
-      let there = at_place (left_by 0 done outcomes) n p (rw s.places_are at at) in
+      let there = at_place (left_by 0 done outcomes) n p (rw s.kept_are at at) in
       live ∙ ap (without p) s.live ∙ sym (survivors_of-set 0 (left_by 0 done outcomes) n p there.0 there.1 (rw s.live at s.lawful.rising)) ∙ sym (ap survivors_of (left_by-detached n done outcomes))
 
 -- what stands after a detach of one that left nothing
@@ -248,14 +255,15 @@ stands-skip done outcomes places stack n s at = record {
   legal = legal-detach done outcomes n s.legal;
   live = live_is;
   current = current_is (done ++ Detach n ∷ []) outcomes stack.live live_is;
-  places_are = s.places_are ∙ sym (ap (map (option_map (λ a. a.0))) same);
+  kept_are = s.kept_are ∙ sym (ap (map (option_map (λ a. a.0))) same);
   lawful = s.lawful;
   accepted = s.accepted;
+  stepped = s.stepped;
 } where
   same : left_by 0 (done ++ Detach n ∷ []) outcomes ≡ left_by 0 done outcomes
   same = left_by-detached n done outcomes ∙ (elim at [
-    | inl h ↦ set-same (left_by 0 done outcomes) n (at_no_place (left_by 0 done outcomes) n (rw s.places_are at h))
-    | inr h ↦ set_past (left_by 0 done outcomes) n None (let k : length (map (option_map (λ (a : ℕ × ContextRecord). a.0)) (left_by 0 done outcomes)) ≤ n = rw s.places_are at h in rw length-map at k)
+    | inl h ↦ set-same (left_by 0 done outcomes) n (at_no_place (left_by 0 done outcomes) n (rw s.kept_are at h))
+    | inr h ↦ set_past (left_by 0 done outcomes) n None (let k : length (map (option_map (λ (a : ℕ × ContextRecord). a.0)) (left_by 0 done outcomes)) ≤ n = rw s.kept_are at h in rw length-map at k)
   ])
 
   live_is : stack.live ≡ survivors (done ++ Detach n ∷ []) outcomes

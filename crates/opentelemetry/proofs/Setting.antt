@@ -107,3 +107,6 @@ sets_none a b s = fin.same_map nat_list_cmp_total (fin.slice_cmp-IsAntisymmetric
 -- past the last of no members the map is as it was
 pub sets_without : {X : Type 0} (f : X → Pairs) (xs ys : List X) (i : ℕ) (a b : TextMap) → xs ≡ ys → length xs ≤ i → Sets a (flat_map f (take i xs)) b → ys ≡ [] → b ≡ a
 sets_without f xs ys i a b same h s none = sets_none a b (rw none at (sets_all f xs ys i a b same h s))
+
+pub same_moved : (a b c d : TextMap) → a ≡ c → b ≡ d → b ≡ a → d ≡ c
+same_moved a b c d p q h = sym q ∙ h ∙ p

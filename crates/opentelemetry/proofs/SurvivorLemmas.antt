@@ -12,11 +12,11 @@ use Rattle.opentelemetry.specs.declared.carry.event.AttachOutcome.TheVariants.{A
 
 -- `Survives` where the first attach of the events has the number `k`
 record Kept (k : ℕ) (events : List StackEvent) (outcomes : List AttachOutcome) (j position : ℕ) (context : ContextRecord) : Type 0 where
-  place : ℕ
-  attach : slice_get events place ≡ Some (Attach context)
-  number_is : attaches_of (take place events) ≡ j
+  index : ℕ
+  attach : slice_get events index ≡ Some (Attach context)
+  number_is : attaches_of (take index events) ≡ j
   accepted : slice_get outcomes j ≡ Some (Attached position)
-  kept : (later : ℕ) → place < later → slice_get events later ≡ Some (Detach (k + j)) → ⊥
+  kept : (later : ℕ) → index < later → slice_get events later ≡ Some (Detach (k + j)) → ⊥
 
 -- what no event detaches is detached by none of them
 none-detaches : (k : ℕ) (events : List StackEvent) → list_any (detaches k) events ≡ false → (i : ℕ) → slice_get events i ≡ Some (Detach k) → ⊥
@@ -44,10 +44,10 @@ left_is false (Attached p) c context position e = let h : (p, c) ≡ (position, 
 left_is false Full c context position e = absurd (cc)
 left_is false NoMemory c context position e = absurd (cc)
 
--- what holds of the events after `place` holds of those after the next place, once there is one more event before
-later-suc : (e : StackEvent) (events : List StackEvent) (place m : ℕ) → ((l : ℕ) → place < l → slice_get events l ≡ Some (Detach m) → ⊥) → (later : ℕ) → suc place < later → slice_get (e ∷ events) later ≡ Some (Detach m) → ⊥
-later-suc e events place m kept zero h d = omega arith
-later-suc e events place m kept (suc l) h d = kept l (omega arith) d
+-- what holds of the events after `index` holds of those after the next index, once there is one more event before
+later-suc : (e : StackEvent) (events : List StackEvent) (index m : ℕ) → ((l : ℕ) → index < l → slice_get events l ≡ Some (Detach m) → ⊥) → (later : ℕ) → suc index < later → slice_get (e ∷ events) later ≡ Some (Detach m) → ⊥
+later-suc e events index m kept zero h d = omega arith
+later-suc e events index m kept (suc l) h d = kept l (omega arith) d
 
 later-first : (c : ContextRecord) (events : List StackEvent) (k m : ℕ) → m ≡ k → list_any (detaches k) events ≡ false → (later : ℕ) → 0 < later → slice_get (Attach c ∷ events) later ≡ Some (Detach m) → ⊥
 later-first c events k m same none zero h d = omega arith
@@ -58,32 +58,32 @@ forth : (k : ℕ) (events : List StackEvent) (outcomes : List AttachOutcome) (j 
 forth k [] outcomes j position context e = absurd (cc)
 forth k (Detach n ∷ events) outcomes j position context e =
     let it = forth k events outcomes j position context e in
-    record { place = suc it.place; attach = it.attach; number_is = it.number_is; accepted = it.accepted; kept = later-suc (Detach n) events it.place (k + j) it.kept }
+    record { index = suc it.index; attach = it.attach; number_is = it.number_is; accepted = it.accepted; kept = later-suc (Detach n) events it.index (k + j) it.kept }
 forth k (Attach c ∷ events) [] zero position context e = absurd (cc)
 forth k (Attach c ∷ events) [] (suc j) position context e = let ih = forth (k + 1) events [] j position context e in absurd (let h : None ≡ Some (Attached position) = ih.accepted in cc)
 forth k (Attach c ∷ events) (o ∷ outcomes) zero position context e =
     let h : (if list_any (detaches k) events then None else attachment_of o c) ≡ Some (position, context) = cc in
     let parts = left_is (list_any (detaches k) events) o c context position h in
-    record { place = 0; attach = ap (λ x. Some (Attach x)) parts.2; number_is = refl; accepted = ap (λ x. Some x) parts.1; kept = later-first c events k (k + 0) (omega arith) parts.0 }
+    record { index = 0; attach = ap (λ x. Some (Attach x)) parts.2; number_is = refl; accepted = ap (λ x. Some x) parts.1; kept = later-first c events k (k + 0) (omega arith) parts.0 }
 forth k (Attach c ∷ events) (o ∷ outcomes) (suc j) position context e =
     let it = forth (k + 1) events outcomes j position context e in
     let same : k + suc j ≡ (k + 1) + j = omega arith in
     record {
-      place = suc it.place;
+      index = suc it.index;
       attach = it.attach;
       number_is = ap suc it.number_is;
       accepted = it.accepted;
-      kept = later-suc (Attach c) events it.place (k + suc j) (λ l h d. it.kept l h (d ∙ ap (λ n. Some (Detach n)) same));
+      kept = later-suc (Attach c) events it.index (k + suc j) (λ l h d. it.kept l h (d ∙ ap (λ n. Some (Detach n)) same));
     }
 
 back : (k : ℕ) (events : List StackEvent) (outcomes : List AttachOutcome) (j position : ℕ) (context : ContextRecord)
-    → (place : ℕ) → slice_get events place ≡ Some (Attach context) → attaches_of (take place events) ≡ j → slice_get outcomes j ≡ Some (Attached position)
-    → ((later : ℕ) → place < later → slice_get events later ≡ Some (Detach (k + j)) → ⊥) → slice_get (left_by k events outcomes) j ≡ Some (Some (position, context))
-back k [] outcomes j position context place at number accepted kept = absurd (cc)
+    → (index : ℕ) → slice_get events index ≡ Some (Attach context) → attaches_of (take index events) ≡ j → slice_get outcomes j ≡ Some (Attached position)
+    → ((later : ℕ) → index < later → slice_get events later ≡ Some (Detach (k + j)) → ⊥) → slice_get (left_by k events outcomes) j ≡ Some (Some (position, context))
+back k [] outcomes j position context index at number accepted kept = absurd (cc)
 back k (Detach n ∷ events) outcomes j position context zero at number accepted kept = absurd (cc)
 back k (Detach n ∷ events) outcomes j position context (suc i) at number accepted kept =
     back k events outcomes j position context i at number accepted (λ later h. kept (suc later) (omega arith))
-back k (Attach c ∷ events) [] j position context place at number accepted kept = absurd (cc)
+back k (Attach c ∷ events) [] j position context index at number accepted kept = absurd (cc)
 back k (Attach c ∷ events) (o ∷ outcomes) zero position context zero at number accepted kept =
     let same : k ≡ k + 0 = omega arith in
     let none = detaches-none k events (λ i d. kept (suc i) (omega arith) (d ∙ ap (λ n. Some (Detach n)) same)) in
@@ -101,7 +101,7 @@ pub those : SurvivorsAreThose
 those events outcomes number position context = (there, here) where
   there : slice_get (left_by 0 events outcomes) number ≡ Some (Some (position, context)) → Survives events outcomes number position context
   there e = let it = forth 0 events outcomes number position context e in record {
-    place = it.place;
+    index = it.index;
     attach = it.attach;
     number_is = it.number_is;
     accepted = it.accepted;
@@ -109,4 +109,4 @@ those events outcomes number position context = (there, here) where
   }
 
   here : Survives events outcomes number position context → slice_get (left_by 0 events outcomes) number ≡ Some (Some (position, context))
-  here s = back 0 events outcomes number position context s.place s.attach s.number_is s.accepted (λ later h d. s.kept later h (let n : 0 + number ≡ number = omega arith in d ∙ ap (λ m. Some (Detach m)) n))
+  here s = back 0 events outcomes number position context s.index s.attach s.number_is s.accepted (λ later h d. s.kept later h (let n : 0 + number ≡ number = omega arith in d ∙ ap (λ m. Some (Detach m)) n))

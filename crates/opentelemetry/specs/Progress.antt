@@ -8,15 +8,22 @@ use Rattle.opentelemetry.specs.Run.{IsCurrent, Legal, survivors, left_by, accept
 
 -- the stack after an attach of the context with this outcome
 abbrev pub after_attach : StackState → AttachOutcome → ContextRecord → StackState
-after_attach old (Attached position) context = record { live = old.live ++ (position, context) ∷ []; accepted = old.accepted + 1; stepped = old.stepped }
+after_attach old (Attached position) context = record {
+  live = old.live ++ (position, context) ∷ [];
+  accepted = old.accepted + 1;
+  stepped = old.stepped;
+}
 after_attach old Full context = old
 after_attach old NoMemory context = old
 
--- what holds when the events so far are done: the outcomes, where each attach stands, and the stack are theirs
-pub record Stands (events : List StackEvent) (outcomes : List AttachOutcome) (places : List (Option ℕ)) (stack : StackState) : Type 0 where
+-- what holds when the events so far are done: the outcomes, the position of each attach while it is live, and the stack are theirs
+pub record Stands
+    (events : List StackEvent) (outcomes : List AttachOutcome)
+    (kept : List (Option ℕ)) (stack : StackState) : Type 0 where
   pub legal : Legal events outcomes
   pub live : stack.live ≡ survivors events outcomes
   pub current : IsCurrent events outcomes (current_of stack.live)
-  pub places_are : places ≡ map (option_map (λ a. a.0)) (left_by 0 events outcomes)
+  pub kept_are : kept ≡ map (option_map (λ a. a.0)) (left_by 0 events outcomes)
   pub lawful : IsLawful stack
   pub accepted : stack.accepted ≡ accepted_of outcomes
+  pub stepped : stack.stepped ≡ 0

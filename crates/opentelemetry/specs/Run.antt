@@ -1,9 +1,9 @@
--- What a run of attaches and detaches means, told by the numbers of its attaches (own).
+-- What a run of attaches and detaches means, by the numbers of its attaches. Not in the Rust crate.
 -- The attaches of a list of events are numbered from 0, in order. Each has an outcome, and the outcomes stand in that order.
 use Rattle.std.specs.Prelude.{◌≡◌, ◌≢◌, ◌⊎◌, ℕ, ◌+◌, ◌<◌, ◌≤◌, ◌==◌, if◌then◌else◌, Bool, true, false, List, [], ◌∷◌, length, take, filter, slice_get, Option, Some, None, IfSome}
 use Rattle.std.specs.List.{list_any, filter_map}
 use Rattle.otel_context.specs.Context.{ContextRecord, empty_context}
-use Rattle.otel_context.specs.Stack.{Live, newest_of}
+use Rattle.otel_context.specs.Stack.{Live, StackState, newest_of, last_position}
 use Rattle.opentelemetry.specs.declared.carry.event.StackEvent.{StackEvent}
 use Rattle.opentelemetry.specs.declared.carry.event.StackEvent.TheVariants.{Attach, Detach}
 use Rattle.opentelemetry.specs.declared.carry.event.AttachOutcome.{AttachOutcome}
@@ -45,46 +45,67 @@ left_by number [] outcomes = []
 left_by number (Detach other ∷ events) outcomes = left_by number events outcomes
 left_by number (Attach context ∷ events) [] = None ∷ left_by (number + 1) events []
 left_by number (Attach context ∷ events) (outcome ∷ outcomes) =
-    (if list_any (detaches number) events then None else attachment_of outcome context) ∷ left_by (number + 1) events outcomes
+    (if list_any (detaches number) events then None else attachment_of outcome context)
+    ∷ left_by (number + 1) events outcomes
 
 -- the attachments that survive the events, in the order of their attaches
 abbrev pub survivors : List StackEvent → List AttachOutcome → Live
 survivors events outcomes = filter_map (λ left. left) (left_by 0 events outcomes)
 
+-- The stack after the events: the survivors are live, each accepted attach is counted, and no emptied slot was stepped
+-- over.
+abbrev pub stack_of : List StackEvent → List AttachOutcome → StackState
+stack_of events outcomes = record {
+  live = survivors events outcomes;
+  accepted = accepted_of outcomes;
+  stepped = 0;
+}
+
 -- The attach of the number `number` survives the events, at this position and with this context: it is the event at
--- `place`, its outcome is `Attached`, and no event after it detaches it.
-pub record Survives (events : List StackEvent) (outcomes : List AttachOutcome) (number position : ℕ) (context : ContextRecord) : Type 0 where
-  pub place : ℕ
-  pub attach : slice_get events place ≡ Some (Attach context)
-  pub number_is : attaches_of (take place events) ≡ number
+-- `index`, its outcome is `Attached`, and no event after it detaches it.
+pub record Survives
+    (events : List StackEvent) (outcomes : List AttachOutcome)
+    (number position : ℕ) (context : ContextRecord) : Type 0 where
+  pub index : ℕ
+  pub attach : slice_get events index ≡ Some (Attach context)
+  pub number_is : attaches_of (take index events) ≡ number
   pub accepted : slice_get outcomes number ≡ Some (Attached position)
-  pub kept : (later : ℕ) → place < later → slice_get events later ≢ Some (Detach number)
+  pub kept : (later : ℕ) → index < later → slice_get events later ≢ Some (Detach number)
 
 -- the context is that of the latest attach that survives
-pub record IsLatest (events : List StackEvent) (outcomes : List AttachOutcome) (context : ContextRecord) : Type 0 where
+pub record IsLatest
+    (events : List StackEvent) (outcomes : List AttachOutcome) (context : ContextRecord) : Type 0 where
   pub number : ℕ
   pub position : ℕ
   pub survives : Survives events outcomes number position context
-  pub latest : (other place : ℕ) (its : ContextRecord) → Survives events outcomes other place its → other ≤ number
+  pub latest : (other its_position : ℕ) (its : ContextRecord)
+      → Survives events outcomes other its_position its → other ≤ number
 
 -- no attach survives, and the context is the empty one
-pub record IsBase (events : List StackEvent) (outcomes : List AttachOutcome) (context : ContextRecord) : Type 0 where
-  pub none : (other place : ℕ) (its : ContextRecord) → ¬ Survives events outcomes other place its
+pub record IsBase
+    (events : List StackEvent) (outcomes : List AttachOutcome) (context : ContextRecord) : Type 0 where
+  pub none : (other its_position : ℕ) (its : ContextRecord)
+      → ¬ Survives events outcomes other its_position its
   pub empty : context ≡ empty_context
 
 -- The current context after the events: that of the latest accepted attach that is not yet detached, or the empty base.
 abbrev pub IsCurrent : List StackEvent → List AttachOutcome → ContextRecord → Type 0
 IsCurrent events outcomes context = IsLatest events outcomes context ⊎ IsBase events outcomes context
 
--- The outcome of an attach where this is the newest position: `Full` exactly at 65534, want of memory from 8 on at most,
--- else the position after it.
+-- how many attachments a new stack has room for
+abbrev pub first_room : ℕ
+first_room = 8
+
+-- The outcome of an attach where this is the newest position: `Full` exactly at the last one; `NoMemory`, that a request
+-- for memory failed, only from 8 on; else the position after the newest.
 abbrev pub IsOutcome : ℕ → AttachOutcome → Type 0
-IsOutcome newest (Attached position) = (newest < 65534) × (position ≡ newest + 1)
-IsOutcome newest Full = newest ≡ 65534
-IsOutcome newest NoMemory = (8 ≤ newest) × (newest < 65534)
+IsOutcome newest (Attached position) = (newest < last_position) × (position ≡ newest + 1)
+IsOutcome newest Full = newest ≡ last_position
+IsOutcome newest NoMemory = (first_room ≤ newest) × (newest < last_position)
 
 -- Each attach has an outcome, and it is one that the survivors of the events before it allow.
 pub record Legal (events : List StackEvent) (outcomes : List AttachOutcome) : Type 0 where
   pub one_each : length outcomes ≡ attaches_of events
-  pub each : (place : ℕ) (context : ContextRecord) → slice_get events place ≡ Some (Attach context)
-      → IfSome (slice_get outcomes (attaches_of (take place events))) (IsOutcome (newest_of (survivors (take place events) outcomes)))
+  pub each : (index : ℕ) (context : ContextRecord) → slice_get events index ≡ Some (Attach context)
+      → IfSome (slice_get outcomes (attaches_of (take index events)))
+      (IsOutcome (newest_of (survivors (take index events) outcomes)))

@@ -1,11 +1,11 @@
 //! A run of attaches and detaches over one stack, whose current context is then injected.
-ghost use Rattle.std.specs.Prelude.{◌≡◌, ◌≤◌, ◌∷◌, ◌++◌, [], List, IsTrue, IfOk, OnOk, OnErr};
+ghost use Rattle.std.specs.Prelude.{◌≡◌, ◌≤◌, ◌∷◌, ◌++◌, [], List, IsTrue, IsOk, IfOk, OnOk, OnErr};
 ghost use Rattle.otel_context.specs.Stack.{newest_of, current_of, IsLawful};
 ghost use Rattle.opentelemetry.specs.Carrier.{Sets, SetsBeginning, text_map};
-ghost use Rattle.opentelemetry.specs.Composite.{pairs_of, may_refuse_of};
+ghost use Rattle.opentelemetry.specs.Composite.{members_of, pairs_of, may_refuse_of};
 ghost use Rattle.opentelemetry.specs.Refusal.{is_refused};
 ghost use Rattle.opentelemetry.specs.Progress.{after_attach, Stands};
-ghost use Rattle.opentelemetry.specs.Run.{IsOutcome, IsCurrent, Legal, survivors, accepted_of};
+ghost use Rattle.opentelemetry.specs.Run.{IsOutcome, IsCurrent, Legal, survivors, accepted_of, stack_of};
 ghost use Rattle.opentelemetry.specs.declared.carry.event.StackEvent.{StackEvent as EventValue};
 
 use crate::context::{Context, ContextStack};
@@ -18,7 +18,7 @@ pub mod laws;
 
 pub use event::{AttachOutcome, StackEvent};
 
-/// What a push answers where no position is left.
+/// What `push` returns where no position is left.
 const FULL: u16 = 65535;
 
 /// What a run leaves.
@@ -28,11 +28,11 @@ pub struct RunReport {
     pub stack: ContextStack,
     /// What became of each attach, in order.
     pub outcomes: Vec<AttachOutcome>,
-    /// The answer of the injection from the stack's current context.
+    /// What the injection from the stack's current context returned.
     pub injected: Result<(), PropagationError>,
 }
 
-/// Attaches the context, and tells what became of it.
+/// Attaches the context, and returns what became of it.
 fn attach(stack: &mut ContextStack, context: Context) -> AttachOutcome
     ensures outcome { IsLawful stack.old → IsOutcome (newest_of stack.old.live) result }
     ensures after { IsLawful stack.old → stack.new ≡ after_attach stack.old result context }
@@ -45,31 +45,32 @@ fn attach(stack: &mut ContextStack, context: Context) -> AttachOutcome
     }
 }
 
-/// Does one event. `places` holds, for each attach so far, its position while it is live.
-fn serve(
+/// Carries out one event. `positions` holds, for each attach so far, its position while it is live.
+fn apply(
     stack: &mut ContextStack,
-    places: &mut Vec<Option<u16>>,
+    positions: &mut Vec<Option<u16>>,
     outcomes: &mut Vec<AttachOutcome>,
     event: StackEvent,
 ) -> Result<(), AllocError>
-    ensures { IfOk result (λ _. (done : List EventValue) → Stands done outcomes.old.items places.old.items stack.old
-        → Stands (done ++ event ∷ []) outcomes.new.items places.new.items stack.new) }
+    ensures { IfOk result (λ _. (done : List EventValue)
+        → Stands done outcomes.old.items positions.old.items stack.old
+        → Stands (done ++ event ∷ []) outcomes.new.items positions.new.items stack.new) }
 {
     match event {
         StackEvent::Attach(context) => {
             let outcome = attach(stack, context);
             outcomes.push(outcome)?;
-            places.push(match outcome {
+            positions.push(match outcome {
                 AttachOutcome::Attached(position) => Some(position),
                 AttachOutcome::Full | AttachOutcome::NoMemory => None,
             })?;
             Ok(())
         }
         StackEvent::Detach(number) => {
-            if number < places.len() {
-                let place = places[number];
-                if let Some(position) = place {
-                    places[number] = None;
+            if number < positions.len() {
+                let live = positions[number];
+                if let Some(position) = live {
+                    positions[number] = None;
                     let _ = stack.pop_id(position);
                 }
             }
@@ -87,20 +88,31 @@ fn send(
     ensures ok { OnOk result (Sets (text_map carrier.old.entries) (pairs_of (λ m. pairs m) composite.now context.now) (text_map carrier.new.entries)) }
     ensures err { OnErr result (SetsBeginning (text_map carrier.old.entries) (pairs_of (λ m. pairs m) composite.now context.now) (text_map carrier.new.entries)) }
     ensures refused { IsTrue (is_refused result) → IsTrue (may_refuse_of (λ m. may_refuse m) composite.now) }
+    ensures empty { members_of composite.now ≡ []
+        → IsOk result × (text_map carrier.new.entries ≡ text_map carrier.old.entries) }
 {
     composite.inject_context(context, carrier)
 }
 
-/// Does the events in order, from an empty stack on, and injects from the context that is then
-/// current.
+/// Carries out the events in order, from an empty stack on, and injects from the context that is then current.
+///
+/// An attach or a detach that is refused changes nothing, and the run goes on. What the injection returns stands in the
+/// report: where it is an error, a beginning of the pairs is set in the carrier. Not in the Rust crate.
+///
+/// # Errors
+///
+/// `AllocError` where the request for the memory of the stack or of the run's lists fails. The carrier stays; the events
+/// and the stack are dropped.
 pub fn run(
     alloc: Global,
     events: Vec<StackEvent>,
     composite: &TextMapCompositePropagator,
     carrier: &mut HashMap<String, String>,
 ) -> Result<RunReport, AllocError>
-    ensures live { IfOk result (λ report. report.stack.live ≡ survivors events.items report.outcomes.items) }
-    ensures current { IfOk result (λ report. IsCurrent events.items report.outcomes.items (current_of report.stack.live)) }
+    ensures live { IfOk result (λ report.
+        report.stack.live ≡ survivors events.items report.outcomes.items) }
+    ensures current { IfOk result (λ report.
+        IsCurrent events.items report.outcomes.items (current_of report.stack.live)) }
     ensures legal { IfOk result (λ report. Legal events.items report.outcomes.items) }
     ensures injected { IfOk result (λ report. OnOk report.injected
         (Sets (text_map carrier.old.entries) (pairs_of (λ m. pairs m) composite.now (current_of report.stack.live)) (text_map carrier.new.entries))) }
@@ -109,13 +121,17 @@ pub fn run(
     ensures refused { IfOk result (λ report. IsTrue (is_refused report.injected) → IsTrue (may_refuse_of (λ m. may_refuse m) composite.now)) }
     ensures accepted { IfOk result (λ report. report.stack.accepted ≡ accepted_of report.outcomes.items) }
     ensures stepped { IfOk result (λ report. report.stack.stepped ≤ report.stack.accepted) }
+    ensures stack { IfOk result (λ report.
+        report.stack ≡ stack_of events.items report.outcomes.items) }
+    ensures empty { members_of composite.now ≡ [] → IfOk result (λ report. IsOk report.injected)
+        × (text_map carrier.new.entries ≡ text_map carrier.old.entries) }
     ensures err { OnErr result (text_map carrier.new.entries ≡ text_map carrier.old.entries) }
 {
     let mut stack = ContextStack::new(alloc)?;
     let mut outcomes = Vec::new(alloc);
-    let mut places = Vec::new(alloc);
+    let mut positions = Vec::new(alloc);
     for event in events {
-        serve(&mut stack, &mut places, &mut outcomes, event)?;
+        apply(&mut stack, &mut positions, &mut outcomes, event)?;
     }
     let injected = send(composite, stack.current(), carrier);
     Ok(RunReport {

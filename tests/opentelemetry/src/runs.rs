@@ -66,8 +66,9 @@ const RUNS: &[(&str, &str, u8, u16)] = &[
     ("a9", "1", b'a', 1),
 ];
 
-/// Asserts the name of the report's current context, and the newest position.
+/// Asserts that an injection without members was `Ok`, the name of the report's current context, and the newest position.
 fn assert_stands(rt: &impl Abort, report: &RunReport, current: u8, newest: u16) {
+    assert_eq!(rt; report.injected, Ok(()));
     assert_eq!(rt; current_of(report), current as i64);
     assert_eq!(rt; report.stack.newest_position(), newest);
 }

@@ -17,6 +17,6 @@ pub enum AttachOutcome {
     Attached(u16),
     /// The newest live position was 65534. Nothing changed.
     Full,
-    /// A growth was refused. Nothing changed.
+    /// A request for memory failed, which comes only from newest position 8 on. Nothing changed.
     NoMemory,
 }

@@ -10,7 +10,7 @@ pub fn survivors_are_those()
     ensures { SurvivorsAreThose }
 {}
 
-/// A refused attach, and a detach of a number that doesn't survive, change nothing.
+/// A refused attach, and a detach of a number that doesn't survive, leave the stack: what is live, and both counts.
 pub fn refusals_change_nothing()
     ensures { RefusalsChangeNothing }
 {}
