@@ -1,0 +1,72 @@
+-- A `BTreeMap` from numbers to spans, seen as the finite map of its entries.
+use Rattle.std.proofs.Common.{◌≡◌, ℕ, ◌+◌, List, [], ◌∷◌, length, Option, Some, None, cond, true, is_some, refl, sym, ap, ◌∙◌, arith}
+use Rattle.std.specs.Borrow.{MutBor}
+use Rattle.std.specs.Option.{IsSome, OnSome, option_copied_mut}
+use Rattle.std.specs.Ordering.{nat_cmp, eq_by_cmp, is_eq}
+use Rattle.std.specs.Cmp.{nat_cmp_total, eq_by_cmp_equiv}
+use Rattle.std.specs.List.{IsDistinct}
+use Rattle.std.specs.Map.{lookup, keys_of}
+use Rattle.std.specs.declared.cmp.Ordering.{Ordering}
+use Rattle.std.specs.declared.cmp.Ordering.TheVariants.{Less, Equal, Greater}
+use Rattle.std.specs.BTreeMap as tree
+use Rattle.std.specs.BTreeMap.{BTreeMap, is_at}
+use Rattle.std.specs.FinMap as map
+use Rattle.std.proofs.lemmas.Map.{lookup-none}
+use Rattle.std.proofs.lemmas.Map.Keys.{IsDistinct-from_sorted, IsDistinct-tail}
+use Rattle.std.proofs.lemmas.Map.Entries.{none_past_head}
+use Rattle.std.proofs.lemmas.Map.Made.{IsSome-lookup_same_keys}
+use Rattle.otel_context.specs.Spans.{map_of}
+
+flipped : (k q : ℕ) → eq_by_cmp nat_cmp q k ≡ is_at (nat_cmp k) q
+flipped k q = (eq_by_cmp_equiv nat_cmp_total).symm q k
+
+pub equal_of : (r : Ordering) → is_eq r ≡ true → r ≡ Equal
+equal_of Less e = cc
+equal_of Equal e = refl
+equal_of Greater e = cc
+
+module _ {S : Type 0} where
+  find_is_lookup : (q : ℕ) (es : List (ℕ × S)) → map.find nat_cmp q es ≡ lookup (is_at (nat_cmp q)) es
+  find_is_lookup q [] = refl
+  find_is_lookup q (e ∷ es) = ap (cond (is_eq (nat_cmp q e.0)) (Some e.1)) (find_is_lookup q es)
+
+  -- the map of the entries finds what the tree finds
+  pub get-view : (m : BTreeMap ℕ S) (q : ℕ) → map.get (map_of m) q ≡ tree.get nat_cmp m q
+  get-view m q = map.get-from_entries nat_cmp_total m.entries q ∙ find_is_lookup q m.entries
+
+  -- a tree with one more value at k is the map with it
+  pub view-updates : (m n : BTreeMap ℕ S) (k : ℕ) (v : S) → tree.Updates nat_cmp m n k (Some v) → map_of n ≡ map.insert (map_of m) k v
+  view-updates m n k v u = map.same_map nat_cmp_total map.nat_cmp-IsAntisymmetric _ _ (λ q.
+      get-view n q ∙ u.0 q
+      ∙ sym (map.get-insert nat_cmp_total (map_of m) k v q ∙ ap (λ b. cond b (Some v) (map.get (map_of m) q)) (flipped k q) ∙ ap (cond (is_at (nat_cmp k) q) (Some v)) (get-view m q)))
+
+  -- and without the value at k, the map without it
+  pub view-removes : (m n : BTreeMap ℕ S) (k : ℕ) → tree.Updates nat_cmp m n k None → map_of n ≡ map.remove (map_of m) k
+  view-removes m n k u = map.same_map nat_cmp_total map.nat_cmp-IsAntisymmetric _ _ (λ q.
+      get-view n q ∙ u.0 q
+      ∙ sym (map.get-remove nat_cmp_total (map_of m) k q ∙ ap (λ b. cond b None (map.get (map_of m) q)) (flipped k q) ∙ ap (cond (is_at (nat_cmp k) q) None) (get-view m q)))
+
+  len-distinct : (es : List (ℕ × S)) → IsDistinct (eq_by_cmp nat_cmp) (keys_of es) → map.len (map.from_entries {R = nat_cmp} es) ≡ length es
+  len-distinct [] d = map.len-empty nat_cmp S
+  len-distinct (e ∷ es) d =
+      let absent : map.get (map.from_entries {R = nat_cmp} es) e.0 ≡ None =
+      map.get-from_entries nat_cmp_total es e.0 ∙ find_is_lookup e.0 es ∙ lookup-none (eq_by_cmp nat_cmp e.0) es (none_past_head (eq_by_cmp_equiv nat_cmp_total) e.0 e es d ((eq_by_cmp_equiv nat_cmp_total).refl e.0)) in
+      let rest = len-distinct es (IsDistinct-tail (eq_by_cmp nat_cmp) e.0 (keys_of es) d) in
+      map.len-insert nat_cmp_total (map.from_entries es) e.0 e.1
+      ∙ ap (λ o. cond (is_some o) (map.len (map.from_entries {R = nat_cmp} es)) (map.len (map.from_entries {R = nat_cmp} es) + 1)) absent
+      ∙ ap (λ n. n + 1) rest ∙ (omega arith)
+
+  pub len-view : (m : BTreeMap ℕ S) → tree.IsOrdered nat_cmp m → map.len (map_of m) ≡ tree.btree_map_len m
+  len-view m s = len-distinct m.entries (IsDistinct-from_sorted nat_cmp (tree.keys m) s)
+
+  -- trees with the same keys have values at the same numbers
+  pub IsSome-same_keys : (m n : BTreeMap ℕ S) → tree.keys n ≡ tree.keys m → (q : ℕ) → IsSome (tree.get nat_cmp n q) → IsSome (tree.get nat_cmp m q)
+  IsSome-same_keys m n same q = (IsSome-lookup_same_keys (is_at (nat_cmp q)) n.entries m.entries same).0
+
+  pub OnSome-found : (r : Option (MutBor S)) (o : Option S) (P : Type 0) → option_copied_mut r ≡ o → (IsSome o → P) → OnSome r P
+  OnSome-found (Some x) o P e h = h (ap is_some (sym e))
+  OnSome-found None o P e h = tt
+
+  pub None-absent : (o : Option S) → (IsSome o → ⊥) → o ≡ None
+  None-absent (Some x) h = absurd (h refl)
+  None-absent None h = refl

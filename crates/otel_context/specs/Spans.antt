@@ -1,0 +1,63 @@
+-- What a span table is: a finite map from numbers to spans, and the number that is given out next (own: the Rust crate's contexts share their spans).
+use Rattle.std.specs.Prelude.{◌≡◌, ◌⊎◌, ℕ, ◌+◌, ◌==◌, Option, if◌then◌else◌, alloc_error}
+use Rattle.std.specs.Ordering.{nat_cmp}
+use Rattle.std.specs.BTreeMap.{BTreeMap}
+use Rattle.std.specs.FinMap as map
+use Rattle.otel_context.specs.declared.spans.SpanCause.{SpanCause}
+use Rattle.otel_context.specs.declared.spans.SpanCause.TheVariants.{NumbersUsedUp, Memory}
+use Rattle.otel_context.specs.declared.spans.SpanRefused.{SpanRefused}
+
+-- the spans under their numbers, and the number of the next one
+pub record SpansState (S : Type 0) : Type 0 where
+  pub spans : map.FinMap nat_cmp S
+  pub next_number : ℕ
+
+-- what stands for the next number once each number was given out: the greatest `u64`
+abbrev pub used_up : ℕ
+used_up = 18446744073709551615
+
+module _ {S : Type 0} where
+  -- the entries of a tree as a finite map
+  abbrev pub map_of : BTreeMap ℕ S → map.FinMap nat_cmp S
+  map_of tree = map.from_entries tree.entries
+
+  -- no span, and the number that is given out first
+  abbrev pub starting_at : ℕ → SpansState S
+  starting_at first = record { spans = map.empty; next_number = first }
+
+  -- the span under the number, if there is one
+  abbrev pub get : SpansState S → ℕ → Option S
+  get table number = map.get table.spans number
+
+  -- how many spans stand in the table
+  abbrev pub len : SpansState S → ℕ
+  len table = map.len table.spans
+
+  -- the table with the span under its next number, which rises by one
+  -- into the empty table from 0: a under 0, and 1 is next
+  abbrev pub insert : SpansState S → S → SpansState S
+  insert table span = record {
+    spans = map.insert table.spans table.next_number span;
+    next_number = table.next_number + 1;
+  }
+
+  -- the table with this span in place of the one under the number
+  abbrev pub replace : SpansState S → ℕ → S → SpansState S
+  replace table number span = record table { spans = map.insert table.spans number span }
+
+  -- the table without the span under the number, which isn't given out again
+  abbrev pub take : SpansState S → ℕ → SpansState S
+  take table number = record table { spans = map.remove table.spans number }
+
+  -- why the table takes no span: its numbers are used up, or else a request for memory failed
+  abbrev pub cause_of : SpansState S → SpanCause
+  cause_of table = if table.next_number == used_up then NumbersUsedUp else Memory alloc_error
+
+  -- the refusal, which holds the span that was handed in
+  abbrev pub refusal : SpansState S → S → SpanRefused S
+  refusal table span = record { span = span; cause = cause_of table }
+
+  -- the same spans, where at most one number was used up
+  pub record HasSameSpans (old new : SpansState S) : Type 0 where
+    pub spans : new.spans ≡ old.spans
+    pub next_number : (new.next_number ≡ old.next_number) ⊎ (new.next_number ≡ old.next_number + 1)

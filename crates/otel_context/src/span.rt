@@ -1,0 +1,192 @@
+//! What a span is told while it runs.
+ghost use Rattle.std.specs.Prelude.{◌≡◌, OnOk, OnErr};
+ghost use Rattle.otel_base.specs.Seen.{pair_of};
+
+use crate::status::Status;
+use otel_base::{Key, KeyValue, StringValue, Value};
+use otel_ids::SpanContext;
+use std::alloc::{AllocError, Global};
+use std::fmt::Display;
+
+/// A piece of work in a trace: what happens to it is told to its span while it runs.
+///
+/// Who writes a span type names, by ghost members, the effect of each writing call as a function of the span and of what
+/// the arguments mean: `after_event` of name, time and attributes, `after_attribute`, `after_link`, `after_status`,
+/// `after_name`, `after_end`; and `context_of` and `records`, what `span_context` and `is_recording` return. Each call owes
+/// its effect or, after an error, the span as it was, and no effect changes the span context (`event_keeps` and the five
+/// laws like it). The other calls are made of these. What the calls do once the span has ended is for the type to say.
+///
+/// Moments are nanoseconds since 1970-01-01T00:00:00Z. The Rust crate reads the clock in `add_event`, `record_error` and
+/// `end`; here the moment is handed in.
+pub trait Span: Drop {
+    ghost use Rattle.std.specs.Prelude.{ℕ, List, Bool};
+    ghost use Rattle.otel_ids.specs.SpanContext.{SpanContextRecord};
+    ghost use Rattle.otel_context.specs.declared.status.Status.{Status};
+    ghost use Rattle.otel_context.specs.SpanEffects.{Attribute, attributes_of, SetsAttributes, SetsBeginning, RecordsError};
+
+    ghost context_of: { Self → SpanContextRecord };
+
+    ghost records: { Self → Bool };
+
+    ghost after_event: { Self → List ℕ → ℕ → List Attribute → Self };
+
+    ghost after_attribute: { Self → Attribute → Self };
+
+    ghost after_link: { Self → SpanContextRecord → List Attribute → Self };
+
+    ghost after_status: { Self → Status → Self };
+
+    ghost after_name: { Self → List ℕ → Self };
+
+    ghost after_end: { Self → ℕ → Self };
+
+    /// Adds an event that happened at that moment.
+    ///
+    /// # Errors
+    ///
+    /// `AllocError` where a request for memory fails. The span is unchanged.
+    fn add_event_with_timestamp(
+        &mut self,
+        alloc: Global,
+        name: StringValue,
+        timestamp: u64,
+        attributes: Vec<KeyValue>,
+    ) -> Result<(), AllocError>
+        ensures ok { OnOk result
+            (self.new ≡ after_event self.old name timestamp (attributes_of attributes)) }
+        ensures err { OnErr result (self.new ≡ self.old) };
+
+    /// Sets an attribute.
+    ///
+    /// # Errors
+    ///
+    /// `AllocError` where a request for memory fails. The span is unchanged.
+    fn set_attribute(&mut self, alloc: Global, attribute: KeyValue) -> Result<(), AllocError>
+        ensures ok { OnOk result (self.new ≡ after_attribute self.old (pair_of attribute)) }
+        ensures err { OnErr result (self.new ≡ self.old) };
+
+    /// Adds a link to another span.
+    ///
+    /// # Errors
+    ///
+    /// `AllocError` where a request for memory fails. The span is unchanged.
+    fn add_link(
+        &mut self,
+        alloc: Global,
+        span_context: SpanContext,
+        attributes: Vec<KeyValue>,
+    ) -> Result<(), AllocError>
+        ensures ok { OnOk result
+            (self.new ≡ after_link self.old span_context (attributes_of attributes)) }
+        ensures err { OnErr result (self.new ≡ self.old) };
+
+    /// Sets how it went.
+    fn set_status(&mut self, status: Status)
+        ensures { self.new ≡ after_status self.old status };
+
+    /// Gives the span another name.
+    fn update_name(&mut self, name: StringValue)
+        ensures { self.new ≡ after_name self.old name };
+
+    /// Ends the span at that moment.
+    fn end_with_timestamp(&mut self, timestamp: u64)
+        ensures { self.new ≡ after_end self.old timestamp };
+
+    /// What identifies the span. It stays the same for as long as the span is there.
+    fn span_context(&self) -> &SpanContext
+        ensures { result.now ≡ context_of self.now };
+
+    /// Whether the span still takes what it is told.
+    fn is_recording(&self) -> bool
+        ensures { result ≡ records self.now };
+
+    /// Adds an event that happens now.
+    ///
+    /// # Errors
+    ///
+    /// `AllocError` where a request for memory fails. The span is unchanged.
+    fn add_event(
+        &mut self,
+        alloc: Global,
+        name: StringValue,
+        attributes: Vec<KeyValue>,
+        now: u64,
+    ) -> Result<(), AllocError>
+        ensures ok { OnOk result
+            (self.new ≡ after_event self.old name now (attributes_of attributes)) }
+        ensures err { OnErr result (self.new ≡ self.old) }
+    {
+        self.add_event_with_timestamp(alloc, name, now, attributes)
+    }
+
+    /// Adds an event `exception` that happens now, with the error's text as the attribute `exception.message`. Where the
+    /// span doesn't record, it does nothing.
+    ///
+    /// # Errors
+    ///
+    /// `AllocError` where a request for memory fails. The span is unchanged.
+    fn record_error<E: Display>(
+        &mut self,
+        alloc: Global,
+        error: &E,
+        now: u64,
+    ) -> Result<(), AllocError>
+        ensures ok { OnOk result
+            (RecordsError records after_event self.old (E.output error.now) now self.new) }
+        ensures err { OnErr result (self.new ≡ self.old) }
+    {
+        if !self.is_recording() {
+            return Ok(());
+        }
+        let text = error.to_string(alloc)?;
+        let key = Key::from_static_str("exception.message");
+        let message = KeyValue::new(key, Value::from(text));
+        let mut attributes = Vec::new(alloc);
+        attributes.push(message)?;
+        self.add_event(alloc, StringValue::from("exception"), attributes, now)
+    }
+
+    /// Asks once whether the span records, and then sets each attribute, in order.
+    ///
+    /// # Errors
+    ///
+    /// `AllocError` where a request for memory fails. A beginning of the attributes is set.
+    fn set_attributes(&mut self, alloc: Global, attributes: Vec<KeyValue>) -> Result<(), AllocError>
+        ensures ok { OnOk result
+            (SetsAttributes records after_attribute self.old (attributes_of attributes) self.new) }
+        ensures err { OnErr result
+            (SetsBeginning after_attribute self.old (attributes_of attributes) self.new) }
+    {
+        if self.is_recording() {
+            for attribute in attributes {
+                self.set_attribute(alloc, attribute)?;
+            }
+        }
+        Ok(())
+    }
+
+    /// Ends the span now.
+    fn end(&mut self, now: u64)
+        ensures { self.new ≡ after_end self.old now }
+    {
+        self.end_with_timestamp(now)
+    }
+
+    ghost event_keeps: { (span : Self) (name : List ℕ) (time : ℕ) (attributes : List Attribute)
+        → context_of (after_event span name time attributes) ≡ context_of span };
+
+    ghost attribute_keeps: { (span : Self) (attribute : Attribute)
+        → context_of (after_attribute span attribute) ≡ context_of span };
+
+    ghost link_keeps: { (span : Self) (linked : SpanContextRecord) (attributes : List Attribute)
+        → context_of (after_link span linked attributes) ≡ context_of span };
+
+    ghost status_keeps: { (span : Self) (status : Status)
+        → context_of (after_status span status) ≡ context_of span };
+
+    ghost name_keeps: { (span : Self) (name : List ℕ)
+        → context_of (after_name span name) ≡ context_of span };
+
+    ghost end_keeps: { (span : Self) (time : ℕ)
+        → context_of (after_end span time) ≡ context_of span };
+}

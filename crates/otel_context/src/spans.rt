@@ -1,0 +1,177 @@
+//! The table of the spans that contexts name by their numbers.
+ghost use Rattle.std.specs.Prelude.{◌≡◌, ◌↔◌, IsTrue, IsErr, OnOk, OnErr, IfOk, IfErr, None, option_copied};
+ghost use Rattle.std.specs.Option.{option_copied_mut};
+ghost use Rattle.std.specs.Borrow.{sem};
+
+use std::alloc::{AllocError, Global};
+use std::collections::BTreeMap;
+use std::marker::Model;
+
+/// Why a table took no span. Not in the Rust crate.
+#[derive(Debug, Drop)]
+pub enum SpanCause {
+    /// Each number, from 0 to 18446744073709551614, was given out or passed over.
+    NumbersUsedUp,
+    /// A request for memory failed.
+    Memory(AllocError),
+}
+
+/// A span that wasn't taken, and why. Not in the Rust crate.
+#[derive(Drop)]
+pub struct SpanRefused<S> {
+    /// The span that was handed in.
+    pub span: S,
+    /// Why it wasn't taken.
+    pub cause: SpanCause,
+}
+
+/// The spans that contexts name by their numbers. Not in the Rust crate, whose contexts share their spans behind a lock.
+///
+/// Each span that is put in gets the next number, and no number is given out twice, even after its span was taken.
+/// Contracts see a finite map from numbers to spans, and the next number.
+#[derive(Drop)]
+pub struct Spans<S> {
+    table: BTreeMap<u64, S>,
+    next: u64,
+}
+
+impl<S> Model for Spans<S> {
+    ghost use Rattle.std.specs.Prelude.{◌<◌, ℕ, IsSome};
+    ghost use Rattle.std.specs.Ordering.{nat_cmp};
+    ghost use Rattle.std.specs.BTreeMap as tree;
+    ghost use Rattle.otel_context.specs.Spans.{SpansState, map_of};
+    ghost use Rattle.otel_context.specs.SpansCode.{spans_code};
+
+    ghost Value = { SpansState S };
+
+    ghost coded = { spans_code S.code };
+
+    ghost view = { λ s. record { spans = map_of s.table; next_number = s.next } };
+
+    ghost invariant = { λ s. (number : ℕ)
+        → IsSome (tree.get nat_cmp s.table number) → number < s.next };
+}
+
+impl<S: Drop> Spans<S> {
+    ghost use Rattle.otel_context.specs.Spans.{starting_at, get, len, insert, take, used_up, refusal};
+    ghost use Rattle.otel_context.specs.SpansLent.{LendsSpan, LendsFound, find};
+
+    /// An empty table, whose first number is 0. Takes no memory.
+    pub fn new(alloc: Global) -> Spans<S>
+        ensures { result ≡ starting_at 0 }
+    {
+        Spans::starting_at(alloc, 0)
+    }
+
+    /// An empty table, whose first number is `first`. Takes no memory.
+    pub fn starting_at(alloc: Global, first: u64) -> Spans<S>
+        ensures { result ≡ starting_at first }
+    {
+        Spans {
+            table: BTreeMap::new(alloc),
+            next: first,
+        }
+    }
+
+    /// Puts a span under the next number, and returns that number. It is looked up, taken and put in within the logarithm
+    /// of the table's size.
+    ///
+    /// # Errors
+    ///
+    /// `NumbersUsedUp` where the next number is 18446744073709551615, and else `Memory` where a request for memory fails. The
+    /// table is unchanged, and the span comes back.
+    pub fn insert(&mut self, span: S) -> Result<u64, SpanRefused<S>>
+        ensures number { IfOk result (λ number. number ≡ self.old.next_number) }
+        ensures fresh { IfOk result (λ number. get self.old number ≡ None) }
+        ensures inserted { OnOk result (self.new ≡ insert self.old span) }
+        ensures unchanged { OnErr result (self.new ≡ self.old) }
+        ensures used_up { self.old.next_number ≡ used_up → IsErr result }
+        ensures refused { IfErr result (λ refused. refused ≡ refusal self.old span) }
+    {
+        let number = self.next;
+        if number == u64::MAX {
+            return Err(SpanRefused {
+                span,
+                cause: SpanCause::NumbersUsedUp,
+            });
+        }
+        match self.table.insert(number, span) {
+            Ok(_) => {
+                self.next = number + 1;
+                Ok(number)
+            }
+            Err(failed) => {
+                let (_, span) = failed.value;
+                Err(SpanRefused {
+                    span,
+                    cause: SpanCause::Memory(AllocError),
+                })
+            }
+        }
+    }
+
+    /// The span under a number.
+    pub fn get(&self, number: u64) -> Option<&S>
+        ensures { option_copied result ≡ get self.now number }
+    {
+        self.table.get(&number)
+    }
+
+    /// The span under a number, lent for writing. Every other span stays as it is.
+    pub fn get_mut(&mut self, number: u64) -> Option<&mut S>
+        ensures* writes_back { sem 𝓛 (LendsSpan S.row self.entry number result) }
+        ensures value { option_copied_mut result ≡ get self.old number }
+    {
+        self.table.get_mut(&number)
+    }
+
+    /// The span under the number of a context, which may have none.
+    pub(crate) fn find(&self, number: Option<u64>) -> Option<&S>
+        ensures { option_copied result ≡ find self.now number }
+    {
+        match number {
+            Some(number) => self.get(number),
+            None => None,
+        }
+    }
+
+    /// The same, lent for writing.
+    pub(crate) fn find_mut(&mut self, number: Option<u64>) -> Option<&mut S>
+        ensures* writes_back { sem 𝓛 (LendsFound S.row self.entry number result) }
+        ensures value { option_copied_mut result ≡ find self.old number }
+    {
+        match number {
+            Some(number) => self.get_mut(number),
+            None => None,
+        }
+    }
+
+    /// Takes the span under a number out of the table. Its number isn't given out again.
+    pub fn take(&mut self, number: u64) -> Option<S>
+        ensures value { result ≡ get self.old number }
+        ensures taken { self.new ≡ take self.old number }
+    {
+        self.table.remove(&number)
+    }
+
+    /// How many spans stand in the table.
+    pub fn len(&self) -> usize
+        ensures { result ≡ len self.now }
+    {
+        self.table.len()
+    }
+
+    /// Whether no span stands in the table.
+    pub fn is_empty(&self) -> bool
+        ensures { IsTrue result ↔ (len self.now ≡ 0) }
+    {
+        self.len() == 0
+    }
+
+    /// The number of the next span that is put in, or 18446744073709551615 once the numbers are used up.
+    pub fn next_number(&self) -> u64
+        ensures { result ≡ self.now.next_number }
+    {
+        self.next
+    }
+}
