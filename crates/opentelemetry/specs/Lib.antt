@@ -7,4 +7,6 @@ pub mod Laws
 pub mod WorkedRuns
 pub mod LongRuns
 pub mod Event
+pub mod SpanBuilder
+pub mod Scope
 pub mod View

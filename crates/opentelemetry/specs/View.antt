@@ -1,21 +1,33 @@
 -- What contracts see of the types of this crate.
-use Rattle.std.specs.Prelude.{map}
+use Rattle.std.specs.Prelude.{map, option_map}
 use Rattle.otel_base.specs.Seen.{pair_of}
 use Rattle.opentelemetry.specs.Event.{EventRecord, LinkRecord}
 use Rattle.opentelemetry.specs.declared.trace.event.Event.{Event}
+use Rattle.opentelemetry.specs.SpanBuilder.{BuilderRecord}
 use Rattle.opentelemetry.specs.declared.trace.link.Link.{Link}
+use Rattle.opentelemetry.specs.declared.trace.span_builder.SpanBuilder.{SpanBuilder}
 
-abbrev pub event : Event → EventRecord
-event e = record {
+abbrev pub event_of : Event → EventRecord
+event_of e = record {
   name = e.name;
   timestamp = e.timestamp;
   attributes = map pair_of e.attributes.items;
   dropped_attributes_count = e.dropped_attributes_count;
 }
 
-abbrev pub link : Link → LinkRecord
-link l = record {
+abbrev pub link_of : Link → LinkRecord
+link_of l = record {
   span_context = l.span_context;
   attributes = map pair_of l.attributes.items;
   dropped_attributes_count = l.dropped_attributes_count;
+}
+
+abbrev pub builder_of : SpanBuilder → BuilderRecord
+builder_of b = record {
+  span_kind = b.span_kind;
+  name = b.name;
+  start_time = b.start_time;
+  attributes = option_map (λ v. map pair_of v.items) b.attributes;
+  events = option_map (λ v. map event_of v.items) b.events;
+  links = option_map (λ v. map link_of v.items) b.links;
 }

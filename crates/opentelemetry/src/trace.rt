@@ -1,7 +1,10 @@
-//! Ids, trace states and span contexts; spans, their events and links, and the table that spans stand in.
+//! Spans and what they are made of: ids, trace states, span contexts, events, links, builders.
 mod attributes;
 mod event;
 mod link;
+mod span_builder;
+mod tracer;
+mod tracer_provider;
 
 pub use event::Event;
 pub use link::Link;
@@ -9,3 +12,6 @@ pub use otel_context::{Span, SpanCause, SpanKind, SpanRefused, Spans, Status};
 pub use otel_ids::{
     SpanContext, SpanId, TraceFlags, TraceId, TraceState, TraceStateError, TraceStateIter,
 };
+pub use span_builder::SpanBuilder;
+pub use tracer::Tracer;
+pub use tracer_provider::TracerProvider;

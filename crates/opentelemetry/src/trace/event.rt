@@ -4,7 +4,7 @@ ghost use Rattle.std.specs.Cmp.{on_per, partial_equiv_from_equiv};
 ghost use Rattle.otel_base.specs.AttributeLaws.{equiv_from_decides};
 ghost use Rattle.otel_base.specs.Seen.{pair_of};
 ghost use Rattle.opentelemetry.specs.Event.{event_eq, event_eq-Decides};
-ghost use Rattle.opentelemetry.specs.View.{event};
+ghost use Rattle.opentelemetry.specs.View.{event_of};
 
 use crate::trace::attributes::{copy_attributes, same_attributes};
 use otel_base::{KeyValue, StringValue};
@@ -33,7 +33,7 @@ impl Event {
         attributes: Vec<KeyValue>,
         dropped_attributes_count: u32,
     ) -> Event
-        ensures { event result ≡ record {
+        ensures { event_of result ≡ record {
           name = name;
           timestamp = timestamp;
           attributes = map pair_of attributes.items;
@@ -50,7 +50,7 @@ impl Event {
 
     /// An event without attributes, at a moment in nanoseconds since 1970-01-01T00:00:00Z.
     pub fn with_name(alloc: Global, name: StringValue, timestamp: u64) -> Event
-        ensures { event result ≡ record {
+        ensures { event_of result ≡ record {
           name = name;
           timestamp = timestamp;
           attributes = [];
@@ -62,7 +62,7 @@ impl Event {
 }
 
 impl Clone for Event {
-    ghost is_clone = { λ e copy. event copy ≡ event e };
+    ghost is_clone = { λ e copy. event_of copy ≡ event_of e };
 
     /// An event of the same parts.
     ///
@@ -80,14 +80,14 @@ impl Clone for Event {
 }
 
 impl PartialEq for Event {
-    ghost eq = { λ a b. event_eq (event a) (event b) };
+    ghost eq = { λ a b. event_eq (event_of a) (event_of b) };
 
-    ghost laws = { on_per event (partial_equiv_from_equiv (equiv_from_decides event_eq event_eq-Decides)) };
+    ghost laws = { on_per event_of (partial_equiv_from_equiv (equiv_from_decides event_eq event_eq-Decides)) };
 
     /// Whether both have the same four parts, the attributes in the same order.
     fn eq(&self, other: &Event) -> bool
-        ensures value { result ≡ event_eq (event self.now) (event other.now) }
-        ensures same { IsTrue result ↔ (event self.now ≡ event other.now) }
+        ensures value { result ≡ event_eq (event_of self.now) (event_of other.now) }
+        ensures same { IsTrue result ↔ (event_of self.now ≡ event_of other.now) }
     {
         self.name == other.name
             && self.timestamp == other.timestamp

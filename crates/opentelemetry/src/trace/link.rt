@@ -4,7 +4,7 @@ ghost use Rattle.std.specs.Cmp.{on_per, partial_equiv_from_equiv};
 ghost use Rattle.otel_base.specs.AttributeLaws.{equiv_from_decides};
 ghost use Rattle.otel_base.specs.Seen.{pair_of};
 ghost use Rattle.opentelemetry.specs.Event.{link_eq, link_eq-Decides};
-ghost use Rattle.opentelemetry.specs.View.{link};
+ghost use Rattle.opentelemetry.specs.View.{link_of};
 
 use crate::trace::attributes::{copy_attributes, same_attributes};
 use otel_base::KeyValue;
@@ -31,7 +31,7 @@ impl Link {
         attributes: Vec<KeyValue>,
         dropped_attributes_count: u32,
     ) -> Link
-        ensures { link result ≡ record {
+        ensures { link_of result ≡ record {
           span_context = span_context;
           attributes = map pair_of attributes.items;
           dropped_attributes_count = dropped_attributes_count;
@@ -46,7 +46,7 @@ impl Link {
 
     /// A link without attributes.
     pub fn with_context(alloc: Global, span_context: SpanContext) -> Link
-        ensures { link result ≡ record {
+        ensures { link_of result ≡ record {
           span_context = span_context;
           attributes = [];
           dropped_attributes_count = 0;
@@ -57,7 +57,7 @@ impl Link {
 }
 
 impl Clone for Link {
-    ghost is_clone = { λ l copy. link copy ≡ link l };
+    ghost is_clone = { λ l copy. link_of copy ≡ link_of l };
 
     /// A link of the same parts.
     ///
@@ -75,14 +75,14 @@ impl Clone for Link {
 }
 
 impl PartialEq for Link {
-    ghost eq = { λ a b. link_eq (link a) (link b) };
+    ghost eq = { λ a b. link_eq (link_of a) (link_of b) };
 
-    ghost laws = { on_per link (partial_equiv_from_equiv (equiv_from_decides link_eq link_eq-Decides)) };
+    ghost laws = { on_per link_of (partial_equiv_from_equiv (equiv_from_decides link_eq link_eq-Decides)) };
 
     /// Whether both have the same three parts, the attributes in the same order.
     fn eq(&self, other: &Link) -> bool
-        ensures value { result ≡ link_eq (link self.now) (link other.now) }
-        ensures same { IsTrue result ↔ (link self.now ≡ link other.now) }
+        ensures value { result ≡ link_eq (link_of self.now) (link_of other.now) }
+        ensures same { IsTrue result ↔ (link_of self.now ≡ link_of other.now) }
     {
         self.span_context == other.span_context
             && same_attributes(&self.attributes, &other.attributes)

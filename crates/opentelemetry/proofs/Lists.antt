@@ -1,0 +1,22 @@
+-- Lists that are seen element by element.
+use Rattle.std.proofs.Common.{◌≡◌, List, [], ◌∷◌, Bool, true, false, cond, map, refl, ap}
+use Rattle.std.specs.List.{AllZip, filter}
+
+module _ {X Y : Type 0} (view : X → Y) where
+  -- a list whose elements are seen alike is seen alike
+  pub same_views : (xs ys : List X) → AllZip (λ x y. view y ≡ view x) xs ys → map view ys ≡ map view xs
+  same_views [] [] h = refl
+  same_views [] (y ∷ ys) h = elim h [ ]
+  same_views (x ∷ xs) [] h = elim h [ ]
+  same_views (x ∷ xs) (y ∷ ys) h = λ i. h.0 i ∷ same_views xs ys h.1 i
+
+  kept : (b : Bool) (x : X) (ys : List Y) (xs : List X) → ys ≡ map view xs
+      → cond b (view x ∷ ys) ys ≡ map view (cond b (x ∷ xs) xs)
+  kept true x ys xs h = ap (λ zs. view x ∷ zs) h
+  kept false x ys xs h = h
+
+  -- to filter what is seen is to filter by what is seen
+  pub filter_views : (test : Y → Bool) (xs : List X)
+      → filter test (map view xs) ≡ map view (filter (λ x. test (view x)) xs)
+  filter_views test [] = refl
+  filter_views test (x ∷ xs) = kept (test (view x)) x _ _ (filter_views test xs)

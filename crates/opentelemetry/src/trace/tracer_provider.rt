@@ -1,0 +1,43 @@
+//! What makes tracers.
+ghost use Rattle.std.specs.Prelude.{IfOk};
+
+use crate::trace::tracer::Tracer;
+use otel_base::{InstrumentationScope, StringValue};
+use std::alloc::{AllocError, Global};
+
+/// What makes tracers (the Rust crate's `TracerProvider`).
+///
+/// Who writes a provider names, by the ghost relation `may_give`, which tracers it may make for a scope.
+pub trait TracerProvider {
+    ghost use Rattle.otel_base.specs.Scope.{Scope};
+    ghost use Rattle.opentelemetry.specs.Scope.{scope_of_name};
+
+    /// The tracers that it makes.
+    type Tracer: Tracer;
+
+    ghost may_give: { Self → Scope → Self.Tracer → Type 0 };
+
+    /// A tracer for the library or module of a scope.
+    ///
+    /// # Errors
+    ///
+    /// `AllocError` where a request for memory fails. The scope is dropped.
+    fn tracer_with_scope(
+        &self,
+        alloc: Global,
+        scope: InstrumentationScope,
+    ) -> Result<Self::Tracer, AllocError>
+        ensures { IfOk result (may_give self.now scope) };
+
+    /// A tracer for the library or module of that name, without version, schema URL and attributes.
+    ///
+    /// # Errors
+    ///
+    /// `AllocError` where a request for memory fails. The name is dropped.
+    fn tracer(&self, alloc: Global, name: StringValue) -> Result<Self::Tracer, AllocError>
+        ensures { IfOk result (may_give self.now (scope_of_name name)) }
+    {
+        let scope = InstrumentationScope::builder(name).build(alloc)?;
+        self.tracer_with_scope(alloc, scope)
+    }
+}
