@@ -3,7 +3,7 @@ use Rattle.std.proofs.Common.{◌≡◌, ℕ, zero, suc, ◌≤◌, List, [], �
 use Rattle.std.specs.Prelude.{map}
 use Rattle.std.specs.List.{filter_map, slice_get}
 use Rattle.otel_context.specs.Context.{ContextRecord, empty_context}
-use Rattle.otel_context.specs.Stack.{Live, last_or, current_of}
+use Rattle.otel_context.specs.Stack.{Live, last_or, current}
 use Rattle.opentelemetry.specs.declared.carry.event.StackEvent.{StackEvent}
 use Rattle.opentelemetry.specs.declared.carry.event.AttachOutcome.{AttachOutcome}
 use Rattle.opentelemetry.specs.Run.{left_by, survivors, IsCurrent}
@@ -56,12 +56,12 @@ last_of base (Some a ∷ lefts) = elim (last_of a.1 lefts) [
   first h zero its_position its e = omega arith
   first h (suc other) its_position its e = absurd (h other its_position its e)
 
-pub current : (events : List StackEvent) (outcomes : List AttachOutcome) → IsCurrent events outcomes (current_of (survivors events outcomes))
-current events outcomes = elim (last_of empty_context (left_by 0 events outcomes)) [
+pub is_current : (events : List StackEvent) (outcomes : List AttachOutcome) → IsCurrent events outcomes (current (survivors events outcomes))
+is_current events outcomes = elim (last_of empty_context (left_by 0 events outcomes)) [
   | inl l ↦ inl (record {
     number = l.number;
     position = l.position;
-    survives = (those events outcomes l.number l.position (current_of (survivors events outcomes))).0 l.at;
+    survives = (those events outcomes l.number l.position (current (survivors events outcomes))).0 l.at;
     latest = λ other its_position its s. l.latest other its_position its ((those events outcomes other its_position its).1 s);
   })
   | inr n ↦ inr (record {
@@ -71,5 +71,5 @@ current events outcomes = elim (last_of empty_context (left_by 0 events outcomes
 ]
 
 -- the same of a list of live attachments that are the survivors
-pub current_is : (events : List StackEvent) (outcomes : List AttachOutcome) (live : Live) → live ≡ survivors events outcomes → IsCurrent events outcomes (current_of live)
-current_is events outcomes live is = rw is (current events outcomes)
+pub current_is : (events : List StackEvent) (outcomes : List AttachOutcome) (live : Live) → live ≡ survivors events outcomes → IsCurrent events outcomes (current live)
+current_is events outcomes live is = rw is (is_current events outcomes)

@@ -7,7 +7,7 @@ use Rattle.std.proofs.lemmas.List.{length-append, length-map, map-append, map_pu
 use Rattle.std.proofs.lemmas.List.Elements.{filter_map-append}
 use Rattle.std.proofs.lemmas.List.FromFn.{map-range_with_len_more, length-enumerate_from}
 use Rattle.otel_context.specs.Context.{ContextRecord}
-use Rattle.otel_context.specs.Stack.{Live, newest_of, last_or}
+use Rattle.otel_context.specs.Stack.{Live, newest_position, last_or}
 use Rattle.opentelemetry.specs.declared.carry.event.StackEvent.{StackEvent}
 use Rattle.opentelemetry.specs.declared.carry.event.StackEvent.TheVariants.{Attach, Detach}
 use Rattle.opentelemetry.specs.declared.carry.event.AttachOutcome.{AttachOutcome}
@@ -44,8 +44,8 @@ last_or-in_order : (p : ℕ) (contexts : List ContextRecord) → last_or p (map 
 last_or-in_order p [] = sym (add-zero p)
 last_or-in_order p (c ∷ contexts) = last_or-in_order (p + 1) contexts ∙ omega arith
 
-newest-attaches : (contexts : List ContextRecord) → newest_of (survivors (attaches contexts) (in_order (length contexts))) ≡ length contexts
-newest-attaches contexts = ap newest_of (survivors-attaches contexts) ∙ last_or-in_order 0 contexts ∙ zero-add (length contexts)
+newest-attaches : (contexts : List ContextRecord) → newest_position (survivors (attaches contexts) (in_order (length contexts))) ≡ length contexts
+newest-attaches contexts = ap newest_position (survivors-attaches contexts) ∙ last_or-in_order 0 contexts ∙ zero-add (length contexts)
 
 in_order-more : (n : ℕ) → in_order (n + 1) ≡ in_order n ++ Attached (n + 1) ∷ []
 in_order-more n = map-range_with_len_more (λ q. Attached q) 1 n (n + 1) (omega arith)
@@ -145,9 +145,9 @@ module _ (contexts : List ContextRecord) (last x y z : ContextRecord) (count : l
       ap survivors_of left-first ∙ filter_map-append (λ left. left) lefts (Some (65534, last) ∷ [])
       ∙ ap (λ (l : Live). l ++ (65534, last) ∷ []) (survivors_of-some (enumerate_from 1 contexts))
 
-  newest-first : newest_of (survivors first_events first_outcomes) ≡ 65534
-  newest-first = ap newest_of survivors-first ∙ newest-push (enumerate_from 1 contexts) where
-    newest-push : (live : Live) → newest_of (live ++ (65534, last) ∷ []) ≡ 65534
+  newest-first : newest_position (survivors first_events first_outcomes) ≡ 65534
+  newest-first = ap newest_position survivors-first ∙ newest-push (enumerate_from 1 contexts) where
+    newest-push : (live : Live) → newest_position (live ++ (65534, last) ∷ []) ≡ 65534
     newest-push live = rw map_push (last_or-push 0 (map (λ (a : ℕ × ContextRecord). a.0) live) 65534)
 
   abbrev events-2 : List StackEvent
@@ -217,7 +217,7 @@ module _ (contexts : List ContextRecord) (last x y z : ContextRecord) (count : l
   none : survivors events-5 outcomes-4 ≡ []
   none = ap survivors_of left-5 ∙ survivors_of-nones lefts (None ∷ None ∷ None ∷ [])
 
-  first : IsOutcome (newest_of (survivors events-5 outcomes-4)) (Attached 1)
+  first : IsOutcome (newest_position (survivors events-5 outcomes-4)) (Attached 1)
   first = rw none (omega arith, refl)
 
   begun : IsBegunAgain contexts last x y z

@@ -9,14 +9,14 @@ use Rattle.std.proofs.lemmas.List.Elements.{filter_map-append, filter-append}
 use Rattle.std.proofs.lemmas.Option.{slice_get_within}
 use Rattle.std.proofs.Math.Seq.{take-append_seam}
 use Rattle.otel_context.specs.Context.{ContextRecord}
-use Rattle.otel_context.specs.Stack.{Live, StackState, newest_of, without, RisesAbove, positions, IsLawful}
+use Rattle.otel_context.specs.Stack.{Live, StackState, newest_position, detach, RisesAbove, positions, IsLawful}
 use Rattle.opentelemetry.specs.Run.{attaches_of, is_attached, detaches, attachment_of, left_by, survivors, IsOutcome, Legal}
 use Rattle.opentelemetry.specs.Progress.{after_attach, Stands}
 use Rattle.opentelemetry.specs.declared.carry.event.StackEvent.{StackEvent}
 use Rattle.opentelemetry.specs.declared.carry.event.StackEvent.TheVariants.{Attach, Detach}
 use Rattle.opentelemetry.specs.declared.carry.event.AttachOutcome.{AttachOutcome}
 use Rattle.opentelemetry.specs.declared.carry.event.AttachOutcome.TheVariants.{Attached, Full, NoMemory}
-use Rattle.otel_context.proofs.LiveLemmas.{without-above}
+use Rattle.otel_context.proofs.LiveLemmas.{detach-above}
 use Rattle.opentelemetry.proofs.CurrentLemmas.{current_is}
 
 -- an attachment, or the lack of one
@@ -93,12 +93,12 @@ above_at q (Some a ∷ xs) (suc n) p context e r = let h = above_at a.0 xs n p c
 
 -- to clear a place is to take out the position that stands there
 survivors_of-set : (q : ℕ) (xs : List Left) (n p : ℕ) (context : ContextRecord) → slice_get xs n ≡ Some (Some (p, context)) → RisesAbove q (positions (survivors_of xs))
-    → survivors_of (slice_set xs n None) ≡ without p (survivors_of xs)
+    → survivors_of (slice_set xs n None) ≡ detach p (survivors_of xs)
 survivors_of-set q [] n p context e r = cc
 survivors_of-set q (None ∷ xs) zero p context e r = cc
 survivors_of-set q (Some a ∷ xs) zero p context e r =
     let h : a ≡ (p, context) = cc in let k : a.0 ≡ p = ap (λ (x : ℕ × ContextRecord). x.0) h in
-    rw (eq-eqb a.0 p k) (sym (without-above a.0 p (survivors_of xs) r.1 (omega arith)))
+    rw (eq-eqb a.0 p k) (sym (detach-above a.0 p (survivors_of xs) r.1 (omega arith)))
 survivors_of-set q (None ∷ xs) (suc n) p context e r = survivors_of-set q xs n p context e r
 survivors_of-set q (Some a ∷ xs) (suc n) p context e r =
     let h = above_at a.0 xs n p context e r.1 in
@@ -130,7 +130,7 @@ slice_get-append_end (x ∷ xs) y = slice_get-append_end xs y
 -- `Legal` of the events before stays so under one more event
 legal-more : (events : List StackEvent) (outcomes more : List AttachOutcome) (event : StackEvent) → Legal events outcomes
     → (i : ℕ) (context : ContextRecord) → i < length events → slice_get (events ++ event ∷ []) i ≡ Some (Attach context)
-    → IfSome (slice_get (outcomes ++ more) (attaches_of (take i (events ++ event ∷ [])))) (IsOutcome (newest_of (survivors (take i (events ++ event ∷ [])) (outcomes ++ more))))
+    → IfSome (slice_get (outcomes ++ more) (attaches_of (take i (events ++ event ∷ [])))) (IsOutcome (newest_position (survivors (take i (events ++ event ∷ [])) (outcomes ++ more))))
 legal-more events outcomes more event legal i context within at =
     let at' : slice_get events i ≡ Some (Attach context) = sym (slice_get-append events (event ∷ []) i within) ∙ at in
     let few = attaches_of-take events i context at' in
@@ -161,7 +161,7 @@ legal-detach events outcomes n legal = record {
   ];
 }
 
-pub legal-attach : (events : List StackEvent) (outcomes : List AttachOutcome) (context : ContextRecord) (o : AttachOutcome) → Legal events outcomes → IsOutcome (newest_of (survivors events outcomes)) o
+pub legal-attach : (events : List StackEvent) (outcomes : List AttachOutcome) (context : ContextRecord) (o : AttachOutcome) → Legal events outcomes → IsOutcome (newest_position (survivors events outcomes)) o
     → Legal (events ++ Attach context ∷ []) (outcomes ++ o ∷ [])
 legal-attach events outcomes context o legal allowed = record {
   one_each = rw (filter-append, length-append, length-append) (omega (arith, legal.one_each));
@@ -174,14 +174,14 @@ legal-attach events outcomes context o legal allowed = record {
 
 -- what the last outcome is allowed to be
 pub outcome_allowed : (events : List StackEvent) (outcomes : List AttachOutcome) (context : ContextRecord) (o : AttachOutcome) → length outcomes ≡ attaches_of events
-    → Legal (events ++ Attach context ∷ []) (outcomes ++ o ∷ []) → IsOutcome (newest_of (survivors events outcomes)) o
+    → Legal (events ++ Attach context ∷ []) (outcomes ++ o ∷ []) → IsOutcome (newest_position (survivors events outcomes)) o
 outcome_allowed events outcomes context o n legal =
     let last = legal.each (length events) context (slice_get-append_end events (Attach context)) in
     rw (take-append_seam, ← n, slice_get-append_end, left_by-more 0 events outcomes (o ∷ []) (omega (arith, n))) at last
 
 -- what stands after an attach
 pub stands-attach : (done : List StackEvent) (outcomes : List AttachOutcome) (places : List (Option ℕ)) (stack : StackState) (context : ContextRecord) (o : AttachOutcome) (place : Option ℕ)
-    → Stands done outcomes places stack → IsOutcome (newest_of stack.live) o → IsLawful (after_attach stack o context) → place ≡ option_map (λ a. a.0) (attachment_of o context)
+    → Stands done outcomes places stack → IsOutcome (newest_position stack.live) o → IsLawful (after_attach stack o context) → place ≡ option_map (λ a. a.0) (attachment_of o context)
     → Stands (done ++ Attach context ∷ []) (outcomes ++ o ∷ []) (places ++ place ∷ []) (after_attach stack o context)
 stands-attach done outcomes places stack context o place s allowed lawful is = record {
   legal = legal-attach done outcomes context o s.legal (rw (← s.live) allowed);
@@ -232,7 +232,7 @@ at_no_place (x ∷ xs) (suc n) e = at_no_place xs n e
 
 -- what stands after a detach of an attach that left something
 pub stands-detach : (done : List StackEvent) (outcomes : List AttachOutcome) (places : List (Option ℕ)) (stack new : StackState) (n p : ℕ)
-    → Stands done outcomes places stack → slice_get places n ≡ Some (Some p) → new.live ≡ without p stack.live → new.accepted ≡ stack.accepted → new.stepped ≡ stack.stepped → IsLawful new
+    → Stands done outcomes places stack → slice_get places n ≡ Some (Some p) → new.live ≡ detach p stack.live → new.accepted ≡ stack.accepted → new.stepped ≡ stack.stepped → IsLawful new
     → Stands (done ++ Detach n ∷ []) outcomes (slice_set places n None) new
 stands-detach done outcomes places stack new n p s at live accepted stepped lawful = record {
   legal = legal-detach done outcomes n s.legal;
@@ -246,7 +246,7 @@ stands-detach done outcomes places stack new n p s at live accepted stepped lawf
   live_is : new.live ≡ survivors (done ++ Detach n ∷ []) outcomes
   live_is =
       let there = at_place (left_by 0 done outcomes) n p (rw s.kept_are at at) in
-      live ∙ ap (without p) s.live ∙ sym (survivors_of-set 0 (left_by 0 done outcomes) n p there.0 there.1 (rw s.live at s.lawful.rising)) ∙ sym (ap survivors_of (left_by-detached n done outcomes))
+      live ∙ ap (detach p) s.live ∙ sym (survivors_of-set 0 (left_by 0 done outcomes) n p there.0 there.1 (rw s.live at s.lawful.rising)) ∙ sym (ap survivors_of (left_by-detached n done outcomes))
 
 -- what stands after a detach of one that left nothing
 pub stands-skip : (done : List StackEvent) (outcomes : List AttachOutcome) (places : List (Option ℕ)) (stack : StackState) (n : ℕ)

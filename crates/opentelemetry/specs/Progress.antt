@@ -1,6 +1,6 @@
 use Rattle.std.specs.Prelude.{◌≡◌, ℕ, ◌+◌, List, [], ◌∷◌, ◌++◌, map, Option, option_map}
 use Rattle.otel_context.specs.Context.{ContextRecord}
-use Rattle.otel_context.specs.Stack.{StackState, current_of, IsLawful}
+use Rattle.otel_context.specs.Stack.{StackState, current, IsLawful}
 use Rattle.opentelemetry.specs.declared.carry.event.StackEvent.{StackEvent}
 use Rattle.opentelemetry.specs.declared.carry.event.AttachOutcome.{AttachOutcome}
 use Rattle.opentelemetry.specs.declared.carry.event.AttachOutcome.TheVariants.{Attached, Full, NoMemory}
@@ -22,7 +22,7 @@ pub record Stands
     (kept : List (Option ℕ)) (stack : StackState) : Type 0 where
   pub legal : Legal events outcomes
   pub live : stack.live ≡ survivors events outcomes
-  pub current : IsCurrent events outcomes (current_of stack.live)
+  pub current : IsCurrent events outcomes (current stack.live)
   pub kept_are : kept ≡ map (option_map (λ a. a.0)) (left_by 0 events outcomes)
   pub lawful : IsLawful stack
   pub accepted : stack.accepted ≡ accepted_of outcomes

@@ -3,7 +3,7 @@
 use Rattle.std.specs.Prelude.{◌≡◌, ◌≢◌, ◌⊎◌, ℕ, ◌+◌, ◌<◌, ◌≤◌, ◌==◌, if◌then◌else◌, Bool, true, false, List, [], ◌∷◌, length, take, filter, slice_get, Option, Some, None, IfSome}
 use Rattle.std.specs.List.{list_any, filter_map}
 use Rattle.otel_context.specs.Context.{ContextRecord, empty_context}
-use Rattle.otel_context.specs.Stack.{Live, StackState, newest_of, last_position}
+use Rattle.otel_context.specs.Stack.{Live, StackState, newest_position, last_position}
 use Rattle.opentelemetry.specs.declared.carry.event.StackEvent.{StackEvent}
 use Rattle.opentelemetry.specs.declared.carry.event.StackEvent.TheVariants.{Attach, Detach}
 use Rattle.opentelemetry.specs.declared.carry.event.AttachOutcome.{AttachOutcome}
@@ -108,4 +108,4 @@ pub record Legal (events : List StackEvent) (outcomes : List AttachOutcome) : Ty
   pub one_each : length outcomes ≡ attaches_of events
   pub each : (index : ℕ) (context : ContextRecord) → slice_get events index ≡ Some (Attach context)
       → IfSome (slice_get outcomes (attaches_of (take index events)))
-      (IsOutcome (newest_of (survivors (take index events) outcomes)))
+      (IsOutcome (newest_position (survivors (take index events) outcomes)))

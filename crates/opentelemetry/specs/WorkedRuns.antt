@@ -1,7 +1,7 @@
 -- Runs that are worked by hand, for any contexts: what the words of a run give at their events (own).
 use Rattle.std.specs.Prelude.{◌≡◌, List, [], ◌∷◌, take}
 use Rattle.otel_context.specs.Context.{ContextRecord, empty_context}
-use Rattle.otel_context.specs.Stack.{current_of}
+use Rattle.otel_context.specs.Stack.{current}
 use Rattle.opentelemetry.specs.declared.carry.event.StackEvent.{StackEvent}
 use Rattle.opentelemetry.specs.declared.carry.event.StackEvent.TheVariants.{Attach, Detach}
 use Rattle.opentelemetry.specs.declared.carry.event.AttachOutcome.{AttachOutcome}
@@ -21,7 +21,7 @@ pub record IsThreeAndOne (a b c d : ContextRecord) : Type 0 where
   pub first_detach : survivors (take 4 (three_and_one a b c d)) their_outcomes ≡ (1, a) ∷ (3, c) ∷ []
   pub second_detach : survivors (take 5 (three_and_one a b c d)) their_outcomes ≡ (1, a) ∷ []
   pub all : survivors (three_and_one a b c d) their_outcomes ≡ (1, a) ∷ (2, d) ∷ []
-  pub current : current_of (survivors (three_and_one a b c d) their_outcomes) ≡ d
+  pub current : current (survivors (three_and_one a b c d) their_outcomes) ≡ d
 
 -- attach a, b, c; detach 1; detach 2; attach d; detach 1 once more
 abbrev pub detached_again : ContextRecord → ContextRecord → ContextRecord → ContextRecord → List StackEvent
@@ -31,16 +31,16 @@ detached_again a b c d = Attach a ∷ Attach b ∷ Attach c ∷ Detach 1 ∷ Det
 pub record IsDetachedAgain (a b c d : ContextRecord) : Type 0 where
   pub legal : Legal (detached_again a b c d) their_outcomes
   pub all : survivors (detached_again a b c d) their_outcomes ≡ (1, a) ∷ (2, d) ∷ []
-  pub current : current_of (survivors (detached_again a b c d) their_outcomes) ≡ d
+  pub current : current (survivors (detached_again a b c d) their_outcomes) ≡ d
 
 -- A detach of a number that is not yet attached changes nothing, then or later.
 pub record IsDetachedBefore (a : ContextRecord) : Type 0 where
   pub legal_alone : Legal (Detach 0 ∷ []) []
   pub alone : survivors (Detach 0 ∷ []) [] ≡ []
-  pub base : current_of (survivors (Detach 0 ∷ []) []) ≡ empty_context
+  pub base : current (survivors (Detach 0 ∷ []) []) ≡ empty_context
   pub legal : Legal (Detach 0 ∷ Attach a ∷ []) (Attached 1 ∷ [])
   pub all : survivors (Detach 0 ∷ Attach a ∷ []) (Attached 1 ∷ []) ≡ (1, a) ∷ []
-  pub current : current_of (survivors (Detach 0 ∷ Attach a ∷ []) (Attached 1 ∷ [])) ≡ a
+  pub current : current (survivors (Detach 0 ∷ Attach a ∷ []) (Attached 1 ∷ [])) ≡ a
 
 -- attach a, b; detach 0; detach 1
 abbrev pub oldest_first : ContextRecord → ContextRecord → List StackEvent
@@ -50,9 +50,9 @@ oldest_first a b = Attach a ∷ Attach b ∷ Detach 0 ∷ Detach 1 ∷ []
 pub record IsOldestFirst (a b : ContextRecord) : Type 0 where
   pub legal : Legal (oldest_first a b) (Attached 1 ∷ Attached 2 ∷ [])
   pub first_detach : survivors (take 3 (oldest_first a b)) (Attached 1 ∷ Attached 2 ∷ []) ≡ (2, b) ∷ []
-  pub still_current : current_of (survivors (take 3 (oldest_first a b)) (Attached 1 ∷ Attached 2 ∷ [])) ≡ b
+  pub still_current : current (survivors (take 3 (oldest_first a b)) (Attached 1 ∷ Attached 2 ∷ [])) ≡ b
   pub all : survivors (oldest_first a b) (Attached 1 ∷ Attached 2 ∷ []) ≡ []
-  pub base : current_of (survivors (oldest_first a b) (Attached 1 ∷ Attached 2 ∷ [])) ≡ empty_context
+  pub base : current (survivors (oldest_first a b) (Attached 1 ∷ Attached 2 ∷ [])) ≡ empty_context
 
 abbrev pub ThreeAndOne : Type 0
 ThreeAndOne = (a b c d : ContextRecord) → IsThreeAndOne a b c d

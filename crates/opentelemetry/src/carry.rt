@@ -1,6 +1,6 @@
 //! A run of attaches and detaches over one stack, whose current context is then injected.
 ghost use Rattle.std.specs.Prelude.{◌≡◌, ◌≤◌, ◌∷◌, ◌++◌, [], List, IsTrue, IsOk, IfOk, OnOk, OnErr};
-ghost use Rattle.otel_context.specs.Stack.{newest_of, current_of, IsLawful};
+ghost use Rattle.otel_context.specs.Stack.{newest_position, current, IsLawful};
 ghost use Rattle.opentelemetry.specs.Carrier.{Sets, SetsBeginning, text_map};
 ghost use Rattle.opentelemetry.specs.Composite.{members_of, pairs_of, may_refuse_of};
 ghost use Rattle.opentelemetry.specs.Refusal.{is_refused};
@@ -34,7 +34,7 @@ pub struct RunReport {
 
 /// Attaches the context, and returns what became of it.
 fn attach(stack: &mut ContextStack, context: Context) -> AttachOutcome
-    ensures outcome { IsLawful stack.old → IsOutcome (newest_of stack.old.live) result }
+    ensures outcome { IsLawful stack.old → IsOutcome (newest_position stack.old.live) result }
     ensures after { IsLawful stack.old → stack.new ≡ after_attach stack.old result context }
     ensures lawful { IsLawful stack.new }
 {
@@ -112,12 +112,12 @@ pub fn run(
     ensures live { IfOk result (λ report.
         report.stack.live ≡ survivors events.items report.outcomes.items) }
     ensures current { IfOk result (λ report.
-        IsCurrent events.items report.outcomes.items (current_of report.stack.live)) }
+        IsCurrent events.items report.outcomes.items (current report.stack.live)) }
     ensures legal { IfOk result (λ report. Legal events.items report.outcomes.items) }
     ensures injected { IfOk result (λ report. OnOk report.injected
-        (Sets (text_map carrier.old.entries) (pairs_of (λ m. pairs m) composite.now (current_of report.stack.live)) (text_map carrier.new.entries))) }
+        (Sets (text_map carrier.old.entries) (pairs_of (λ m. pairs m) composite.now (current report.stack.live)) (text_map carrier.new.entries))) }
     ensures given_up { IfOk result (λ report. OnErr report.injected
-        (SetsBeginning (text_map carrier.old.entries) (pairs_of (λ m. pairs m) composite.now (current_of report.stack.live)) (text_map carrier.new.entries))) }
+        (SetsBeginning (text_map carrier.old.entries) (pairs_of (λ m. pairs m) composite.now (current report.stack.live)) (text_map carrier.new.entries))) }
     ensures refused { IfOk result (λ report. IsTrue (is_refused report.injected) → IsTrue (may_refuse_of (λ m. may_refuse m) composite.now)) }
     ensures accepted { IfOk result (λ report. report.stack.accepted ≡ accepted_of report.outcomes.items) }
     ensures stepped { IfOk result (λ report. report.stack.stepped ≤ report.stack.accepted) }

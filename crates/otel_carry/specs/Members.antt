@@ -6,7 +6,7 @@ use Rattle.otel_ids.specs.Reading.{Pair}
 use Rattle.otel_ids.specs.SpanContext.{SpanContextRecord}
 use Rattle.otel_ids.specs.State.{header}
 use Rattle.otel_base.specs.Tree.{Tree, whole, text, truth, bytes, list, map as map_tree}
-use Rattle.otel_context.specs.Context.{ContextRecord, span_context_of}
+use Rattle.otel_context.specs.Context.{ContextRecord, span_context}
 use Rattle.opentelemetry.specs.Carrier.{Pairs}
 
 -- the text of a value tree that is one
@@ -35,7 +35,7 @@ pairs_of_state (p ∷ ps) = (codes "tracestate", header (p ∷ ps)) ∷ []
 
 -- the pairs of `StateMember`: those of the trace state of the context's span context (own)
 abbrev pub state_pairs : ContextRecord → Pairs
-state_pairs context = pairs_of_state (span_context_of context).trace_state
+state_pairs context = pairs_of_state (span_context context).trace_state
 
 -- the span context of an attach with this trace state: it is remote, its ids are both `id`, and its one flag is `sampled` (own)
 abbrev pub span_context_for : List Pair → ℕ → SpanContextRecord

@@ -15,7 +15,7 @@ use Rattle.std.specs.declared.rc.Rc.{Rc}
 use Rattle.otel_base.specs.Tree.{Tree}
 use Rattle.otel_base.specs.View.{tree}
 use Rattle.otel_context.specs.declared.entries.Entry.{Entry}
-use Rattle.otel_context.specs.Fields.{pairs, by_key, entries_seen, IsRising}
+use Rattle.otel_context.specs.View.{pairs, by_key, entries_seen, IsRising}
 
 abbrev pub text_cmp : List ℕ → List ℕ → Ordering
 text_cmp = slice_cmp nat_cmp

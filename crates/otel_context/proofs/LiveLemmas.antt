@@ -4,7 +4,7 @@ use Rattle.std.specs.Prelude.{◌==◌, not, filter}
 use Rattle.std.specs.List.{range_with_len}
 use Rattle.std.proofs.lemmas.Bool.{cases_Bool, cases_lt, ne_eqb, eq-eqb}
 use Rattle.otel_context.specs.Context.{ContextRecord}
-use Rattle.otel_context.specs.Stack.{Live, last_or, newest_of, without, RisesAbove, positions, is_live, emptied_of}
+use Rattle.otel_context.specs.Stack.{Live, last_or, newest_position, detach, RisesAbove, positions, is_live, emptied_of}
 
 -- the last of a list with one more at its end
 pub last_or-push : {X : Type 0} (d : X) (xs : List X) (x : X) → last_or d (xs ++ x ∷ []) ≡ x
@@ -51,8 +51,8 @@ heights_above q (suc n) (x ∷ xs) r e = elim (cases_lt (q + 1) x.0) [
 ]
 
 -- each position up to the newest is live or an emptied slot
-pub heights : (xs : Live) → RisesAbove 0 (positions xs) → emptied_of xs + length xs ≡ newest_of xs
-heights xs r = heights_above 0 (newest_of xs) xs r (omega arith)
+pub heights : (xs : Live) → RisesAbove 0 (positions xs) → emptied_of xs + length xs ≡ newest_position xs
+heights xs r = heights_above 0 (newest_position xs) xs r (omega arith)
 
 -- a greater number may come last
 pub RisesAbove-push : (p : ℕ) (xs : List ℕ) (x : ℕ) → RisesAbove p xs → last_or p xs < x → RisesAbove p (xs ++ x ∷ [])
@@ -65,17 +65,17 @@ RisesAbove-below q p [] h r = tt
 RisesAbove-below q p (x ∷ xs) h r = (omega (arith, r.0), r.1)
 
 -- no position above `q` is one at or below it
-pub without-above : (q p : ℕ) (xs : Live) → RisesAbove q (positions xs) → p ≤ q → without p xs ≡ xs
-without-above q p [] r h = refl
-without-above q p (x ∷ xs) r h =
+pub detach-above : (q p : ℕ) (xs : Live) → RisesAbove q (positions xs) → p ≤ q → detach p xs ≡ xs
+detach-above q p [] r h = refl
+detach-above q p (x ∷ xs) r h =
     let above : q < x.0 = r.0 in
     let other : (x.0 == p) ≡ false = ne_eqb x.0 p (λ e. omega arith) in
-    rw other (ap (λ (l : Live). x ∷ l) (without-above x.0 p xs r.1 (omega arith)))
+    rw other (ap (λ (l : Live). x ∷ l) (detach-above x.0 p xs r.1 (omega arith)))
 
 -- taking out a position leaves the others in order
-pub RisesAbove-without : (q p : ℕ) (xs : Live) → RisesAbove q (positions xs) → RisesAbove q (positions (without p xs))
-RisesAbove-without q p [] r = tt
-RisesAbove-without q p (x ∷ xs) r = elim (cases_Bool (x.0 == p)) [
-  | inl t ↦ rw t (RisesAbove-without q p xs (RisesAbove-below q x.0 (positions xs) (omega (arith, r.0)) r.1))
-  | inr f ↦ rw f (r.0, RisesAbove-without x.0 p xs r.1)
+pub RisesAbove-detach : (q p : ℕ) (xs : Live) → RisesAbove q (positions xs) → RisesAbove q (positions (detach p xs))
+RisesAbove-detach q p [] r = tt
+RisesAbove-detach q p (x ∷ xs) r = elim (cases_Bool (x.0 == p)) [
+  | inl t ↦ rw t (RisesAbove-detach q p xs (RisesAbove-below q x.0 (positions xs) (omega (arith, r.0)) r.1))
+  | inr f ↦ rw f (r.0, RisesAbove-detach x.0 p xs r.1)
 ]

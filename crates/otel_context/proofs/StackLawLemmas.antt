@@ -3,25 +3,25 @@ use Rattle.std.proofs.Common.{◌≡◌, ℕ, zero, suc, ◌+◌, ◌<◌, ◌�
 use Rattle.std.specs.Prelude.{◌==◌, ◌≢◌, not, filter}
 use Rattle.std.proofs.lemmas.Bool.{cases_Bool, ne_eqb, eq-eqb, eqb-true}
 use Rattle.otel_context.specs.Context.{ContextRecord, empty_context}
-use Rattle.otel_context.specs.Stack.{Live, StackState, IsLawful, last_or, newest_of, context_at, without, attached, RisesAbove, positions}
+use Rattle.otel_context.specs.Stack.{Live, StackState, IsLawful, last_or, newest_position, context_at, detach, attach, RisesAbove, positions}
 use Rattle.otel_context.specs.StackLaws.{DetachRestores, AttachIsCurrent, AttachLeavesAll, RemovalLeavesOthers, RemovalKeepsOrder}
 use Rattle.otel_context.proofs.LiveLemmas.{last_or-push, length-RisesAbove}
 
-without-pushed : (q p : ℕ) (c : ContextRecord) (xs : Live) → RisesAbove q (positions xs) → last_or q (positions xs) < p → without p (xs ++ (p, c) ∷ []) ≡ xs
-without-pushed q p c [] r h = rw (eq-eqb p p refl) refl
-without-pushed q p c (x ∷ xs) r h =
+detach-pushed : (q p : ℕ) (c : ContextRecord) (xs : Live) → RisesAbove q (positions xs) → last_or q (positions xs) < p → detach p (xs ++ (p, c) ∷ []) ≡ xs
+detach-pushed q p c [] r h = rw (eq-eqb p p refl) refl
+detach-pushed q p c (x ∷ xs) r h =
     let other : (x.0 == p) ≡ false = ne_eqb x.0 p (λ e. omega (arith, e, h, length-RisesAbove x.0 (positions xs) r.1)) in
-    rw other (ap (λ (l : Live). x ∷ l) (without-pushed x.0 p c xs r.1 h))
+    rw other (ap (λ (l : Live). x ∷ l) (detach-pushed x.0 p c xs r.1 h))
 
 pub detach_restores : DetachRestores
-detach_restores stack c lawful = without-pushed 0 (newest_of stack.live + 1) c stack.live lawful.rising (omega arith)
+detach_restores stack c lawful = detach-pushed 0 (newest_position stack.live + 1) c stack.live lawful.rising (omega arith)
 
 current-pushed : (d c : ContextRecord) (p : ℕ) (xs : Live) → last_or d (map (λ a. a.1) (xs ++ (p, c) ∷ [])) ≡ c
 current-pushed d c p [] = refl
 current-pushed d c p (x ∷ xs) = current-pushed x.1 c p xs
 
 pub attach_is_current : AttachIsCurrent
-attach_is_current stack c = current-pushed empty_context c (newest_of stack.live + 1) stack.live
+attach_is_current live c = current-pushed empty_context c (newest_position live + 1) live
 
 at-pushed : (q p : ℕ) (c : ContextRecord) (xs : Live) → p ≢ q → context_at q (xs ++ (p, c) ∷ []) ≡ context_at q xs
 at-pushed q p c [] h = rw (ne_eqb p q h) refl
@@ -31,7 +31,7 @@ at-pushed q p c (x ∷ xs) h = elim (cases_Bool (x.0 == q)) [
 ]
 
 pub attach_leaves_all : AttachLeavesAll
-attach_leaves_all stack c p h = at-pushed p (newest_of stack.live + 1) c stack.live (λ e. omega (arith, e))
+attach_leaves_all live c p h = at-pushed p (newest_position live + 1) c live (λ e. omega (arith, e))
 
 pub removal_leaves_others : RemovalLeavesOthers
 removal_leaves_others [] p q h = refl

@@ -1,29 +1,38 @@
 -- What a stack of contexts is: a list of live attachments with rising positions, and two counts.
-use Rattle.std.specs.Prelude.{◌≡◌, ◌≤◌, ℕ, ◌+◌, ◌<◌, ◌==◌, Bool, not, List, [], ◌∷◌, ◌++◌, length, map, filter, Option, option_map}
+-- A word beside a method of `ContextStack` has the method's name: `attach`, `detach`, `current`,
+-- `newest_position`.
+use Rattle.std.specs.Prelude.{◌≡◌, ◌≤◌, ℕ, ◌+◌, ◌<◌, ◌==◌, Bool, not, List, [], ◌∷◌, ◌++◌, length, map, filter, Option, None, option_map, Result, IfOk, OnErr, IfNone}
 use Rattle.std.specs.List.{find, list_any, range_with_len}
 use Rattle.otel_context.specs.Context.{ContextRecord, empty_context}
 
--- the attachments that are live, each at its position, in the order of the positions (the Rust crate's `ContextStack`, without its holes)
+-- the attachments that are live, each at its position, in the order of the positions
+-- (the Rust crate's `ContextStack`, without its holes)
 -- after attaching A, B, C and detaching position 2: (1, A) ∷ (3, C) ∷ []
 abbrev pub Live : Type 0
 Live = List (ℕ × ContextRecord)
 
--- what contracts see of a stack: the live attachments, how many attaches were accepted, and how many emptied slots were stepped over
--- No running program holds the two counts. A removal finds the neighbours of its position in the slot, looks at no emptied one, and so leaves `stepped` (own).
+-- what contracts see of a stack: the live attachments, how many attaches were accepted, and how
+-- many emptied slots were stepped over
+-- No running program holds the two counts. A removal finds the neighbours of its position in the
+-- slot, looks at no emptied one, and so leaves `stepped` (not in the Rust crate).
 pub record StackState : Type 0 where
   pub live : Live
   pub accepted : ℕ
   pub stepped : ℕ
 
--- a stack that nothing was attached to
+-- a stack that nothing was attached to (`ContextStack::new`)
 abbrev pub new_stack : StackState
 new_stack = record { live = []; accepted = 0; stepped = 0 }
+
+-- how many attachments a new stack has room for (the Rust crate's `INITIAL_CAPACITY`)
+abbrev pub initial_capacity : ℕ
+initial_capacity = 8
 
 -- the greatest position (the Rust crate's `MAX_POS`, less one)
 abbrev pub last_position : ℕ
 last_position = 65534
 
--- what stands for no position, where the greatest is taken (the Rust crate's `MAX_POS`)
+-- what is returned in place of a position, where the greatest is live (the Rust crate's `MAX_POS`)
 abbrev pub no_position : ℕ
 no_position = 65535
 
@@ -36,51 +45,85 @@ last_or d (x ∷ xs) = last_or x xs
 abbrev pub positions : Live → List ℕ
 positions live = map (λ a. a.0) live
 
--- the newest live position, or 0
-abbrev pub newest_of : Live → ℕ
-newest_of live = last_or 0 (positions live)
+-- the newest live position, or 0 (`ContextStack::newest_position`)
+abbrev pub newest_position : Live → ℕ
+newest_position live = last_or 0 (positions live)
 
--- the context of the newest attachment, or the empty one: the current context
-abbrev pub current_of : Live → ContextRecord
-current_of live = last_or empty_context (map (λ a. a.1) live)
+-- the current context: that of the newest attachment, or the empty one (`ContextStack::current`)
+abbrev pub current : Live → ContextRecord
+current live = last_or empty_context (map (λ a. a.1) live)
 
 -- the context at a position, where it is live
 abbrev pub context_at : ℕ → Live → Option ContextRecord
-context_at p live = option_map (λ a. a.1) (find (λ a. a.0 == p) live)
-
--- the attachments at the other positions
-abbrev pub without : ℕ → Live → Live
-without p live = filter (λ a. not (a.0 == p)) live
+context_at position live = option_map (λ a. a.1) (find (λ a. a.0 == position) live)
 
 -- something is live at the position
 abbrev pub is_live : ℕ → Live → Bool
-is_live p live = list_any (λ a. a.0 == p) live
+is_live position live = list_any (λ a. a.0 == position) live
 
--- the stack once the context is attached, at the position above the newest
-abbrev pub attached : ContextRecord → StackState → StackState
-attached context stack = record {
-  live = stack.live ++ (newest_of stack.live + 1, context) ∷ [];
-  accepted = stack.accepted + 1;
-  stepped = stack.stepped;
-}
+-- the attachments once the context is attached, at the position above the newest
+-- (`ContextStack::attach`, `ContextStack::push`)
+-- of (1, A) and B: (1, A) ∷ (2, B) ∷ []
+abbrev pub attach : ContextRecord → Live → Live
+attach context live = live ++ (newest_position live + 1, context) ∷ []
 
--- how many positions from 1 to the newest are not live: the emptied slots that stand (own)
+-- the attachments at the other positions (`ContextStack::detach`, `ContextStack::pop_id`)
+-- of (1, A), (3, C) and 3: (1, A) ∷ []
+abbrev pub detach : ℕ → Live → Live
+detach position live = filter (λ a. not (a.0 == position)) live
+
+-- how many positions from 1 to the newest are not live: the emptied slots that stand
 -- of (1, A) ∷ (4, D) ∷ []: 2
 abbrev pub emptied_of : Live → ℕ
-emptied_of live = length (filter (λ p. not (is_live p live)) (range_with_len 1 (newest_of live)))
+emptied_of live = length (filter (λ p. not (is_live p live)) (range_with_len 1 (newest_position live)))
 
 -- each number is above the one before it, the first above `p`
 abbrev pub RisesAbove : ℕ → List ℕ → Type 0
 RisesAbove p [] = Unit {0}
 RisesAbove p (x ∷ xs) = (p < x) × RisesAbove x xs
 
--- what is so of every stack at any time (own)
+-- what is so of every stack at any time
 pub record IsLawful (stack : StackState) : Type 0 where
   -- positions rise from 1 on
   pub rising : RisesAbove 0 (positions stack.live)
   -- to 65534 at most
-  pub within : newest_of stack.live ≤ last_position
+  pub within : newest_position stack.live ≤ last_position
   -- each position up to the newest is live or an emptied slot
-  pub heights : emptied_of stack.live + length stack.live ≡ newest_of stack.live
+  pub heights : emptied_of stack.live + length stack.live ≡ newest_position stack.live
   -- each accepted attach is stepped over, an emptied slot or live at most once
   pub law : stack.stepped + emptied_of stack.live + length stack.live ≤ stack.accepted
+
+-- What a call that attaches the context does, and the position that it returns.
+pub record Attaches {E : Type 0} (context : ContextRecord) (old new : StackState)
+    (result : Result ℕ E) : Type 0 where
+  -- where the greatest position is live, nothing changes
+  pub full : newest_position old.live ≡ last_position
+      → IfOk result (λ position. (position ≡ no_position) × (new ≡ old))
+  -- else the context is attached at the position above the newest
+  pub accepted : newest_position old.live < last_position → IfOk result (λ position.
+      (position ≡ newest_position old.live + 1)
+      × (new ≡ record { live = attach context old.live; accepted = old.accepted + 1; stepped = old.stepped }))
+  -- after an error the stack is as it was
+  pub err : OnErr result (new ≡ old)
+  pub lawful : IsLawful new
+
+-- An attach may request memory: there is a position left, and it is past those that a new stack
+-- has room for.
+pub record MayRequest (live : Live) : Type 0 where
+  pub past : initial_capacity ≤ newest_position live
+  pub left : newest_position live < last_position
+
+-- What `ContextStack::detach` and `ContextStack::pop_id` do at a position, and what they return.
+pub record Detaches (position : ℕ) (old new : StackState) (result : Option ContextRecord)
+    : Type 0 where
+  -- the context that is live there, if there is one
+  pub given : result ≡ context_at position old.live
+  -- where nothing is, nothing changes
+  pub none : IfNone result (new ≡ old)
+  -- nothing is ever live at 65535
+  pub unattached : position ≡ no_position → (result ≡ None) × (new ≡ old)
+  -- the others stay, and so do the two counts
+  pub live : new.live ≡ detach position old.live
+  pub accepted : new.accepted ≡ old.accepted
+  pub stepped : new.stepped ≡ old.stepped
+  pub lawful : IsLawful new

@@ -3,7 +3,7 @@ ghost use Rattle.std.specs.Prelude.{◌≡◌, length, IfOk, option_map};
 ghost use Rattle.std.specs.FinMap as map;
 ghost use Rattle.std.specs.List.Sorted.{IsSearchInRange, IsBinarySearchResult};
 ghost use Rattle.otel_base.specs.View.{tree};
-ghost use Rattle.otel_context.specs.Fields.{by_key};
+ghost use Rattle.otel_context.specs.View.{by_key};
 
 use otel_base::{AnyValue, Key};
 use std::alloc::{AllocError, Global};
@@ -27,8 +27,8 @@ pub struct Entries {
 
 impl Model for Entries {
     ghost use Rattle.otel_context.specs.Context.{EntryMap};
-    ghost use Rattle.otel_context.specs.ContextCode.{entries_code};
-    ghost use Rattle.otel_context.specs.Fields.{entries_seen, IsRising};
+    ghost use Rattle.otel_context.specs.View.{entries_code};
+    ghost use Rattle.otel_context.specs.View.{entries_seen, IsRising};
 
     ghost Value = { EntryMap };
 
@@ -53,7 +53,7 @@ impl Entries {
     pub fn get(&self, key: &str) -> Option<&AnyValue>
         ensures { option_map (λ v. tree v.now) result ≡ map.get self.now key.now }
     {
-        match place(&self.items, key) {
+        match search(&self.items, key) {
             Ok(at) => Some(&self.items[at].as_ref().value),
             Err(_) => None,
         }
@@ -65,7 +65,7 @@ impl Entries {
     pub fn with(&self, alloc: Global, key: Key, value: AnyValue) -> Result<Entries, AllocError>
         ensures { IfOk result (λ es. es ≡ map.insert self.now key (tree value)) }
     {
-        let (before, after) = match place(&self.items, key.as_str()) {
+        let (before, after) = match search(&self.items, key.as_str()) {
             Ok(at) => (at, at + 1),
             Err(at) => (at, at),
         };
@@ -88,7 +88,7 @@ impl Clone for Entries {
 }
 
 /// Where the entry of that name is, or where it would go.
-fn place(items: &[Rc<Entry>], key: &str) -> Result<usize, usize>
+fn search(items: &[Rc<Entry>], key: &str) -> Result<usize, usize>
     ensures bound { IsSearchInRange result (length items.now) }
     ensures position { IsBinarySearchResult (by_key key.now) items.now result }
 {

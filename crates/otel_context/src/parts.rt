@@ -1,8 +1,7 @@
 //! The parts of a context.
-ghost use Rattle.std.specs.Prelude.{◌≡◌, IfOk, None, Some, option_map, option_and_then, is_some};
-ghost use Rattle.std.specs.FinMap as map;
+ghost use Rattle.std.specs.Prelude.{◌≡◌, IfOk, option_map};
 ghost use Rattle.otel_base.specs.View.{tree};
-ghost use Rattle.otel_context.specs.Context.{empty_context, suppressed_of};
+ghost use Rattle.otel_context.specs.Context.{empty_context, get, with_value, with_baggage, with_cleared_baggage, has_active_span, span_number, with_remote_span_context, is_telemetry_suppressed, with_telemetry_suppressed};
 
 use crate::baggage::Baggage;
 use crate::entries::Entries;
@@ -35,8 +34,8 @@ pub struct Parts {
 impl Model for Parts {
     ghost use Rattle.std.specs.Prelude.{option_map};
     ghost use Rattle.otel_context.specs.Context.{ContextRecord};
-    ghost use Rattle.otel_context.specs.ContextCode.{context_code};
-    ghost use Rattle.otel_context.specs.Fields.{span_part};
+    ghost use Rattle.otel_context.specs.View.{context_code};
+    ghost use Rattle.otel_context.specs.View.{span_part};
 
     ghost Value = { ContextRecord };
 
@@ -65,7 +64,7 @@ impl Parts {
 
     /// The entry of that name.
     pub fn get(&self, key: &str) -> Option<&AnyValue>
-        ensures { option_map (λ v. tree v.now) result ≡ map.get self.now.entries key.now }
+        ensures { option_map (λ v. tree v.now) result ≡ get self.now key.now }
     {
         self.entries.get(key)
     }
@@ -77,9 +76,7 @@ impl Parts {
         key: Key,
         value: AnyValue,
     ) -> Result<Rc<Parts>, AllocError>
-        ensures { IfOk result (λ c. c.value ≡ record self.now {
-          entries = map.insert self.now.entries key (tree value);
-        }) }
+        ensures { IfOk result (λ c. c.value ≡ with_value self.now key (tree value)) }
     {
         let parts = Parts {
             entries: self.entries.with(alloc, key, value)?,
@@ -102,7 +99,7 @@ impl Parts {
 
     /// Parts with that baggage.
     pub fn with_baggage(&self, alloc: Global, baggage: Baggage) -> Result<Rc<Parts>, AllocError>
-        ensures { IfOk result (λ c. c.value ≡ record self.now { baggage = Some baggage }) }
+        ensures { IfOk result (λ c. c.value ≡ with_baggage self.now baggage) }
     {
         let mut parts = self.clone()?;
         parts.baggage = Some(Rc::new(alloc, baggage)?);
@@ -111,7 +108,7 @@ impl Parts {
 
     /// Parts without baggage.
     pub fn with_cleared_baggage(&self, alloc: Global) -> Result<Rc<Parts>, AllocError>
-        ensures { IfOk result (λ c. c.value ≡ record self.now { baggage = None }) }
+        ensures { IfOk result (λ c. c.value ≡ with_cleared_baggage self.now) }
     {
         let mut parts = self.clone()?;
         parts.baggage = None;
@@ -120,7 +117,7 @@ impl Parts {
 
     /// Whether a span is active.
     pub fn has_active_span(&self) -> bool
-        ensures { result ≡ is_some self.now.span }
+        ensures { result ≡ has_active_span self.now }
     {
         self.span.is_some()
     }
@@ -137,7 +134,7 @@ impl Parts {
 
     /// The number of the active span in its span table. A remote span has none.
     pub fn span_number(&self) -> Option<u64>
-        ensures { result ≡ option_and_then (λ span. span.number) self.now.span }
+        ensures { result ≡ span_number self.now }
     {
         match &self.span {
             Some(span) => span.number,
@@ -151,9 +148,7 @@ impl Parts {
         alloc: Global,
         span_context: SpanContext,
     ) -> Result<Rc<Parts>, AllocError>
-        ensures { IfOk result (λ c. c.value ≡ record self.now {
-          span = Some (record { context = span_context; number = None });
-        }) }
+        ensures { IfOk result (λ c. c.value ≡ with_remote_span_context self.now span_context) }
     {
         let span = ActiveSpan {
             context: span_context,
@@ -166,14 +161,14 @@ impl Parts {
 
     /// Whether telemetry is suppressed.
     pub fn is_telemetry_suppressed(&self) -> bool
-        ensures { result ≡ self.now.suppressed }
+        ensures { result ≡ is_telemetry_suppressed self.now }
     {
         self.suppressed
     }
 
     /// Parts in which telemetry is suppressed.
     pub fn with_telemetry_suppressed(&self, alloc: Global) -> Result<Rc<Parts>, AllocError>
-        ensures { IfOk result (λ c. c.value ≡ suppressed_of self.now) }
+        ensures { IfOk result (λ c. c.value ≡ with_telemetry_suppressed self.now) }
     {
         let mut parts = self.clone()?;
         parts.suppressed = true;

@@ -1,6 +1,6 @@
 //! A propagator made of propagators.
 ghost use Rattle.std.specs.Prelude.{◌≡◌, ◌<◌, ◌≤◌, ◌⊎◌, [], IsTrue, IsOk, OnOk, OnErr, IfOk};
-ghost use Rattle.otel_context.specs.Stack.{current_of};
+ghost use Rattle.otel_context.specs.Stack.{current};
 ghost use Rattle.opentelemetry.specs.Carrier.{Sets, SetsBeginning};
 ghost use Rattle.opentelemetry.specs.Composite.{members_of, pairs_of, may_refuse_of};
 ghost use Rattle.opentelemetry.specs.Refusal.{is_refused};
@@ -70,8 +70,8 @@ impl TextMapCompositePropagator {
         stack: &ContextStack,
         injector: &mut dyn Injector,
     ) -> Result<(), PropagationError>
-        ensures ok { OnOk result (Sets (carried injector.old) (pairs_of (λ m. pairs m) self.now (current_of stack.now.live)) (carried injector.new)) }
-        ensures err { OnErr result (SetsBeginning (carried injector.old) (pairs_of (λ m. pairs m) self.now (current_of stack.now.live)) (carried injector.new)) }
+        ensures ok { OnOk result (Sets (carried injector.old) (pairs_of (λ m. pairs m) self.now (current stack.now.live)) (carried injector.new)) }
+        ensures err { OnErr result (SetsBeginning (carried injector.old) (pairs_of (λ m. pairs m) self.now (current stack.now.live)) (carried injector.new)) }
         ensures refused { IsTrue (is_refused result) → IsTrue (may_refuse_of (λ m. may_refuse m) self.now) ⊎ (refusals injector.old < refusals injector.new) }
         ensures count { refusals injector.old ≤ refusals injector.new }
         ensures empty { members_of self.now ≡ [] → IsOk result × (carried injector.new ≡ carried injector.old) }

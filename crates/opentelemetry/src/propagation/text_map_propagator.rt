@@ -1,6 +1,6 @@
 //! Propagators: what writes a context into a carrier.
 ghost use Rattle.std.specs.Prelude.{◌≡◌, ◌<◌, ◌≤◌, ◌⊎◌, IsTrue, OnOk, OnErr};
-ghost use Rattle.otel_context.specs.Stack.{current_of};
+ghost use Rattle.otel_context.specs.Stack.{current};
 ghost use Rattle.opentelemetry.specs.Carrier.{Sets, SetsBeginning};
 ghost use Rattle.opentelemetry.specs.Refusal.{is_refused};
 
@@ -40,8 +40,8 @@ pub trait TextMapPropagator: Drop {
         stack: &ContextStack,
         injector: &mut dyn Injector,
     ) -> Result<(), PropagationError>
-        ensures ok { OnOk result (Sets (carried injector.old) (pairs self.now (current_of stack.now.live)) (carried injector.new)) }
-        ensures err { OnErr result (SetsBeginning (carried injector.old) (pairs self.now (current_of stack.now.live)) (carried injector.new)) }
+        ensures ok { OnOk result (Sets (carried injector.old) (pairs self.now (current stack.now.live)) (carried injector.new)) }
+        ensures err { OnErr result (SetsBeginning (carried injector.old) (pairs self.now (current stack.now.live)) (carried injector.new)) }
         ensures refused { IsTrue (is_refused result) → IsTrue (may_refuse self.now) ⊎ (refusals injector.old < refusals injector.new) }
         ensures count { refusals injector.old ≤ refusals injector.new }
     {

@@ -1,7 +1,7 @@
 //! What a span starts with.
 ghost use Rattle.std.specs.Prelude.{◌≡◌, IfOk, Some, [], map};
 ghost use Rattle.otel_base.specs.Seen.{pair_of};
-ghost use Rattle.otel_context.specs.Stack.{current_of as current};
+ghost use Rattle.otel_context.specs.Stack.{current};
 ghost use Rattle.opentelemetry.specs.SpanBuilder.{from_name, is_valid_link, valid_links, with_links};
 ghost use Rattle.opentelemetry.specs.View.{builder_of, event_of, link_of};
 

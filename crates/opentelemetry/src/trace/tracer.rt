@@ -1,6 +1,6 @@
 //! What starts spans.
 ghost use Rattle.std.specs.Prelude.{◌≡◌, IfOk};
-ghost use Rattle.otel_context.specs.Stack.{current_of as current};
+ghost use Rattle.otel_context.specs.Stack.{current};
 ghost use Rattle.opentelemetry.specs.SpanBuilder.{from_name};
 ghost use Rattle.opentelemetry.specs.View.{builder_of};
 

@@ -1,7 +1,7 @@
 use Rattle.std.proofs.Common.{◌<◌, length, refl, ◌∙◌, arith}
 use Rattle.std.specs.Prelude.{slice_set}
 use Rattle.std.proofs.lemmas.List.{length-set}
-use Rattle.otel_context.specs.Fields.{record_of}
+use Rattle.otel_context.specs.View.{record_of}
 use Rattle.otel_context.specs.declared.slots.Slot.{Slot}
 use Rattle.otel_context.proofs.LinkLemmas.{read, kept, written, dead_slot, with_newer, with_older}
 use Rattle.otel_context.proofs.slots.unlink.Goals as goal

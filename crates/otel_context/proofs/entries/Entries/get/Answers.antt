@@ -4,7 +4,7 @@ use Rattle.std.specs.declared.alloc.Global.{Global}
 use Rattle.std.specs.declared.rc.Rc.{Rc}
 use Rattle.otel_base.specs.View.{tree}
 use Rattle.otel_context.specs.Context.{EntryMap}
-use Rattle.otel_context.specs.Fields.{IsRising, entries_seen}
+use Rattle.otel_context.specs.View.{IsRising, entries_seen}
 use Rattle.otel_context.specs.declared.entries.Entry.{Entry}
 use Rattle.otel_context.proofs.EntryLemmas.{get_seen, searchable, find-found, find-missed}
 use Rattle.otel_context.proofs.entries.Entries.get.Goals as goal

@@ -1,7 +1,7 @@
 use Rattle.std.proofs.Common.{rules}
 use Rattle.std.proofs.lemmas.Fn.{always_returns_same}
-use Rattle.otel_context.specs.Fields.{by_key}
-use Rattle.otel_context.proofs.entries.place.Goals as goal
+use Rattle.otel_context.specs.View.{by_key}
+use Rattle.otel_context.proofs.entries.search.Goals as goal
 
 pub returns-clause-position : goal.returns-clause-position
 returns-clause-position c =

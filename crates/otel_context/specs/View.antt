@@ -1,0 +1,87 @@
+-- From code to meaning: what contracts see of the fields of a context, and the codes by which a
+-- model's value may hold contexts, slots and stacks. No public contract cites a word of this file.
+use Rattle.std.specs.Prelude.{ℕ, List, Bool, Option, Some, None, T, map, refl}
+use Rattle.std.specs.declared.rc.Rc.{Rc}
+use Rattle.std.specs.declared.alloc.Global.{Global}
+use Rattle.std.specs.Coded.{Coded, code_by, coded×, coded_ℕ, coded_bool, coded_list, coded_option}
+use Rattle.std.specs.FinMap.{code, from_entries, is_sorted}
+use Rattle.std.specs.Cmp.Lexicographic.{slice_cmp}
+use Rattle.std.specs.Ordering.{nat_cmp}
+use Rattle.std.specs.declared.cmp.Ordering.{Ordering}
+use Rattle.otel_ids.specs.SpanContext.{SpanContextRecord}
+use Rattle.otel_ids.specs.SpanContextCode.{span_context_code}
+use Rattle.otel_base.specs.Tree.{Tree}
+use Rattle.otel_base.specs.TreeCode.{tree_code, bytes_code}
+use Rattle.otel_base.specs.View.{tree}
+use Rattle.otel_context.specs.Baggage.{Triple}
+use Rattle.otel_context.specs.Context.{EntryMap, SpanPart, ContextRecord, empty_context}
+use Rattle.otel_context.specs.Slots.{SlotsState}
+use Rattle.otel_context.specs.Stack.{Live, StackState}
+use Rattle.otel_context.specs.declared.entries.Entry.{Entry}
+use Rattle.otel_context.specs.declared.parts.ActiveSpan.{ActiveSpan}
+
+-- each key with the tree of its value
+abbrev pub pairs : List (Rc Entry Global) → List (List ℕ × Tree)
+pairs = map (λ e. (e.value.key, tree e.value.value))
+
+-- how an entry's key compares with that one, by bytes
+abbrev pub by_key : List ℕ → Rc Entry Global → Ordering
+by_key key e = slice_cmp nat_cmp e.value.key key
+
+-- each key is less than those after it
+abbrev pub IsRising : List (Rc Entry Global) → Type 0
+IsRising entries = T (is_sorted (slice_cmp nat_cmp) (pairs entries))
+
+-- the finite map that a list of shared entries stands for
+abbrev pub entries_seen : List (Rc Entry Global) → EntryMap
+entries_seen entries = from_entries (pairs entries)
+
+-- the active span, from its fields
+abbrev pub span_part : ActiveSpan → SpanPart
+span_part span = record { context = span.context; number = span.number }
+
+-- the context of these parts
+abbrev pub record_of : Option (Rc ContextRecord Global) → ContextRecord
+record_of None = empty_context
+record_of (Some parts) = parts.value
+
+-- a code of entries: that of the map's pairs
+abbrev pub entries_code : Coded EntryMap
+entries_code = code bytes_code tree_code
+
+-- a code of lists of triples
+abbrev pub triples_code : Coded (List Triple)
+triples_code = coded_list (coded× bytes_code (coded× bytes_code bytes_code))
+
+-- a code of active spans: that of the pair of their two fields
+abbrev pub span_part_code : Coded SpanPart
+span_part_code = code_by (SpanContextRecord × Option ℕ)
+    (coded× span_context_code (coded_option coded_ℕ))
+    (λ s. (s.context, s.number))
+    (λ p. record { context = p.0; number = p.1 })
+    (λ _. refl)
+
+-- a code of contexts: that of the tuple of their four parts
+abbrev pub context_code : Coded ContextRecord
+context_code = code_by (EntryMap × (Option (List Triple) × (Option SpanPart × Bool)))
+    (coded× entries_code
+    (coded× (coded_option triples_code) (coded× (coded_option span_part_code) coded_bool)))
+    (λ c. (c.entries, (c.baggage, (c.span, c.suppressed))))
+    (λ p. record { entries = p.0; baggage = p.1.0; span = p.1.1.0; suppressed = p.1.1.1 })
+    (λ _. refl)
+
+-- a code of the slots: that of the tuple of the three fields
+abbrev pub slots_code : Coded SlotsState
+slots_code = code_by (List (Option ContextRecord) × (ℕ × ℕ))
+    (coded× (coded_list (coded_option context_code)) (coded× coded_ℕ coded_ℕ))
+    (λ s. (s.slots, (s.capacity, s.stepped)))
+    (λ p. record { slots = p.0; capacity = p.1.0; stepped = p.1.1 })
+    (λ _. refl)
+
+-- a code of stacks: that of the tuple of the three fields
+abbrev pub stack_code : Coded StackState
+stack_code = code_by (Live × (ℕ × ℕ))
+    (coded× (coded_list (coded× coded_ℕ context_code)) (coded× coded_ℕ coded_ℕ))
+    (λ s. (s.live, (s.accepted, s.stepped)))
+    (λ p. record { live = p.0; accepted = p.1.0; stepped = p.1.1 })
+    (λ _. refl)
