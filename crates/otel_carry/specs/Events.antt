@@ -1,7 +1,8 @@
 -- The events that the lines of the input ask for, and which line is reported as faulty.
 use Rattle.std.specs.Prelude.{◌≡◌, ℕ, ◌+◌, List, ◌∷◌, ◌++◌, Option, Some, None, IsSome, codes}
 use denote.Ref.{Bor}
-use Rattle.otel_ids.specs.Reading.{Pair, fault_of, Reads as ReadsState}
+use Rattle.otel_ids.specs.TraceState.{Pair}
+use Rattle.otel_ids.specs.Reading.{fault_of, Reads as ReadsState}
 use Rattle.otel_ids.specs.declared.error.TraceStateError.{TraceStateError}
 use Rattle.otel_ids.specs.declared.error.TraceStateError.TheVariants as errors
 use Rattle.opentelemetry.specs.declared.carry.event.StackEvent.{StackEvent}

@@ -2,9 +2,8 @@
 use Rattle.std.specs.Prelude.{ℕ, List, [], ◌∷◌, true, false, Option, Some, None, option_map, codes}
 use Rattle.std.specs.Option.{option_map_or}
 use Rattle.std.specs.FinMap as map
-use Rattle.otel_ids.specs.Reading.{Pair}
+use Rattle.otel_ids.specs.TraceState.{Pair, header}
 use Rattle.otel_ids.specs.SpanContext.{SpanContextRecord}
-use Rattle.otel_ids.specs.State.{header}
 use Rattle.otel_base.specs.Tree.{Tree, whole, text, truth, bytes, list, map as map_tree}
 use Rattle.otel_context.specs.Context.{ContextRecord, span_context}
 use Rattle.opentelemetry.specs.Carrier.{Pairs}

@@ -9,7 +9,7 @@ use Rattle.std.specs.Cmp.Lexicographic.{slice_cmp}
 use Rattle.std.specs.Ordering.{nat_cmp}
 use Rattle.std.specs.declared.cmp.Ordering.{Ordering}
 use Rattle.otel_ids.specs.SpanContext.{SpanContextRecord}
-use Rattle.otel_ids.specs.SpanContextCode.{span_context_code}
+use Rattle.otel_ids.specs.View.{span_context_code}
 use Rattle.otel_base.specs.Tree.{Tree}
 use Rattle.otel_base.specs.TreeCode.{tree_code, bytes_code}
 use Rattle.otel_base.specs.View.{tree}

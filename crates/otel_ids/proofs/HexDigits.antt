@@ -1,5 +1,5 @@
 -- The digits that the crate `hex` writes and reads.
-use Rattle.std.proofs.Common.{◌≡◌, ℕ, zero, suc, ◌+◌, ◌-◌, ◌*◌, ◌/◌, ◌%◌, ◌^◌, ◌<◌, ◌==◌, Bool, true, ◌&&◌, List, [], ◌∷◌, length, drop, get_or, slice_index, Option, Some, None, unwrap_or, Result, Ok, Err, refl, sym, ap, ◌∙◌, arith, inl, inr, pow-suc}
+use Rattle.std.proofs.Common.{◌≡◌, ℕ, zero, suc, ◌+◌, ◌-◌, ◌*◌, ◌/◌, ◌%◌, ◌^◌, ◌<◌, ◌==◌, Bool, true, false, ◌&&◌, List, [], ◌∷◌, length, drop, get_or, slice_index, Option, Some, None, unwrap_or, Result, Ok, Err, refl, sym, ap, ◌∙◌, arith, inl, inr, pow-suc}
 use Rattle.std.specs.Char.{digit_value}
 use Rattle.std.specs.Int.{byte_worth, sum_through}
 use Rattle.std.specs.List.{flat_map}
@@ -11,7 +11,8 @@ use Rattle.hex.specs.declared.error.FromHexError.{FromHexError}
 use Rattle.hex.specs.Hex.{lower_digits, encode_with, encode_lower, decode_pairs, decode_sized, digit_or_error, hex_digit_value, pair_value, value_at, ◌>>=◌}
 use Rattle.hex.proofs.Pairs.{decode_sized-pairs}
 use Rattle.hex.proofs.HexLemmas.{IsOk-decode_sized}
-use Rattle.otel_ids.specs.Ids.{ReadsId, number_of, digit_text, two_digits}
+use Rattle.otel_ids.specs.Ids.{ReadsId, number_of, two_digits}
+use Rattle.std.specs.Fmt.{digit_glyph}
 use Rattle.otel_ids.proofs.Numerals.{powers}
 
 -- ---- digits that are written
@@ -30,8 +31,8 @@ passes test (suc n) i h below =
       | inr top ↦ let e : i ≡ n = omega arith in rw e parts.0
     ]
 
-spelled : (d : ℕ) → d < 16 → slice_index lower_digits d ≡ digit_text d
-spelled d below = eqb-true (slice_index lower_digits d) (digit_text d) (passes (λ n. slice_index lower_digits n == digit_text n) 16 d refl below)
+spelled : (d : ℕ) → d < 16 → slice_index lower_digits d ≡ digit_glyph false d
+spelled d below = eqb-true (slice_index lower_digits d) (digit_glyph false d) (passes (λ n. slice_index lower_digits n == digit_glyph false n) 16 d refl below)
 
 -- two digits for each byte
 pub encoded : (bytes : List ℕ) → ((i : ℕ) → get_or bytes i 0 < 256) → encode_lower bytes ≡ flat_map two_digits bytes

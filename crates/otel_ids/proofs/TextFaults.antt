@@ -5,7 +5,9 @@ use Rattle.std.specs.List.{AllByRecursion, list_any, before_first, after_first, 
 use Rattle.std.proofs.lemmas.Bool.{cases_Bool, false≢true}
 use Rattle.std.proofs.lemmas.List.{take_at, drop_at, length-append}
 use Rattle.otel_ids.specs.Text.{is_equals, is_key, is_value}
-use Rattle.otel_ids.specs.Reading.{Pair, IsValid, pieces, members, key_of, value_of, without_equals, pair_of, Fault, KeyFault, ValueFault, ListFault, list_fault, pair_fault, first_of, pairs_fault, fault_of}
+use Rattle.otel_ids.specs.TraceState.{Pair, IsValid}
+use Rattle.otel_ids.specs.Reading.{pieces, members, key_of, value_of, without_equals, pair_of, list_fault, fault_of}
+use Rattle.otel_ids.specs.TraceStateError.{Fault, KeyFault, ValueFault, ListFault, pair_fault, first_of, pairs_fault}
 use Rattle.otel_ids.specs.Reading.{HasEquals, LacksEquals, begins_with_equals, IsSplit, IsValidMember, IsPairFault, IsFirst, IsFirstList, IsFirstPair, FaultIs}
 use Rattle.otel_ids.specs.Laws.{FaultsAgree}
 use Rattle.otel_ids.proofs.Faults.{valid_from_none, none_from_valid, pairs_fault-append}

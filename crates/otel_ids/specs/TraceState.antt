@@ -1,0 +1,67 @@
+-- A trace state is a list of at most 32 pairs, each valid. Each method has its word here:
+-- `from_key_value`, `get`, `insert`, `delete`, `header_delimited`, `header`. What `from_str` reads
+-- is in `Reading.antt`.
+use Rattle.std.specs.Prelude.{◌≡◌, ℕ, ◌-◌, ◌≤◌, Bool, true, List, [], ◌∷◌, ◌++◌, length, map, take}
+use Rattle.std.specs.Prelude.{Option, Some, None, if◌then◌else◌}
+use Rattle.std.specs.List.{AllByRecursion, flat_map}
+use Rattle.std.specs.Str.{bytes_eq}
+use denote.Ref.{Bor}
+use Rattle.otel_ids.specs.Limits.{max_pairs}
+use Rattle.otel_ids.specs.Text.{is_key, is_value}
+
+-- a key with its value, each a list of bytes [W3C trace-context-2, "list": list-member]
+pub record Pair : Type 0 where
+  pub key : List ℕ
+  pub value : List ℕ
+
+abbrev pub pair_with : List ℕ → List ℕ → Pair
+pair_with key value = record { key = key; value = value }
+
+abbrev pub IsValid : Pair → Type 0
+IsValid p = (is_key p.key ≡ true) × (is_value p.value ≡ true)
+
+-- at most 32 pairs, each valid [W3C trace-context-2, "list": at most 32 list-members]
+pub record IsState (pairs : List Pair) : Type 0 where
+  pub few : length pairs ≤ max_pairs
+  pub valid : AllByRecursion IsValid pairs
+
+-- the pair of a key and a value that a caller lends
+abbrev pub lent_pair : Bor (List ℕ) × Bor (List ℕ) → Pair
+lent_pair p = pair_with p.0.now p.1.now
+
+-- the first 32 of the pairs that a caller lends [`TraceState::from_key_value`]
+abbrev pub from_key_value : List (Bor (List ℕ) × Bor (List ℕ)) → List Pair
+from_key_value ps = take max_pairs (map lent_pair ps)
+
+abbrev pub has_key : List ℕ → Pair → Bool
+has_key key p = bytes_eq p.key key
+
+-- the value of the first pair with the key: 1 of the key a in a=1,b=2,a=3 [`TraceState::get`]
+abbrev pub get : List Pair → List ℕ → Option (List ℕ)
+get [] key = None
+get (p ∷ ps) key = if has_key key p then Some p.value else get ps key
+
+-- without the first pair with the key: a=1,b=2,a=3 without a is b=2,a=3 [`TraceState::delete`]
+abbrev pub delete : List Pair → List ℕ → List Pair
+delete [] key = []
+delete (p ∷ ps) key = if has_key key p then ps else p ∷ delete ps key
+
+-- the pair, followed by the first 31 of the others, from which the first one with the key is left
+-- out: b=2 in front of a=1,b=1,b=0 makes b=2,a=1,b=0 [W3C trace-context-2, "Mutating the tracestate
+-- Field"; `TraceState::insert`]
+abbrev pub insert : List Pair → List ℕ → List ℕ → List Pair
+insert ps key value = pair_with key value ∷ take (max_pairs - 1) (delete ps key)
+
+-- the key, the delimiter and the value
+abbrev pub entry : List ℕ → Pair → List ℕ
+entry delimiter p = p.key ++ (delimiter ++ p.value)
+
+-- the entries, with the list delimiter between them: a:1;b:2 of a=1,b=2 with the delimiters : and ;
+-- [`TraceState::header_delimited`]
+abbrev pub header_delimited : List Pair → List ℕ → List ℕ → List ℕ
+header_delimited [] between list = []
+header_delimited (p ∷ ps) between list = entry between p ++ flat_map (λ q. list ++ entry between q) ps
+
+-- the entries with = and commas: a=1,b=2 [W3C trace-context-2, "list"; `TraceState::header`]
+abbrev pub header : List Pair → List ℕ
+header ps = header_delimited ps (61 ∷ []) (44 ∷ [])

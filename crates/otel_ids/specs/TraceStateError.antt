@@ -1,0 +1,53 @@
+-- What is wrong with a key, a value or a text, and which error reports it.
+use Rattle.std.specs.Prelude.{◌≡◌, ℕ, List, [], ◌∷◌, Option, Some, None, if◌then◌else◌}
+use Rattle.std.specs.Prelude.{Result, Ok, Err, IfOk, OnOk, IfErr, string_bytes}
+use Rattle.otel_ids.specs.declared.error.TraceStateError.{TraceStateError}
+use Rattle.otel_ids.specs.declared.error.TraceStateError.TheVariants as errors
+use Rattle.otel_ids.specs.Text.{is_key, is_value}
+use Rattle.otel_ids.specs.TraceState.{Pair}
+
+-- what is wrong, and the text that is wrong so [`TraceStateError`]
+pub data Fault : Type 0 where
+  KeyFault : (text : List ℕ) → Fault
+  ValueFault : (text : List ℕ) → Fault
+  ListFault : (text : List ℕ) → Fault
+
+-- the fault of a key that isn't valid [`TraceState::delete`]
+abbrev pub key_fault : List ℕ → Option Fault
+key_fault key = if is_key key then None else Some (KeyFault key)
+
+-- the fault of a value that isn't valid
+abbrev pub value_fault : List ℕ → Option Fault
+value_fault value = if is_value value then None else Some (ValueFault value)
+
+-- the fault of a pair, that of its key before that of its value [`TraceState::insert`]
+abbrev pub pair_fault : Pair → Option Fault
+pair_fault p = if is_key p.key then value_fault p.value else Some (KeyFault p.key)
+
+abbrev pub first_of : Option Fault → Option Fault → Option Fault
+first_of None second = second
+first_of (Some fault) second = Some fault
+
+-- the fault of the first pair that has one [`TraceState::from_key_value`]
+abbrev pub pairs_fault : List Pair → Option Fault
+pairs_fault [] = None
+pairs_fault (p ∷ ps) = first_of (pair_fault p) (pairs_fault ps)
+
+-- the error reports the fault, with the text that is wrong, or that a request for memory failed
+abbrev pub Reports : TraceStateError → Option Fault → Type 0
+Reports (errors.Key text) fault = fault ≡ Some (KeyFault (string_bytes text))
+Reports (errors.Value text) fault = fault ≡ Some (ValueFault (string_bytes text))
+Reports (errors.List text) fault = fault ≡ Some (ListFault (string_bytes text))
+Reports (errors.Memory e) fault = Unit {0}
+
+-- the error reports that a request for memory failed
+abbrev pub IsMemory : TraceStateError → Type 0
+IsMemory (errors.Key text) = ⊥
+IsMemory (errors.Value text) = ⊥
+IsMemory (errors.List text) = ⊥
+IsMemory (errors.Memory e) = Unit {0}
+
+-- the call returns these pairs, or a request for memory failed
+abbrev pub Returns : Result (List Pair) TraceStateError → List Pair → Type 0
+Returns (Ok read) pairs = read ≡ pairs
+Returns (Err e) pairs = IsMemory e
