@@ -7,7 +7,7 @@ use Rattle.std.proofs.lemmas.List.{length-append, length-map, map-append, map_pu
 use Rattle.std.proofs.lemmas.List.Elements.{filter_map-append}
 use Rattle.std.proofs.lemmas.List.FromFn.{map-range_with_len_more, length-enumerate_from}
 use Rattle.otel_context.specs.Context.{ContextRecord}
-use Rattle.otel_context.specs.Stack.{Live, newest_position, last_or}
+use Rattle.otel_context.specs.Stack.{Live, newest_position, last_or, last_position}
 use Rattle.opentelemetry.specs.declared.carry.event.StackEvent.{StackEvent}
 use Rattle.opentelemetry.specs.declared.carry.event.StackEvent.TheVariants.{Attach, Detach}
 use Rattle.opentelemetry.specs.declared.carry.event.AttachOutcome.{AttachOutcome}
@@ -54,7 +54,7 @@ attaches_of-attaches : (contexts : List ContextRecord) → attaches_of (attaches
 attaches_of-attaches [] = refl
 attaches_of-attaches (c ∷ contexts) = ap suc (attaches_of-attaches contexts)
 
-legal-after : (done contexts : List ContextRecord) → Legal (attaches done) (in_order (length done)) → length done + length contexts ≤ 65534
+legal-after : (done contexts : List ContextRecord) → Legal (attaches done) (in_order (length done)) → length done + length contexts ≤ last_position
     → Legal (attaches (done ++ contexts)) (in_order (length (done ++ contexts)))
 legal-after done [] legal few = rw append-nil legal
 legal-after done (c ∷ contexts) legal few =
@@ -65,10 +65,10 @@ legal-after done (c ∷ contexts) legal few =
     let rest = legal-after (done ++ c ∷ []) contexts whole (rw length-append (omega arith)) in
     subst (λ (cs : List ContextRecord). Legal (attaches cs) (in_order (length cs))) (append_assoc done (c ∷ []) contexts) rest
 
-legal-attaches : (contexts : List ContextRecord) → length contexts ≤ 65534 → Legal (attaches contexts) (in_order (length contexts))
+legal-attaches : (contexts : List ContextRecord) → length contexts ≤ last_position → Legal (attaches contexts) (in_order (length contexts))
 legal-attaches contexts few = legal-after [] contexts legal-none (omega (arith, few))
 
-full_only : (n : ℕ) (o : AttachOutcome) → IsOutcome n o → (o ≡ Full) ↔ (n ≡ 65534)
+full_only : (n : ℕ) (o : AttachOutcome) → IsOutcome n o → (o ≡ Full) ↔ (n ≡ last_position)
 full_only n (Attached p) h = (λ e. cc, λ e. absurd (omega (arith, h.0, e)))
 full_only n Full h = (λ e. h, λ e. refl)
 full_only n NoMemory h = (λ e. cc, λ e. absurd (omega (arith, h.1, e)))
@@ -120,7 +120,7 @@ survivors_of-nones : (lefts rest : List Left) → survivors_of (nones lefts ++ r
 survivors_of-nones [] rest = refl
 survivors_of-nones (x ∷ lefts) rest = survivors_of-nones lefts rest
 
-module _ (contexts : List ContextRecord) (last x y z : ContextRecord) (count : length contexts ≡ 65533) where
+module _ (contexts : List ContextRecord) (last x y z : ContextRecord) (count : length contexts + 1 ≡ last_position) where
   abbrev lefts : List Left
   lefts = some_of (enumerate_from 1 contexts)
 
@@ -128,27 +128,27 @@ module _ (contexts : List ContextRecord) (last x y z : ContextRecord) (count : l
   first_events = attaches contexts ++ Attach last ∷ []
 
   abbrev first_outcomes : List AttachOutcome
-  first_outcomes = in_order (length contexts) ++ Attached 65534 ∷ []
+  first_outcomes = in_order (length contexts) ++ Attached last_position ∷ []
 
   legal-first : Legal first_events first_outcomes
   legal-first =
       let legal = legal-attaches contexts (omega (arith, count)) in
-      legal-attach (attaches contexts) (in_order (length contexts)) last (Attached 65534) legal (rw newest-attaches (omega (arith, count), omega (arith, count)))
+      legal-attach (attaches contexts) (in_order (length contexts)) last (Attached last_position) legal (rw newest-attaches (omega (arith, count), omega (arith, count)))
 
-  left-first : left_by 0 first_events first_outcomes ≡ lefts ++ Some (65534, last) ∷ []
+  left-first : left_by 0 first_events first_outcomes ≡ lefts ++ Some (last_position, last) ∷ []
   left-first =
-      left_by-attach 0 (attaches contexts) (in_order (length contexts)) last (Attached 65534) (legal-attaches contexts (omega (arith, count))).one_each
-      ∙ ap (λ (l : List Left). l ++ Some (65534, last) ∷ []) (left_by-attaches 0 1 contexts)
+      left_by-attach 0 (attaches contexts) (in_order (length contexts)) last (Attached last_position) (legal-attaches contexts (omega (arith, count))).one_each
+      ∙ ap (λ (l : List Left). l ++ Some (last_position, last) ∷ []) (left_by-attaches 0 1 contexts)
 
-  survivors-first : survivors first_events first_outcomes ≡ enumerate_from 1 contexts ++ (65534, last) ∷ []
+  survivors-first : survivors first_events first_outcomes ≡ enumerate_from 1 contexts ++ (last_position, last) ∷ []
   survivors-first =
-      ap survivors_of left-first ∙ filter_map-append (λ left. left) lefts (Some (65534, last) ∷ [])
-      ∙ ap (λ (l : Live). l ++ (65534, last) ∷ []) (survivors_of-some (enumerate_from 1 contexts))
+      ap survivors_of left-first ∙ filter_map-append (λ left. left) lefts (Some (last_position, last) ∷ [])
+      ∙ ap (λ (l : Live). l ++ (last_position, last) ∷ []) (survivors_of-some (enumerate_from 1 contexts))
 
-  newest-first : newest_position (survivors first_events first_outcomes) ≡ 65534
+  newest-first : newest_position (survivors first_events first_outcomes) ≡ last_position
   newest-first = ap newest_position survivors-first ∙ newest-push (enumerate_from 1 contexts) where
-    newest-push : (live : Live) → newest_position (live ++ (65534, last) ∷ []) ≡ 65534
-    newest-push live = rw map_push (last_or-push 0 (map (λ (a : ℕ × ContextRecord). a.0) live) 65534)
+    newest-push : (live : Live) → newest_position (live ++ (last_position, last) ∷ []) ≡ last_position
+    newest-push live = rw map_push (last_or-push 0 (map (λ (a : ℕ × ContextRecord). a.0) live) last_position)
 
   abbrev events-2 : List StackEvent
   events-2 = filled contexts last x
@@ -159,13 +159,13 @@ module _ (contexts : List ContextRecord) (last x y z : ContextRecord) (count : l
   legal-2 : Legal events-2 outcomes-2
   legal-2 = legal-attach first_events first_outcomes x Full legal-first newest-first
 
-  full : survivors events-2 outcomes-2 ≡ enumerate_from 1 contexts ++ (65534, last) ∷ []
+  full : survivors events-2 outcomes-2 ≡ enumerate_from 1 contexts ++ (last_position, last) ∷ []
   full = survivors-attach first_events first_outcomes x Full legal-first.one_each ∙ append-nil (survivors first_events first_outcomes) ∙ survivors-first
 
-  left-2 : left_by 0 events-2 outcomes-2 ≡ lefts ++ (Some (65534, last) ∷ None ∷ [])
+  left-2 : left_by 0 events-2 outcomes-2 ≡ lefts ++ (Some (last_position, last) ∷ None ∷ [])
   left-2 =
       left_by-attach 0 first_events first_outcomes x Full legal-first.one_each ∙ ap (λ (l : List Left). l ++ None ∷ []) left-first
-      ∙ append_assoc lefts (Some (65534, last) ∷ []) (None ∷ [])
+      ∙ append_assoc lefts (Some (last_position, last) ∷ []) (None ∷ [])
 
   abbrev events-3 : List StackEvent
   events-3 = events-2 ++ detaches_below (length contexts)
@@ -173,15 +173,15 @@ module _ (contexts : List ContextRecord) (last x y z : ContextRecord) (count : l
   legal-3 : Legal events-3 outcomes-2
   legal-3 = legal-detaches 0 (length contexts) events-2 outcomes-2 legal-2
 
-  left-3 : left_by 0 events-3 outcomes-2 ≡ nones lefts ++ (Some (65534, last) ∷ None ∷ [])
+  left-3 : left_by 0 events-3 outcomes-2 ≡ nones lefts ++ (Some (last_position, last) ∷ None ∷ [])
   left-3 =
       left_by-detaches 0 (length contexts) events-2 outcomes-2 ∙ ap (clear_from 0 (length contexts)) left-2
-      ∙ ap (λ n. clear_from 0 n (lefts ++ (Some (65534, last) ∷ None ∷ []))) (sym many) ∙ clear_all [] lefts (Some (65534, last) ∷ None ∷ []) where
+      ∙ ap (λ n. clear_from 0 n (lefts ++ (Some (last_position, last) ∷ None ∷ []))) (sym many) ∙ clear_all [] lefts (Some (last_position, last) ∷ None ∷ []) where
         many : length lefts ≡ length contexts
         many = length-map (enumerate_from 1 contexts) (λ a. Some a) ∙ length-enumerate_from 1 contexts
 
-  survivors-3 : survivors events-3 outcomes-2 ≡ (65534, last) ∷ []
-  survivors-3 = ap survivors_of left-3 ∙ survivors_of-nones lefts (Some (65534, last) ∷ None ∷ [])
+  survivors-3 : survivors events-3 outcomes-2 ≡ (last_position, last) ∷ []
+  survivors-3 = ap survivors_of left-3 ∙ survivors_of-nones lefts (Some (last_position, last) ∷ None ∷ [])
 
   abbrev events-4 : List StackEvent
   events-4 = emptied contexts last x y
@@ -192,27 +192,27 @@ module _ (contexts : List ContextRecord) (last x y z : ContextRecord) (count : l
   legal-4 : Legal events-4 outcomes-4
   legal-4 = legal-attach events-3 outcomes-2 y Full legal-3 (rw survivors-3 refl)
 
-  last_alone : survivors events-4 outcomes-4 ≡ (65534, last) ∷ []
+  last_alone : survivors events-4 outcomes-4 ≡ (last_position, last) ∷ []
   last_alone = survivors-attach events-3 outcomes-2 y Full legal-3.one_each ∙ append-nil (survivors events-3 outcomes-2) ∙ survivors-3
 
-  left-4 : left_by 0 events-4 outcomes-4 ≡ nones lefts ++ (Some (65534, last) ∷ None ∷ None ∷ [])
+  left-4 : left_by 0 events-4 outcomes-4 ≡ nones lefts ++ (Some (last_position, last) ∷ None ∷ None ∷ [])
   left-4 =
       left_by-attach 0 events-3 outcomes-2 y Full legal-3.one_each ∙ ap (λ (l : List Left). l ++ None ∷ []) left-3
-      ∙ append_assoc (nones lefts) (Some (65534, last) ∷ None ∷ []) (None ∷ [])
+      ∙ append_assoc (nones lefts) (Some (last_position, last) ∷ None ∷ []) (None ∷ [])
 
   abbrev events-5 : List StackEvent
-  events-5 = events-4 ++ Detach 65533 ∷ []
+  events-5 = events-4 ++ Detach (length contexts) ∷ []
 
   legal-5 : Legal events-5 outcomes-4
-  legal-5 = legal-detach events-4 outcomes-4 65533 legal-4
+  legal-5 = legal-detach events-4 outcomes-4 (length contexts) legal-4
 
   left-5 : left_by 0 events-5 outcomes-4 ≡ nones lefts ++ (None ∷ None ∷ None ∷ [])
   left-5 =
-      left_by-detached 65533 events-4 outcomes-4 ∙ ap (λ (l : List Left). slice_set l 65533 None) left-4
-      ∙ ap (λ n. slice_set (nones lefts ++ (Some (65534, last) ∷ None ∷ None ∷ [])) n None) (sym many)
-      ∙ set-append_seam (nones lefts) (Some (65534, last)) (None ∷ None ∷ []) None where
-        many : length (nones lefts) ≡ 65533
-        many = length-map lefts (λ x. None) ∙ length-map (enumerate_from 1 contexts) (λ a. Some a) ∙ length-enumerate_from 1 contexts ∙ count
+      left_by-detached (length contexts) events-4 outcomes-4 ∙ ap (λ (l : List Left). slice_set l (length contexts) None) left-4
+      ∙ ap (λ n. slice_set (nones lefts ++ (Some (last_position, last) ∷ None ∷ None ∷ [])) n None) (sym many)
+      ∙ set-append_seam (nones lefts) (Some (last_position, last)) (None ∷ None ∷ []) None where
+        many : length (nones lefts) ≡ length contexts
+        many = length-map lefts (λ x. None) ∙ length-map (enumerate_from 1 contexts) (λ a. Some a) ∙ length-enumerate_from 1 contexts
 
   none : survivors events-5 outcomes-4 ≡ []
   none = ap survivors_of left-5 ∙ survivors_of-nones lefts (None ∷ None ∷ None ∷ [])

@@ -1,5 +1,6 @@
 -- The runs that are worked by hand.
 use Rattle.std.proofs.Common.{ℕ, ◌+◌, ◌<◌, List, [], ◌∷◌, refl, arith}
+use Rattle.otel_context.specs.Stack.{last_position}
 use Rattle.otel_context.specs.Context.{ContextRecord}
 use Rattle.opentelemetry.specs.declared.carry.event.StackEvent.{StackEvent}
 use Rattle.opentelemetry.specs.declared.carry.event.StackEvent.TheVariants.{Attach, Detach}
@@ -12,7 +13,7 @@ use Rattle.opentelemetry.proofs.RunLemmas.{legal-attach, legal-detach}
 pub legal-none : Legal [] []
 legal-none = record { one_each = refl; each = λ place context at. cc }
 
-next : (newest : ℕ) → newest < 65534 → IsOutcome newest (Attached (newest + 1))
+next : (newest : ℕ) → newest < last_position → IsOutcome newest (Attached (newest + 1))
 next newest h = (h, refl)
 
 -- after attaches alone

@@ -3,7 +3,7 @@
 use Rattle.std.specs.Prelude.{◌≡◌, ◌≢◌, ◌⊎◌, ℕ, ◌+◌, ◌<◌, ◌≤◌, ◌==◌, if◌then◌else◌, Bool, true, false, List, [], ◌∷◌, length, take, filter, slice_get, Option, Some, None, IfSome}
 use Rattle.std.specs.List.{list_any, filter_map}
 use Rattle.otel_context.specs.Context.{ContextRecord, empty_context}
-use Rattle.otel_context.specs.Stack.{Live, StackState, newest_position, last_position}
+use Rattle.otel_context.specs.Stack.{Live, StackState, newest_position, initial_capacity, last_position}
 use Rattle.opentelemetry.specs.declared.carry.event.StackEvent.{StackEvent}
 use Rattle.opentelemetry.specs.declared.carry.event.StackEvent.TheVariants.{Attach, Detach}
 use Rattle.opentelemetry.specs.declared.carry.event.AttachOutcome.{AttachOutcome}
@@ -92,16 +92,12 @@ pub record IsBase
 abbrev pub IsCurrent : List StackEvent → List AttachOutcome → ContextRecord → Type 0
 IsCurrent events outcomes context = IsLatest events outcomes context ⊎ IsBase events outcomes context
 
--- how many attachments a new stack has room for
-abbrev pub first_room : ℕ
-first_room = 8
-
 -- The outcome of an attach where this is the newest position: `Full` exactly at the last one; `NoMemory`, that a request
 -- for memory failed, only from 8 on; else the position after the newest.
 abbrev pub IsOutcome : ℕ → AttachOutcome → Type 0
 IsOutcome newest (Attached position) = (newest < last_position) × (position ≡ newest + 1)
 IsOutcome newest Full = newest ≡ last_position
-IsOutcome newest NoMemory = (first_room ≤ newest) × (newest < last_position)
+IsOutcome newest NoMemory = (initial_capacity ≤ newest) × (newest < last_position)
 
 -- Each attach has an outcome, and it is one that the survivors of the events before it allow.
 pub record Legal (events : List StackEvent) (outcomes : List AttachOutcome) : Type 0 where

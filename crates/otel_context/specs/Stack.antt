@@ -1,7 +1,8 @@
 -- What a stack of contexts is: a list of live attachments with rising positions, and two counts.
 -- A word beside a method of `ContextStack` has the method's name: `attach`, `detach`, `current`,
 -- `newest_position`.
-use Rattle.std.specs.Prelude.{◌≡◌, ◌≤◌, ℕ, ◌+◌, ◌<◌, ◌==◌, Bool, not, List, [], ◌∷◌, ◌++◌, length, map, filter, Option, None, option_map, Result, IfOk, OnErr, IfNone}
+use Rattle.std.specs.Prelude.{◌≡◌, ◌≤◌, ℕ, ◌+◌, ◌<◌, ◌==◌, Bool, not, List, [], ◌∷◌, ◌++◌, length}
+use Rattle.std.specs.Prelude.{map, filter, Option, None, option_map, Result, IfOk, OnErr, IfNone}
 use Rattle.std.specs.List.{find, list_any, range_with_len}
 use Rattle.otel_context.specs.Context.{ContextRecord, empty_context}
 
@@ -75,7 +76,8 @@ detach position live = filter (λ a. not (a.0 == position)) live
 -- how many positions from 1 to the newest are not live: the emptied slots that stand
 -- of (1, A) ∷ (4, D) ∷ []: 2
 abbrev pub emptied_of : Live → ℕ
-emptied_of live = length (filter (λ p. not (is_live p live)) (range_with_len 1 (newest_position live)))
+emptied_of live =
+    length (filter (λ p. not (is_live p live)) (range_with_len 1 (newest_position live)))
 
 -- each number is above the one before it, the first above `p`
 abbrev pub RisesAbove : ℕ → List ℕ → Type 0
@@ -102,7 +104,11 @@ pub record Attaches {E : Type 0} (context : ContextRecord) (old new : StackState
   -- else the context is attached at the position above the newest
   pub accepted : newest_position old.live < last_position → IfOk result (λ position.
       (position ≡ newest_position old.live + 1)
-      × (new ≡ record { live = attach context old.live; accepted = old.accepted + 1; stepped = old.stepped }))
+      × (new ≡ record {
+        live = attach context old.live;
+        accepted = old.accepted + 1;
+        stepped = old.stepped;
+      }))
   -- after an error the stack is as it was
   pub err : OnErr result (new ≡ old)
   pub lawful : IsLawful new

@@ -1,7 +1,8 @@
 -- What holds of the live attachments of every stack, for a caller to cite.
 use Rattle.std.specs.Prelude.{◌≡◌, ◌≢◌, ◌≤◌, ◌+◌, ◌==◌, ℕ, not, filter, Some}
 use Rattle.otel_context.specs.Context.{ContextRecord}
-use Rattle.otel_context.specs.Stack.{Live, StackState, IsLawful, positions, newest_position, current, context_at, detach, attach}
+use Rattle.otel_context.specs.Stack.{Live, StackState, IsLawful, positions, newest_position}
+use Rattle.otel_context.specs.Stack.{current, context_at, detach, attach}
 
 -- taking out what was attached last leaves what was live before
 abbrev pub DetachRestores : Type 0

@@ -4,8 +4,8 @@ ghost use Rattle.std.specs.Fn.{FnOnceReturnsAt};
 
 /// What has a current value, as a `ContextStack` has the current context. Not in the Rust crate.
 ///
-/// It stands for the method `map_current` of the Rust crate's `Context`: a caller brings the trait in, and writes
-/// `stack.map_current(|context| ..)`.
+/// It stands for the method `map_current` of the Rust crate's `Context`: a caller brings the trait
+/// in, and writes `stack.map_current(|context| ..)`.
 pub trait HasCurrent {
     /// The type of the current value.
     type Current;

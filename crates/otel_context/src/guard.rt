@@ -4,13 +4,13 @@ ghost use Rattle.otel_context.specs.Stack.{no_position};
 
 use std::marker::Model;
 
-/// What stands for no position.
+/// What is returned in place of a position where none is left.
 pub(crate) const NO_POSITION: u16 = u16::MAX;
 
 /// The position of an attached context, to be handed back to `ContextStack::detach`.
 ///
-/// A guard can't be dropped: a program that lets one go unspent doesn't compile. It may meet another stack than the
-/// one that gave it; there it names what is live at its position.
+/// A guard can't be dropped: a program that lets one go unspent doesn't compile. It may meet
+/// another stack than the one that gave it; there it names what is live at its position.
 pub struct ContextGuard {
     position: u16,
 }
@@ -30,16 +30,16 @@ impl ContextGuard {
         ContextGuard { position }
     }
 
-    /// The position of the attached context, from 1 to 65534, or 65535 where no position was left. Not in the
-    /// Rust crate.
+    /// The position of the attached context, from 1 to 65534, or 65535 where no position was left.
+    /// Not in the Rust crate.
     pub fn position(&self) -> u16
         ensures { result ≡ self.now }
     {
         self.position
     }
 
-    /// Whether the attach was accepted: whether the position isn't 65535. It stays so whatever is removed later. Not
-    /// in the Rust crate.
+    /// Whether the attach was accepted: whether the position isn't 65535. It stays so whatever is
+    /// removed later. Not in the Rust crate.
     pub fn is_attached(&self) -> bool
         ensures { IsTrue result ↔ (self.now ≢ no_position) }
     {

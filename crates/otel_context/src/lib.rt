@@ -1,4 +1,5 @@
-//! What travels with a request: the baggage, the context that holds it, and the stack of the attached contexts.
+//! What travels with a request: the baggage, the context that holds it, and the stack of the
+//! attached contexts.
 #![tactic(auto)]
 
 pub mod baggage;

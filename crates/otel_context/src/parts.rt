@@ -1,7 +1,10 @@
 //! The parts of a context.
 ghost use Rattle.std.specs.Prelude.{◌≡◌, IfOk, option_map};
 ghost use Rattle.otel_base.specs.View.{tree};
-ghost use Rattle.otel_context.specs.Context.{empty_context, get, with_value, with_baggage, with_cleared_baggage, has_active_span, span_number, with_remote_span_context, is_telemetry_suppressed, with_telemetry_suppressed};
+ghost use Rattle.otel_context.specs.Context.{empty_context, get, with_value, with_baggage};
+ghost use Rattle.otel_context.specs.Context.{with_cleared_baggage, has_active_span, span_number};
+ghost use Rattle.otel_context.specs.Context.{with_remote_span_context, is_telemetry_suppressed};
+ghost use Rattle.otel_context.specs.Context.{with_telemetry_suppressed};
 
 use crate::baggage::Baggage;
 use crate::entries::Entries;
@@ -21,8 +24,8 @@ struct ActiveSpan {
 
 /// Named entries, a baggage, the active span, and whether telemetry is suppressed.
 ///
-/// They don't change. Each `with_` call returns new ones that differ in one, and shares the others. Its `AllocError`
-/// reports that a request for memory failed.
+/// They don't change. Each `with_` call returns new ones that differ in one, and shares the others.
+/// Its `AllocError` reports that a request for memory failed.
 #[derive(Drop)]
 pub struct Parts {
     entries: Entries,
