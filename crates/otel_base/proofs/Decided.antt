@@ -1,4 +1,4 @@
--- A truth value that a test computes.
+-- A boolean that a test computes.
 use Rattle.std.proofs.Common.{◌≡◌, Bool, subst}
 use Rattle.std.specs.Bool.{Decides}
 

@@ -9,7 +9,7 @@ use Rattle.std.specs.declared.cmp.Ordering.TheVariants.{Less, Equal, Greater}
 use Rattle.std.specs.FinMap.Entries.{find, is_sorted, below_all, same_entries}
 use Rattle.std.proofs.lemmas.Cmp.{nat_list_cmp_total}
 use Rattle.std.proofs.lemmas.Map.Lookups.{exact_bytes}
-use Rattle.otel_base.specs.Tree.{Tree, Entries, no_entries, more_entries, map, entry_at, keys_of_entries}
+use Rattle.otel_base.specs.AnyValue.{Tree, Entries, no_entries, more_entries, map, entry_at, keys_of_entries}
 use Rattle.otel_base.specs.View.{entries_of}
 use Rattle.otel_base.specs.Laws.{SameMap}
 

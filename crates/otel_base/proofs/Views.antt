@@ -9,7 +9,7 @@ use Rattle.std.specs.List.Sorted.{IsStrictlySortedBy}
 use Rattle.std.specs.Map.{keys_of, lookup}
 use Rattle.std.specs.Ordering.{match_ordering, ordering_reverse, is_eq}
 use Rattle.std.specs.BTreeMap.{insert_entry, is_at}
-use Rattle.otel_base.specs.Tree.{Tree, list, map, Entries, no_entries, more_entries, entry_at, keys_of_entries, last_at}
+use Rattle.otel_base.specs.AnyValue.{Tree, list, map, Entries, no_entries, more_entries, entry_at, keys_of_entries, last_at}
 use Rattle.otel_base.specs.View.{tree, trees_view, entries_view, pairs_view}
 use Rattle.otel_base.specs.declared.any_value.AnyValue.{AnyValue, ListAny, Map, the_lemmas}
 

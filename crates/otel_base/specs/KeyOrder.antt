@@ -1,42 +1,35 @@
 -- Attributes in the order of their keys, those of one key in given order.
-use Rattle.std.specs.Prelude.{◌≡◌, ℕ, List, [], ◌∷◌, map, Option, Some, option_map, ◌++◌, false, if◌then◌else◌}
-use Rattle.std.specs.List.{AllByRecursion, slice_get, flat_map}
+use Rattle.std.specs.Prelude.{◌≡◌, ℕ, List, [], ◌∷◌, map, Option, Some, option_map, false, if◌then◌else◌}
+use Rattle.std.specs.List.{AllByRecursion, slice_get}
 use Rattle.std.specs.Ordering.{nat_cmp, is_gt}
 use Rattle.std.specs.declared.cmp.Ordering.{Ordering}
 use Rattle.std.specs.Option.{option_cmp}
 use Rattle.std.specs.Cmp.Lexicographic.{slice_cmp}
-use Rattle.std.specs.Hash as fed
-use Rattle.std.specs.Hash.{HashWrites}
-use Rattle.otel_base.specs.Seen.{pair_hash}
-use Rattle.otel_base.specs.Scope.{Pair, Scope}
+use Rattle.otel_base.specs.KeyValue.{Attribute}
 
--- p before the first attribute of no lesser key (own)
-abbrev pub insert_in_order : Pair → List Pair → List Pair
+-- p before the first attribute of no lesser key
+abbrev pub insert_in_order : Attribute → List Attribute → List Attribute
 insert_in_order p [] = p ∷ []
 insert_in_order p (q ∷ qs) = if is_gt (slice_cmp nat_cmp p.0 q.0) then q ∷ insert_in_order p qs else (p ∷ q ∷ qs)
 
--- the attributes in the order of their keys, those of one key in given order (own): k=2, j=0, k=1 gives j=0, k=2, k=1
-abbrev pub in_key_order : List Pair → List Pair
+-- the attributes in the order of their keys, those of one key in given order: k=2, j=0, k=1 gives j=0, k=2, k=1
+abbrev pub in_key_order : List Attribute → List Attribute
 in_key_order [] = []
 in_key_order (p ∷ ps) = insert_in_order p (in_key_order ps)
 
--- no key is greater than a later one (own)
-abbrev pub IsRising : List Pair → Type 0
+-- no key is greater than a later one
+abbrev pub IsRising : List Attribute → Type 0
 IsRising [] = Unit {0}
 IsRising (p ∷ ps) = AllByRecursion (λ q. is_gt (slice_cmp nat_cmp p.0 q.0) ≡ false) ps × IsRising ps
 
--- the attributes at these positions are all of them, in key order (own): of k=2, j=0, k=1 the positions are 1, 0, 2
-abbrev pub IsKeyOrder : List Pair → List ℕ → Type 0
+-- the attributes at these positions are all of them, in key order: of k=2, j=0, k=1 the positions are 1, 0, 2
+abbrev pub IsKeyOrder : List Attribute → List ℕ → Type 0
 IsKeyOrder ps positions = map (slice_get ps) positions ≡ map (λ p. Some p) (in_key_order ps)
 
--- the key at a position, if there is one (own)
-abbrev pub key_at : List Pair → ℕ → Option (List ℕ)
+-- the key at a position, if there is one
+abbrev pub key_at : List Attribute → ℕ → Option (List ℕ)
 key_at ps i = option_map (λ p. p.0) (slice_get ps i)
 
--- how the keys at two positions compare (own)
-abbrev pub position_cmp : List Pair → ℕ → ℕ → Ordering
+-- how the keys at two positions compare
+abbrev pub position_cmp : List Attribute → ℕ → ℕ → Ordering
 position_cmp ps i j = option_cmp (slice_cmp nat_cmp) (key_at ps i) (key_at ps j)
-
--- what is hashed: the texts, then the attributes in key order (the Rust crate's `Hash` of `InstrumentationScope`)
-abbrev pub scope_hash : Scope → HashWrites
-scope_hash s = fed.str s.name ++ fed.option fed.str s.version ++ fed.option fed.str s.schema_url ++ flat_map pair_hash (in_key_order s.attributes)

@@ -1,6 +1,6 @@
 -- What holds of each value tree that is a map.
 use Rattle.std.specs.Prelude.{◌≡◌, ℕ, List}
-use Rattle.otel_base.specs.Tree.{Tree, IsMapOf, last_at}
+use Rattle.otel_base.specs.AnyValue.{Tree, IsMapOf, last_at}
 
 -- two maps made of pairs that agree at each key are the same tree: of a=1, b=2 and of b=2, a=0, a=1
 abbrev pub SameMap : Type 0

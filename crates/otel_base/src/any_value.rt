@@ -1,8 +1,9 @@
 //! Value trees, the bodies and attributes of log records and the entries of contexts.
 ghost use Rattle.std.specs.Prelude.{◌≡◌, ◌↔◌, IfOk, IsTrue, string_bytes, pos};
 ghost use Rattle.std.specs.Cmp.{on_per, partial_equiv_from_equiv};
-ghost use Rattle.otel_base.specs.Tree.{whole, text, truth, bytes, list, tree_eq, trees_eq, entries_eq, IsMapOf};
-ghost use Rattle.otel_base.specs.TreeLaws.{tree_eq-equiv};
+ghost use Rattle.otel_base.specs.AnyValue as spec;
+ghost use Rattle.otel_base.specs.AnyValue.{integer, text, boolean, bytes, list, trees_eq, entries_eq, IsMapOf};
+ghost use Rattle.otel_base.specs.AnyValueLaws.{eq-equiv};
 ghost use Rattle.otel_base.specs.View.{tree, trees_view, entries_view, pairs_view};
 
 use crate::key::Key;
@@ -17,11 +18,11 @@ use std::default::Emptied;
 /// are equal where they hold equal trees under the same keys.
 #[derive(Debug, Drop)]
 pub enum AnyValue {
-    /// A whole number.
+    /// An integer.
     Int(i64),
     /// A text.
     String(StringValue),
-    /// A truth value.
+    /// A boolean.
     Boolean(bool),
     /// A list of bytes.
     Bytes(Box<Vec<u8>>),
@@ -125,13 +126,13 @@ fn copy_entries(entries: &BTreeMap<Key, AnyValue>) -> Result<BTreeMap<Key, AnyVa
 }
 
 impl PartialEq for AnyValue {
-    ghost eq = { λ a b. tree_eq (tree a) (tree b) };
+    ghost eq = { λ a b. spec.eq (tree a) (tree b) };
 
-    ghost laws = { on_per tree (partial_equiv_from_equiv tree_eq-equiv) };
+    ghost laws = { on_per tree (partial_equiv_from_equiv eq-equiv) };
 
     /// Whether both are the same tree. Takes no memory.
     fn eq(&self, other: &AnyValue) -> bool
-        ensures value { result ≡ tree_eq (tree self.now) (tree other.now) }
+        ensures value { result ≡ spec.eq (tree self.now) (tree other.now) }
         ensures same { IsTrue result ↔ (tree self.now ≡ tree other.now) }
     {
         same(self, other)
@@ -140,7 +141,7 @@ impl PartialEq for AnyValue {
 
 #[cycle(same)]
 fn same(a: &AnyValue, b: &AnyValue) -> bool
-    ensures { result ≡ tree_eq (tree a.now) (tree b.now) }
+    ensures { result ≡ spec.eq (tree a.now) (tree b.now) }
 {
     match (a, b) {
         (AnyValue::Int(x), AnyValue::Int(y)) => x == y,
@@ -186,72 +187,72 @@ fn same_entries(a: &BTreeMap<Key, AnyValue>, b: &BTreeMap<Key, AnyValue>) -> boo
 }
 
 impl From<i8> for AnyValue {
-    ghost from_gives = { λ n v. tree v ≡ whole n };
+    ghost from_gives = { λ n v. tree v ≡ integer n };
 
-    /// The whole number.
+    /// The integer.
     fn from(value: i8) -> AnyValue {
         AnyValue::Int(i64::from(value))
     }
 }
 
 impl From<i16> for AnyValue {
-    ghost from_gives = { λ n v. tree v ≡ whole n };
+    ghost from_gives = { λ n v. tree v ≡ integer n };
 
-    /// The whole number.
+    /// The integer.
     fn from(value: i16) -> AnyValue {
         AnyValue::Int(i64::from(value))
     }
 }
 
 impl From<i32> for AnyValue {
-    ghost from_gives = { λ n v. tree v ≡ whole n };
+    ghost from_gives = { λ n v. tree v ≡ integer n };
 
-    /// The whole number.
+    /// The integer.
     fn from(value: i32) -> AnyValue {
         AnyValue::Int(i64::from(value))
     }
 }
 
 impl From<i64> for AnyValue {
-    ghost from_gives = { λ n v. tree v ≡ whole n };
+    ghost from_gives = { λ n v. tree v ≡ integer n };
 
-    /// The whole number.
+    /// The integer.
     fn from(value: i64) -> AnyValue {
         AnyValue::Int(value)
     }
 }
 
 impl From<u8> for AnyValue {
-    ghost from_gives = { λ n v. tree v ≡ whole (pos n) };
+    ghost from_gives = { λ n v. tree v ≡ integer (pos n) };
 
-    /// The whole number.
+    /// The integer.
     fn from(value: u8) -> AnyValue {
         AnyValue::Int(i64::from(value))
     }
 }
 
 impl From<u16> for AnyValue {
-    ghost from_gives = { λ n v. tree v ≡ whole (pos n) };
+    ghost from_gives = { λ n v. tree v ≡ integer (pos n) };
 
-    /// The whole number.
+    /// The integer.
     fn from(value: u16) -> AnyValue {
         AnyValue::Int(i64::from(value))
     }
 }
 
 impl From<u32> for AnyValue {
-    ghost from_gives = { λ n v. tree v ≡ whole (pos n) };
+    ghost from_gives = { λ n v. tree v ≡ integer (pos n) };
 
-    /// The whole number.
+    /// The integer.
     fn from(value: u32) -> AnyValue {
         AnyValue::Int(i64::from(value))
     }
 }
 
 impl From<bool> for AnyValue {
-    ghost from_gives = { λ b v. tree v ≡ truth b };
+    ghost from_gives = { λ b v. tree v ≡ boolean b };
 
-    /// The truth value.
+    /// The boolean.
     fn from(value: bool) -> AnyValue {
         AnyValue::Boolean(value)
     }

@@ -3,17 +3,21 @@
 #![tactic(auto)]
 
 mod any_value;
-mod attribute;
+mod array;
 mod key;
+mod key_value;
 pub mod laws;
 mod scope;
 mod severity;
 mod string_value;
 mod text;
+mod value;
 
 pub use any_value::AnyValue;
-pub use attribute::{Array, KeyValue, Value};
+pub use array::Array;
 pub use key::Key;
+pub use key_value::KeyValue;
 pub use scope::{InstrumentationScope, InstrumentationScopeBuilder};
 pub use severity::Severity;
 pub use string_value::StringValue;
+pub use value::Value;

@@ -5,12 +5,14 @@ ghost use Rattle.std.specs.Cmp.Lexicographic.{pointwise};
 ghost use Rattle.std.specs.Option.{option_eq};
 ghost use Rattle.std.specs.List.{slice_get, flat_map};
 ghost use Rattle.std.specs.Slice.Iter.{iter_rest};
-ghost use Rattle.otel_base.specs.Seen.{pair_of, pair_eq, pair_hash};
-ghost use Rattle.otel_base.specs.Scope.{IsSameScope, scope_eq, texts_eq};
-ghost use Rattle.otel_base.specs.KeyOrder.{IsKeyOrder, in_key_order, position_cmp, scope_hash};
-ghost use Rattle.otel_base.specs.ScopeLaws.{scope_eq-IsEquivalence, scope_hash-respects};
+ghost use Rattle.otel_base.specs.View.{attribute_of};
+ghost use Rattle.otel_base.specs.KeyValue as attribute;
+ghost use Rattle.otel_base.specs.KeyOrder.{IsKeyOrder, in_key_order, position_cmp};
+ghost use Rattle.otel_base.specs.InstrumentationScope as spec;
+ghost use Rattle.otel_base.specs.InstrumentationScope.{IsSameScope, texts_eq};
+ghost use Rattle.otel_base.specs.InstrumentationScopeLaws.{eq-IsEquivalence, hash-respects};
 
-use crate::attribute::KeyValue;
+use crate::key_value::KeyValue;
 use crate::string_value::StringValue;
 use std::alloc::{AllocError, Global};
 use std::cmp::Ordering;
@@ -34,8 +36,8 @@ pub struct InstrumentationScope {
 
 impl Model for InstrumentationScope {
     ghost use Rattle.std.specs.Prelude.{map};
-    ghost use Rattle.otel_base.specs.Seen.{pair_of};
-    ghost use Rattle.otel_base.specs.Scope.{Scope};
+    ghost use Rattle.otel_base.specs.View.{attribute_of};
+    ghost use Rattle.otel_base.specs.InstrumentationScope.{Scope};
     ghost use Rattle.otel_base.specs.KeyOrder.{IsKeyOrder};
 
     ghost Value = { Scope };
@@ -44,16 +46,16 @@ impl Model for InstrumentationScope {
       name = s.name;
       version = s.version;
       schema_url = s.schema_url;
-      attributes = map pair_of s.attributes.items;
+      attributes = map attribute_of s.attributes.items;
     } };
 
-    ghost invariant = { λ s. IsKeyOrder (map pair_of s.attributes.items) s.positions.items };
+    ghost invariant = { λ s. IsKeyOrder (map attribute_of s.attributes.items) s.positions.items };
 }
 
 impl InstrumentationScope {
     /// Starts a scope of this name, without version, schema URL and attributes.
     pub fn builder(name: StringValue) -> InstrumentationScopeBuilder
-        ensures { result ≡ record { name = name; version = None; schema_url = None; attributes = [] } }
+        ensures { result ≡ spec.builder name }
     {
         InstrumentationScopeBuilder {
             name,
@@ -92,7 +94,7 @@ impl InstrumentationScope {
 
     /// The attributes in given order, repeated keys included.
     pub fn attributes(&self) -> Iter<'_, KeyValue>
-        ensures { map pair_of (iter_rest result) ≡ self.now.attributes }
+        ensures { map attribute_of (iter_rest result) ≡ self.now.attributes }
     {
         self.attributes.iter()
     }
@@ -123,7 +125,7 @@ impl Clone for InstrumentationScope {
 }
 
 fn attribute_at(attributes: &[KeyValue], position: usize) -> Option<&KeyValue>
-    ensures { option_map (λ a. pair_of a.now) result ≡ slice_get (map pair_of attributes.now) position }
+    ensures { option_map (λ a. attribute_of a.now) result ≡ slice_get (map attribute_of attributes.now) position }
 {
     attributes.get(position)
 }
@@ -135,7 +137,7 @@ fn same_in_order(
     right: &[KeyValue],
     right_positions: &[usize],
 ) -> bool
-    ensures { result ≡ pointwise (option_eq pair_eq) (map (slice_get (map pair_of left.now)) left_positions.now) (map (slice_get (map pair_of right.now)) right_positions.now) }
+    ensures { result ≡ pointwise (option_eq attribute.eq) (map (slice_get (map attribute_of left.now)) left_positions.now) (map (slice_get (map attribute_of right.now)) right_positions.now) }
 {
     if left_positions.len() != right_positions.len() {
         return false;
@@ -149,13 +151,13 @@ fn same_in_order(
 }
 
 impl PartialEq for InstrumentationScope {
-    ghost eq = { scope_eq };
+    ghost eq = { spec.eq };
 
-    ghost laws = { partial_equiv_from_equiv scope_eq-IsEquivalence };
+    ghost laws = { partial_equiv_from_equiv eq-IsEquivalence };
 
     /// Whether both are the same scope. Takes no memory.
     fn eq(&self, other: &InstrumentationScope) -> bool
-        ensures value { result ≡ scope_eq self.now other.now }
+        ensures value { result ≡ spec.eq self.now other.now }
         ensures same { IsTrue result ↔ IsSameScope self.now other.now }
     {
         self.has_texts_of(other)
@@ -169,13 +171,13 @@ impl PartialEq for InstrumentationScope {
 }
 
 impl Eq for InstrumentationScope {
-    ghost laws = { scope_eq-IsEquivalence };
+    ghost laws = { eq-IsEquivalence };
 }
 
 // The attributes at the positions, one after another.
 fn hash_in_order<H: Hasher>(attributes: &[KeyValue], positions: &[usize], state: &mut H)
-    requires { IsKeyOrder (map pair_of attributes.now) positions.now }
-    ensures { state.new ≡ fold H.write state.old (flat_map pair_hash (in_key_order (map pair_of attributes.now))) }
+    requires { IsKeyOrder (map attribute_of attributes.now) positions.now }
+    ensures { state.new ≡ fold H.write state.old (flat_map attribute.hash (in_key_order (map attribute_of attributes.now))) }
 {
     for position in positions {
         attributes[*position].hash(state);
@@ -183,9 +185,9 @@ fn hash_in_order<H: Hasher>(attributes: &[KeyValue], positions: &[usize], state:
 }
 
 impl Hash for InstrumentationScope {
-    ghost hash_input = { scope_hash };
+    ghost hash_input = { spec.hash };
 
-    ghost respects_eq = { scope_hash-respects };
+    ghost respects_eq = { hash-respects };
 
     /// Feeds the texts, then the attributes in the order of their keys. Takes no memory.
     fn hash<H: Hasher>(&self, state: &mut H) {
@@ -206,8 +208,8 @@ pub struct InstrumentationScopeBuilder {
 }
 
 impl Model for InstrumentationScopeBuilder {
-    ghost use Rattle.otel_base.specs.Scope.{Scope};
-    ghost use Rattle.otel_base.specs.Seen.{given_pairs};
+    ghost use Rattle.otel_base.specs.InstrumentationScope.{Scope};
+    ghost use Rattle.otel_base.specs.View.{given_attributes};
 
     ghost Value = { Scope };
 
@@ -215,13 +217,13 @@ impl Model for InstrumentationScopeBuilder {
       name = s.name;
       version = s.version;
       schema_url = s.schema_url;
-      attributes = given_pairs s.attributes;
+      attributes = given_attributes s.attributes;
     } };
 }
 
 // How the keys at two positions compare; a position without an attribute is below the others.
 fn by_key(attributes: &[KeyValue], a: usize, b: usize) -> Ordering
-    ensures { result ≡ position_cmp (map pair_of attributes.now) a b }
+    ensures { result ≡ position_cmp (map attribute_of attributes.now) a b }
 {
     let first = attributes.get(a).map(|x| &x.key);
     let second = attributes.get(b).map(|x| &x.key);
@@ -230,7 +232,7 @@ fn by_key(attributes: &[KeyValue], a: usize, b: usize) -> Ordering
 
 // The positions of the attributes in the order of their keys, those of one key in given order.
 fn key_order(alloc: Global, attributes: &[KeyValue]) -> Result<Vec<usize>, AllocError>
-    ensures order { IfOk result (λ v. IsKeyOrder (map pair_of attributes.now) v.items) }
+    ensures order { IfOk result (λ v. IsKeyOrder (map attribute_of attributes.now) v.items) }
     ensures empty { length attributes.now ≡ 0 → IsOk result }
 {
     let mut positions = Vec::with_capacity(alloc, attributes.len())?;
@@ -244,7 +246,7 @@ fn key_order(alloc: Global, attributes: &[KeyValue]) -> Result<Vec<usize>, Alloc
 impl InstrumentationScopeBuilder {
     /// Sets the version; the last call wins.
     pub fn with_version(mut self, version: StringValue) -> InstrumentationScopeBuilder
-        ensures { result ≡ record self { version = Some version } }
+        ensures { result ≡ spec.with_version version self }
     {
         self.version = Some(version);
         self
@@ -252,7 +254,7 @@ impl InstrumentationScopeBuilder {
 
     /// Sets the schema URL; the last call wins.
     pub fn with_schema_url(mut self, schema_url: StringValue) -> InstrumentationScopeBuilder
-        ensures { result ≡ record self { schema_url = Some schema_url } }
+        ensures { result ≡ spec.with_schema_url schema_url self }
     {
         self.schema_url = Some(schema_url);
         self
@@ -260,7 +262,7 @@ impl InstrumentationScopeBuilder {
 
     /// Sets the attributes in place of those of an earlier call. Their order, and repeated keys, are kept.
     pub fn with_attributes(mut self, attributes: Vec<KeyValue>) -> InstrumentationScopeBuilder
-        ensures { result ≡ record self { attributes = map pair_of attributes.items } }
+        ensures { result ≡ spec.with_attributes (map attribute_of attributes.items) self }
     {
         self.attributes = Some(attributes);
         self

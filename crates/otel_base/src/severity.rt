@@ -4,7 +4,7 @@ ghost use Rattle.std.proofs.Common.{rules};
 ghost use Rattle.std.specs.Cmp.{partial_order_from_own_ties, unsigned_ties};
 ghost use Rattle.std.specs.Cmp.Rules.{comparing};
 ghost use Rattle.std.specs.Ordering.{nat_cmp, on, as_partial_cmp};
-ghost use Rattle.otel_base.specs.Severity.{name_of, number_of};
+ghost use Rattle.otel_base.specs.Severity as spec;
 
 use std::cmp::Ordering;
 
@@ -66,7 +66,7 @@ pub enum Severity {
 impl Severity {
     /// The short name of the OpenTelemetry logs data model, as `WARN2`.
     pub fn name(&self) -> &'static str
-        ensures { result.now ≡ name_of self.now }
+        ensures { result.now ≡ spec.name self.now }
     {
         match self {
             Severity::Trace => "TRACE",
@@ -100,20 +100,20 @@ impl Severity {
     ///
     /// It stands for `severity as u8`. Not in the Rust crate.
     pub fn number(&self) -> u8
-        ensures { result ≡ number_of self.now }
+        ensures { result ≡ spec.number self.now }
     {
         *self as u8
     }
 }
 
 impl PartialEq for Severity {
-    ghost eq = { on number_of ◌==◌ };
+    ghost eq = { on spec.number ◌==◌ };
 
     ghost laws = { Prim.search (comparing, rules) };
 
     /// Whether both are the same severity.
     fn eq(&self, other: &Severity) -> bool
-        ensures value { result ≡ (number_of self.now == number_of other.now) }
+        ensures value { result ≡ (spec.number self.now == spec.number other.now) }
         ensures same { IsTrue result ↔ (self.now ≡ other.now) }
     {
         self.number() == other.number()
@@ -125,9 +125,9 @@ impl Eq for Severity {
 }
 
 impl PartialOrd for Severity {
-    ghost partial_cmp = { as_partial_cmp (on number_of nat_cmp) };
+    ghost partial_cmp = { as_partial_cmp (on spec.number nat_cmp) };
 
-    ghost laws = { partial_order_from_own_ties (Prim.search (comparing, rules)) (λ x y. unsigned_ties (number_of x) (number_of y)) };
+    ghost laws = { partial_order_from_own_ties (Prim.search (comparing, rules)) (λ x y. unsigned_ties (spec.number x) (spec.number y)) };
 
     fn partial_cmp(&self, other: &Severity) -> Option<Ordering> {
         Some(self.cmp(other))
@@ -135,13 +135,13 @@ impl PartialOrd for Severity {
 }
 
 impl Ord for Severity {
-    ghost cmp = { on number_of nat_cmp };
+    ghost cmp = { on spec.number nat_cmp };
 
     ghost total = { Prim.search (comparing, rules) };
 
     ghost matches_partial_cmp = { Prim.search (comparing, rules) };
 
-    ghost matches_eq = { λ x y. unsigned_ties (number_of x) (number_of y) };
+    ghost matches_eq = { λ x y. unsigned_ties (spec.number x) (spec.number y) };
 
     fn cmp(&self, other: &Severity) -> Ordering {
         self.number().cmp(&other.number())

@@ -4,11 +4,11 @@ ghost use Rattle.std.specs.Cmp.Lexicographic.{pointwise};
 ghost use Rattle.std.proofs.Common.{rules};
 ghost use Rattle.std.specs.Cmp.Rules.{comparing};
 ghost use Rattle.std.specs.Rc.{rc_str_bytes};
-ghost use Rattle.otel_base.specs.Attribute.{datum_text, is_text};
-ghost use Rattle.otel_base.specs.Seen.{datum_of};
+ghost use Rattle.otel_base.specs.Value.{display, is_text};
+ghost use Rattle.otel_base.specs.View.{value_of};
 
-use crate::attribute::Value;
 use crate::text::Text;
+use crate::value::Value;
 use std::alloc::{AllocError, Global};
 use std::fmt;
 use std::marker::Model;
@@ -62,12 +62,16 @@ impl StringValue {
     ///
     /// `AllocError` where the value is no text and a request for memory fails. The value is dropped.
     pub fn from_value(alloc: Global, value: Value) -> Result<StringValue, AllocError>
-        ensures text { IfOk result (λ s. s ≡ datum_text (datum_of value)) }
-        ensures without_memory { IsTrue (is_text (datum_of value)) → IsOk result }
+        ensures text { IfOk result (λ s. s ≡ display (value_of value)) }
+        ensures without_memory { IsTrue (is_text (value_of value)) → IsOk result }
     {
         match value {
             Value::String(text) => Ok(text),
-            other => Ok(StringValue::from(format!(in alloc; "{other}")?)),
+            other => {
+                let mut out = String::new(alloc);
+                other.append_to(&mut out)?;
+                Ok(StringValue::from(out))
+            }
         }
     }
 }

@@ -1,4 +1,4 @@
--- Value trees: a whole number, a text, a truth value, a list of bytes, a list of trees, or a finite map from texts to
+-- Value trees: an integer, a text, a boolean, a list of bytes, a list of trees, or a finite map from texts to
 -- trees (the Rust crate's `AnyValue`).
 use Rattle.std.specs.Prelude.{◌≡◌, ℕ, ℤ, List, [], ◌∷◌, Bool, true, false, ◌&&◌, nat_eq, Option, Some, None, if◌then◌else◌}
 use Rattle.std.specs.Ordering.{nat_cmp, int_eq, match_ordering}
@@ -11,9 +11,9 @@ use Rattle.std.specs.Cmp.Lexicographic.{slice_cmp, pointwise}
 mutual
   -- a value tree: `list` and `text` of nothing are different trees
   pub data Tree : Type 0 where
-    whole : ℤ → Tree
+    integer : ℤ → Tree
     text : List ℕ → Tree
-    truth : Bool → Tree
+    boolean : Bool → Tree
     bytes : List ℕ → Tree
     list : Trees → Tree
     map : Entries → Tree
@@ -28,17 +28,17 @@ mutual
     no_entries : Entries
     more_entries : List ℕ → Tree → Entries → Entries
 
--- the tree at a key, if there is one (own)
+-- the tree at a key, if there is one
 abbrev pub entry_at : List ℕ → Entries → Option Tree
 entry_at k no_entries = None
 entry_at k (more_entries l e es) = match_ordering (slice_cmp nat_cmp k l) (entry_at k es) (Some e) (entry_at k es)
 
--- the keys, in order (own)
+-- the keys, in order
 abbrev pub keys_of_entries : Entries → List (List ℕ)
 keys_of_entries no_entries = []
 keys_of_entries (more_entries k e es) = k ∷ keys_of_entries es
 
--- the tree of the last pair of a key, if there is one (own): of a=1, b=2, a=3 it is 3 at a
+-- the tree of the last pair of a key, if there is one: of a=1, b=2, a=3 it is 3 at a
 abbrev pub last_at : List ℕ → List (List ℕ × Tree) → Option Tree
 last_at k [] = None
 last_at k (p ∷ ps) = option_or (last_at k ps) (if bytes_eq p.0 k then Some p.1 else None)
@@ -54,23 +54,23 @@ pub record IsMapOf (pairs : List (List ℕ × Tree)) (t : Tree) : Type 0 where
 -- ---- the equality as a test
 abbrev mutual
   -- the same case and the same content (the Rust crate's `PartialEq` of `AnyValue`)
-  pub tree_eq : Tree → Tree → Bool
-  tree_eq (whole x) (whole y) = int_eq x y
-  tree_eq (text x) (text y) = pointwise nat_eq x y
-  tree_eq (truth x) (truth y) = beq x y
-  tree_eq (bytes x) (bytes y) = pointwise nat_eq x y
-  tree_eq (list x) (list y) = trees_eq x y
-  tree_eq (map x) (map y) = entries_eq x y
-  tree_eq _ _ = false
+  pub eq : Tree → Tree → Bool
+  eq (integer x) (integer y) = int_eq x y
+  eq (text x) (text y) = pointwise nat_eq x y
+  eq (boolean x) (boolean y) = beq x y
+  eq (bytes x) (bytes y) = pointwise nat_eq x y
+  eq (list x) (list y) = trees_eq x y
+  eq (map x) (map y) = entries_eq x y
+  eq _ _ = false
 
-  -- the same trees in order (own)
+  -- the same trees in order
   pub trees_eq : Trees → Trees → Bool
   trees_eq no_trees no_trees = true
-  trees_eq (more_trees x xs) (more_trees y ys) = tree_eq x y && trees_eq xs ys
+  trees_eq (more_trees x xs) (more_trees y ys) = eq x y && trees_eq xs ys
   trees_eq _ _ = false
 
-  -- the same keys with the same trees (own)
+  -- the same keys with the same trees
   pub entries_eq : Entries → Entries → Bool
   entries_eq no_entries no_entries = true
-  entries_eq (more_entries j x xs) (more_entries k y ys) = pointwise nat_eq j k && tree_eq x y && entries_eq xs ys
+  entries_eq (more_entries j x xs) (more_entries k y ys) = pointwise nat_eq j k && eq x y && entries_eq xs ys
   entries_eq _ _ = false

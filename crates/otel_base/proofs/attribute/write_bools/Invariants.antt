@@ -1,9 +1,0 @@
-use Rattle.std.proofs.Common.{◌∷◌, map, take}
-use Rattle.std.specs.Fmt.{HasWritten, IsPlainFormatter}
-use Rattle.std.specs.List.{join_with_byte}
-use Rattle.otel_base.specs.Attribute.{truth_text}
-use Rattle.otel_base.proofs.attribute.write_bools.Given as goal
-
-abbrev pub invariant-loop-i : goal.invariant-loop-i
-invariant-loop-i g l =
-    IsPlainFormatter l.fn.f → HasWritten g.W.Write.write_str_gives l.fn.f (91 ∷ join_with_byte 44 (map truth_text (take l.i l.items))) l.f
