@@ -7,9 +7,9 @@ use Rattle.std.specs.Cmp.{unsigned_Decides}
 use Rattle.std.specs.Cmp.Lexicographic.{pointwise}
 use Rattle.std.proofs.lemmas.Bool.Decides.{Decides-and, Decides-like}
 use Rattle.std.proofs.lemmas.Slice.Eq.{bytes_eq-Decides, slice_eq-Decides}
-use Rattle.otel_base.specs.Scope.{Pair}
-use Rattle.otel_base.specs.Seen.{pair_eq}
-use Rattle.otel_base.specs.AttributeLaws.{pair_eq-Decides}
+use Rattle.otel_base.specs.KeyValue.{Attribute}
+use Rattle.otel_base.specs.KeyValue as attribute
+use Rattle.otel_base.specs.KeyValueLaws.{attribute_eq-Decides}
 use Rattle.otel_ids.specs.SpanContext.{SpanContextRecord}
 use Rattle.otel_ids.specs.Equal.{contexts_eq, contexts_eq-Decides}
 
@@ -18,23 +18,23 @@ use Rattle.otel_ids.specs.Equal.{contexts_eq, contexts_eq-Decides}
 pub record EventRecord : Type 0 where
   pub name : List ℕ
   pub timestamp : ℕ
-  pub attributes : List Pair
+  pub attributes : List Attribute
   pub dropped_attributes_count : ℕ
 
 -- the span context of the other span, the attributes in order, and how many were left out
 -- [the Rust crate's `Link`]
 pub record LinkRecord : Type 0 where
   pub span_context : SpanContextRecord
-  pub attributes : List Pair
+  pub attributes : List Attribute
   pub dropped_attributes_count : ℕ
 
 -- ---- equality as a test
 -- whether two lists have the same attributes in the same order
-abbrev pub attributes_eq : List Pair → List Pair → Bool
-attributes_eq = pointwise pair_eq
+abbrev pub attributes_eq : List Attribute → List Attribute → Bool
+attributes_eq = pointwise attribute.eq
 
-attributes_eq-Decides : (xs ys : List Pair) → Decides (attributes_eq xs ys) (xs ≡ ys)
-attributes_eq-Decides xs ys = slice_eq-Decides pair_eq-Decides xs ys _ refl
+attributes_eq-Decides : (xs ys : List Attribute) → Decides (attributes_eq xs ys) (xs ≡ ys)
+attributes_eq-Decides xs ys = slice_eq-Decides attribute_eq-Decides xs ys _ refl
 
 -- whether two events have the same parts
 abbrev pub event_eq : EventRecord → EventRecord → Bool

@@ -1,6 +1,6 @@
 -- The scope that a provider is asked for by a name alone.
 use Rattle.std.specs.Prelude.{ℕ, List, [], None}
-use Rattle.otel_base.specs.Scope.{Scope}
+use Rattle.otel_base.specs.InstrumentationScope.{Scope}
 
 -- the scope of that name, without version, schema URL and attributes
 -- [the Rust crate's `TracerProvider::tracer` and `LoggerProvider::logger`]

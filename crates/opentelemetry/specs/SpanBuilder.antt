@@ -1,7 +1,7 @@
 -- What a span starts with.
 use Rattle.std.specs.Prelude.{◌≡◌, ℕ, zero, suc, Bool, true, false, ◌&&◌, List, Option, Some, None}
 use Rattle.std.specs.List.{filter}
-use Rattle.otel_base.specs.Scope.{Pair}
+use Rattle.otel_base.specs.KeyValue.{Attribute}
 use Rattle.otel_ids.specs.SpanContext.{SpanContextRecord}
 use Rattle.otel_context.specs.declared.status.SpanKind.{SpanKind}
 use Rattle.opentelemetry.specs.Event.{EventRecord, LinkRecord}
@@ -12,7 +12,7 @@ pub record BuilderRecord : Type 0 where
   pub span_kind : Option SpanKind
   pub name : List ℕ
   pub start_time : Option ℕ
-  pub attributes : Option (List Pair)
+  pub attributes : Option (List Attribute)
   pub events : Option (List EventRecord)
   pub links : Option (List LinkRecord)
 

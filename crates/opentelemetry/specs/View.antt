@@ -1,6 +1,6 @@
 -- What contracts see of the types of this crate.
 use Rattle.std.specs.Prelude.{map, option_map}
-use Rattle.otel_base.specs.Seen.{pair_of}
+use Rattle.otel_base.specs.View.{attribute_of}
 use Rattle.opentelemetry.specs.Event.{EventRecord, LinkRecord}
 use Rattle.opentelemetry.specs.declared.trace.event.Event.{Event}
 use Rattle.opentelemetry.specs.SpanBuilder.{BuilderRecord}
@@ -11,14 +11,14 @@ abbrev pub event_of : Event → EventRecord
 event_of e = record {
   name = e.name;
   timestamp = e.timestamp;
-  attributes = map pair_of e.attributes.items;
+  attributes = map attribute_of e.attributes.items;
   dropped_attributes_count = e.dropped_attributes_count;
 }
 
 abbrev pub link_of : Link → LinkRecord
 link_of l = record {
   span_context = l.span_context;
-  attributes = map pair_of l.attributes.items;
+  attributes = map attribute_of l.attributes.items;
   dropped_attributes_count = l.dropped_attributes_count;
 }
 
@@ -27,7 +27,7 @@ builder_of b = record {
   span_kind = b.span_kind;
   name = b.name;
   start_time = b.start_time;
-  attributes = option_map (λ v. map pair_of v.items) b.attributes;
+  attributes = option_map (λ v. map attribute_of v.items) b.attributes;
   events = option_map (λ v. map event_of v.items) b.events;
   links = option_map (λ v. map link_of v.items) b.links;
 }

@@ -4,16 +4,16 @@ use Rattle.std.specs.Option.{option_map_or}
 use Rattle.std.specs.FinMap as map
 use Rattle.otel_ids.specs.TraceState.{Pair, header}
 use Rattle.otel_ids.specs.SpanContext.{SpanContextRecord}
-use Rattle.otel_base.specs.Tree.{Tree, whole, text, truth, bytes, list, map as map_tree}
+use Rattle.otel_base.specs.AnyValue.{Tree, integer, text, boolean, bytes, list, map as map_tree}
 use Rattle.otel_context.specs.Context.{ContextRecord, span_context}
 use Rattle.opentelemetry.specs.Carrier.{Pairs}
 
 -- the text of a value tree that is one
 abbrev pub text_in : Option Tree → Option (List ℕ)
 text_in None = None
-text_in (Some (whole n)) = None
+text_in (Some (integer n)) = None
 text_in (Some (text t)) = Some t
-text_in (Some (truth b)) = None
+text_in (Some (boolean b)) = None
 text_in (Some (bytes bs)) = None
 text_in (Some (list ts)) = None
 text_in (Some (map_tree es)) = None

@@ -12,7 +12,7 @@ use Rattle.std.specs.Cmp.Lexicographic.{slice_cmp}
 use Rattle.std.specs.FinMap.{get, find, insert, get-from_entries, get-insert, same_map}
 use Rattle.std.specs.declared.alloc.Global.{Global}
 use Rattle.std.specs.declared.rc.Rc.{Rc}
-use Rattle.otel_base.specs.Tree.{Tree}
+use Rattle.otel_base.specs.AnyValue.{Tree}
 use Rattle.otel_base.specs.View.{tree}
 use Rattle.otel_context.specs.declared.entries.Entry.{Entry}
 use Rattle.otel_context.specs.View.{pairs, by_key, entries_seen, IsRising}

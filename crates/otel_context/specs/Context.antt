@@ -6,7 +6,7 @@ use Rattle.std.specs.Ordering.{nat_cmp}
 use Rattle.std.specs.Cmp.Lexicographic.{slice_cmp}
 use Rattle.std.specs.FinMap as map
 use Rattle.otel_ids.specs.SpanContext.{SpanContextRecord, no_span_context}
-use Rattle.otel_base.specs.Tree.{Tree}
+use Rattle.otel_base.specs.AnyValue.{Tree}
 use Rattle.otel_context.specs.Baggage.{Triple}
 
 -- a finite map from texts, in the order of their bytes, to value trees

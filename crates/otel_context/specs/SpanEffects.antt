@@ -2,17 +2,17 @@
 use Rattle.std.specs.Prelude.{◌≡◌, ◌≤◌, ℕ, List, [], ◌∷◌, ◌++◌, Bool, length, map, take, fold, codes, Option, IfSome, MatchBool}
 use Rattle.std.specs.declared.vec.Vec.{Vec}
 use Rattle.std.specs.declared.alloc.Global.{Global}
-use Rattle.otel_base.specs.Attribute.{Datum, text}
-use Rattle.otel_base.specs.Seen.{pair_of}
-use Rattle.otel_base.specs.declared.attribute.KeyValue.{KeyValue}
+use Rattle.otel_base.specs.Value.{AttributeValue, text}
+use Rattle.otel_base.specs.View.{attribute_of}
+use Rattle.otel_base.specs.declared.key_value.KeyValue.{KeyValue}
 
 -- an attribute: its key and what its value holds (the Rust crate's `KeyValue`)
 abbrev pub Attribute : Type 0
-Attribute = List ℕ × Datum
+Attribute = List ℕ × AttributeValue
 
 -- the attributes of a list, in order
 abbrev pub attributes_of : Vec KeyValue Global → List Attribute
-attributes_of attributes = map pair_of attributes.items
+attributes_of attributes = map attribute_of attributes.items
 
 -- the one attribute of an error's event: `exception.message`, with the error's text (OpenTelemetry semantic conventions, "Exceptions")
 abbrev pub message : List ℕ → List Attribute

@@ -10,8 +10,8 @@ use Rattle.std.specs.Ordering.{nat_cmp}
 use Rattle.std.specs.declared.cmp.Ordering.{Ordering}
 use Rattle.otel_ids.specs.SpanContext.{SpanContextRecord}
 use Rattle.otel_ids.specs.View.{span_context_code}
-use Rattle.otel_base.specs.Tree.{Tree}
-use Rattle.otel_base.specs.TreeCode.{tree_code, bytes_code}
+use Rattle.otel_base.specs.AnyValue.{Tree}
+use Rattle.otel_base.specs.View.{tree_code}
 use Rattle.otel_base.specs.View.{tree}
 use Rattle.otel_context.specs.Baggage.{Triple}
 use Rattle.otel_context.specs.Context.{EntryMap, SpanPart, ContextRecord, empty_context}
@@ -47,11 +47,11 @@ record_of (Some parts) = parts.value
 
 -- a code of entries: that of the map's pairs
 abbrev pub entries_code : Coded EntryMap
-entries_code = code bytes_code tree_code
+entries_code = code (coded_list coded_ℕ) tree_code
 
 -- a code of lists of triples
 abbrev pub triples_code : Coded (List Triple)
-triples_code = coded_list (coded× bytes_code (coded× bytes_code bytes_code))
+triples_code = coded_list (coded× (coded_list coded_ℕ) (coded× (coded_list coded_ℕ) (coded_list coded_ℕ)))
 
 -- a code of active spans: that of the pair of their two fields
 abbrev pub span_part_code : Coded SpanPart

@@ -1,6 +1,6 @@
 //! What a span is told while it runs.
 ghost use Rattle.std.specs.Prelude.{◌≡◌, OnOk, OnErr};
-ghost use Rattle.otel_base.specs.Seen.{pair_of};
+ghost use Rattle.otel_base.specs.View.{attribute_of};
 
 use crate::status::Status;
 use otel_base::{Key, KeyValue, StringValue, Value};
@@ -62,7 +62,7 @@ pub trait Span: Drop {
     ///
     /// `AllocError` where a request for memory fails. The span is unchanged.
     fn set_attribute(&mut self, alloc: Global, attribute: KeyValue) -> Result<(), AllocError>
-        ensures ok { OnOk result (self.new ≡ after_attribute self.old (pair_of attribute)) }
+        ensures ok { OnOk result (self.new ≡ after_attribute self.old (attribute_of attribute)) }
         ensures err { OnErr result (self.new ≡ self.old) };
 
     /// Adds a link to another span.

@@ -1,6 +1,6 @@
 //! Lists of attributes, as events and links hold them.
 ghost use Rattle.std.specs.Prelude.{◌≡◌, IfOk, map};
-ghost use Rattle.otel_base.specs.Seen.{pair_of};
+ghost use Rattle.otel_base.specs.View.{attribute_of};
 ghost use Rattle.opentelemetry.specs.Event.{attributes_eq};
 
 use otel_base::KeyValue;
@@ -8,14 +8,14 @@ use std::alloc::AllocError;
 
 // Whether both have the same attributes in the same order.
 pub fn same_attributes(left: &Vec<KeyValue>, right: &Vec<KeyValue>) -> bool
-    ensures { result ≡ attributes_eq (map pair_of left.now.items) (map pair_of right.now.items) }
+    ensures { result ≡ attributes_eq (map attribute_of left.now.items) (map attribute_of right.now.items) }
 {
     *left == *right
 }
 
 // The same attributes in the same order.
 pub fn copy_attributes(attributes: &Vec<KeyValue>) -> Result<Vec<KeyValue>, AllocError>
-    ensures { IfOk result (λ copy. map pair_of copy.items ≡ map pair_of attributes.now.items) }
+    ensures { IfOk result (λ copy. map attribute_of copy.items ≡ map attribute_of attributes.now.items) }
 {
     Ok(attributes.clone()?)
 }

@@ -1,8 +1,8 @@
 //! Something that happened at one moment of a span.
 ghost use Rattle.std.specs.Prelude.{◌≡◌, ◌↔◌, IsTrue, [], map};
 ghost use Rattle.std.specs.Cmp.{on_per, partial_equiv_from_equiv};
-ghost use Rattle.otel_base.specs.AttributeLaws.{equiv_from_decides};
-ghost use Rattle.otel_base.specs.Seen.{pair_of};
+ghost use Rattle.otel_base.specs.KeyValueLaws.{equiv_from_decides};
+ghost use Rattle.otel_base.specs.View.{attribute_of};
 ghost use Rattle.opentelemetry.specs.Event.{event_eq, event_eq-Decides};
 ghost use Rattle.opentelemetry.specs.View.{event_of};
 
@@ -36,7 +36,7 @@ impl Event {
         ensures { event_of result ≡ record {
           name = name;
           timestamp = timestamp;
-          attributes = map pair_of attributes.items;
+          attributes = map attribute_of attributes.items;
           dropped_attributes_count = dropped_attributes_count;
         } }
     {

@@ -1,8 +1,8 @@
 //! A span that another one has to do with.
 ghost use Rattle.std.specs.Prelude.{◌≡◌, ◌↔◌, IsTrue, [], map};
 ghost use Rattle.std.specs.Cmp.{on_per, partial_equiv_from_equiv};
-ghost use Rattle.otel_base.specs.AttributeLaws.{equiv_from_decides};
-ghost use Rattle.otel_base.specs.Seen.{pair_of};
+ghost use Rattle.otel_base.specs.KeyValueLaws.{equiv_from_decides};
+ghost use Rattle.otel_base.specs.View.{attribute_of};
 ghost use Rattle.opentelemetry.specs.Event.{link_eq, link_eq-Decides};
 ghost use Rattle.opentelemetry.specs.View.{link_of};
 
@@ -33,7 +33,7 @@ impl Link {
     ) -> Link
         ensures { link_of result ≡ record {
           span_context = span_context;
-          attributes = map pair_of attributes.items;
+          attributes = map attribute_of attributes.items;
           dropped_attributes_count = dropped_attributes_count;
         } }
     {

@@ -1,6 +1,6 @@
 //! What a span starts with.
 ghost use Rattle.std.specs.Prelude.{◌≡◌, IfOk, Some, [], map};
-ghost use Rattle.otel_base.specs.Seen.{pair_of};
+ghost use Rattle.otel_base.specs.View.{attribute_of};
 ghost use Rattle.otel_context.specs.Stack.{current};
 ghost use Rattle.opentelemetry.specs.SpanBuilder.{from_name, is_valid_link, valid_links, with_links};
 ghost use Rattle.opentelemetry.specs.View.{builder_of, event_of, link_of};
@@ -70,7 +70,7 @@ impl SpanBuilder {
     /// Sets the attributes, in place of those that were set before.
     pub fn with_attributes(self, attributes: Vec<KeyValue>) -> SpanBuilder
         ensures { builder_of result ≡ record (builder_of self) {
-          attributes = Some (map pair_of attributes.items);
+          attributes = Some (map attribute_of attributes.items);
         } }
     {
         SpanBuilder {

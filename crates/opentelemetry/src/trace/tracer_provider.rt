@@ -9,7 +9,7 @@ use std::alloc::{AllocError, Global};
 ///
 /// Who writes a provider names, by the ghost relation `may_give`, which tracers it may make for a scope.
 pub trait TracerProvider {
-    ghost use Rattle.otel_base.specs.Scope.{Scope};
+    ghost use Rattle.otel_base.specs.InstrumentationScope.{Scope};
     ghost use Rattle.opentelemetry.specs.Scope.{scope_of_name};
 
     /// The tracers that it makes.

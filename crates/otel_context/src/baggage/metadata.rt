@@ -1,8 +1,8 @@
 //! What stands beside a value: its metadata, and a key and a value with it.
 ghost use Rattle.std.specs.Prelude.{◌≡◌, [], IfOk, IsOk, IsTrue, Some};
 ghost use Rattle.std.specs.Str.{trim};
-ghost use Rattle.otel_base.specs.Attribute.{is_text};
-ghost use Rattle.otel_base.specs.Seen.{datum_of};
+ghost use Rattle.otel_base.specs.Value.{is_text};
+ghost use Rattle.otel_base.specs.View.{value_of};
 ghost use Rattle.otel_context.specs.BaggageAttribute.{plain_triple};
 ghost use Rattle.otel_context.specs.BaggageText.{IsCut};
 
@@ -131,7 +131,7 @@ impl KeyValueMetadata {
     /// dropped.
     pub fn from_key_value(alloc: Global, pair: KeyValue) -> Result<KeyValueMetadata, AllocError>
         ensures triple { IfOk result (λ k. k ≡ plain_triple pair) }
-        ensures without_memory { IsTrue (is_text (datum_of pair.value)) → IsOk result }
+        ensures without_memory { IsTrue (is_text (value_of pair.value)) → IsOk result }
     {
         let KeyValue { key, value } = pair;
         Ok(KeyValueMetadata {

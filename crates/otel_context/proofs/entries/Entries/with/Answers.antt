@@ -2,7 +2,7 @@ use Rattle.std.proofs.Common.{ℕ, List, [], ◌≡◌, ◌∷◌, ◌++◌, tak
 use Rattle.std.proofs.lemmas.List.{take_rest}
 use Rattle.std.specs.FinMap.{insert}
 use Rattle.std.specs.FinMap.Entries.{put}
-use Rattle.otel_base.specs.Tree.{Tree}
+use Rattle.otel_base.specs.AnyValue.{Tree}
 use Rattle.otel_base.specs.View.{tree}
 use Rattle.otel_context.specs.Context.{EntryMap}
 use Rattle.otel_context.specs.View.{pairs, IsRising}
