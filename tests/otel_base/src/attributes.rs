@@ -25,7 +25,7 @@ const INTEGERS: &[(i64, &str)] = &[
 ];
 
 #[test]
-fn truths_and_integers_are_printed(rt: HostRuntime) -> Result<(), Fail> {
+fn booleans_and_integers_are_printed(rt: HostRuntime) -> Result<(), Fail> {
     prints(&rt, rt.alloc(), &Value::from(true), "true")?;
     prints(&rt, rt.alloc(), &Value::from(false), "false")?;
     for (integer, text) in INTEGERS {
@@ -142,17 +142,17 @@ fn empty_arrays_of_different_types_differ(rt: HostRuntime) {
 
 #[test]
 fn attributes_are_their_key_and_value(rt: HostRuntime) {
-    let whole = KeyValue::new(Key::from("k"), Value::from(1));
-    assert!(rt; whole != KeyValue::new(Key::from("k"), Value::from(true)));
-    assert!(rt; whole != KeyValue::new(Key::from("j"), Value::from(1)));
-    assert_eq!(rt; whole.key.as_str(), "k");
+    let attribute = KeyValue::new(Key::from("k"), Value::from(1));
+    assert!(rt; attribute != KeyValue::new(Key::from("k"), Value::from(true)));
+    assert!(rt; attribute != KeyValue::new(Key::from("j"), Value::from(1)));
+    assert_eq!(rt; attribute.key.as_str(), "k");
 }
 
 #[test]
 fn attributes_are_cloned_and_hashed(rt: HostRuntime) -> Result<(), Fail> {
-    let whole = KeyValue::new(Key::from("k"), Value::from(1));
-    let copy = whole.clone()?;
-    assert!(rt; copy == whole);
-    assert_eq!(rt; hash_of(&copy), hash_of(&whole));
+    let attribute = KeyValue::new(Key::from("k"), Value::from(1));
+    let copy = attribute.clone()?;
+    assert!(rt; copy == attribute);
+    assert_eq!(rt; hash_of(&copy), hash_of(&attribute));
     Ok(())
 }

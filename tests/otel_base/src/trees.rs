@@ -19,7 +19,7 @@ fn map_of(alloc: Global, entries: &[Pair]) -> Result<AnyValue, AllocError> {
     AnyValue::map(alloc, pairs)
 }
 
-/// The whole number under a key of a map.
+/// The integer under a key of a map.
 fn number_at(map: &AnyValue, key: &'static str) -> Option<i64> {
     let AnyValue::Map(entries) = map else {
         return None;
