@@ -13,7 +13,7 @@ use Rattle.std.specs.Map.{lookup}
 use Rattle.std.specs.declared.string.String.{String}
 use Rattle.std.specs.HashMap.{HashMap}
 use Rattle.std.proofs.lemmas.Map.Text.{hash_map_updates_text}
-use Rattle.opentelemetry.specs.Carrier.{at, Sets, text_pair, text_map}
+use Rattle.opentelemetry.specs.Carrier.{CarrierState, TextMap, at, Sets, text_pair, text_map, map_state}
 
 find-text_pair : {A : Type 0} (q : List ℕ) (es : List (String A × String A)) →
     fin.find (slice_cmp nat_cmp) q (map text_pair es) ≡ option_map string_bytes (lookup (λ k. bytes_eq q (string_bytes k)) es)
@@ -55,7 +55,7 @@ at_key_or_none {A} {X} q (e ∷ es) =
     ] refl
 
 -- what a change of order leaves
-pub same_text_map : {A S : Type 0} (m n : HashMap (String A) (String A) S) →
+same_text_map : {A S : Type 0} (m n : HashMap (String A) (String A) S) →
     ((q : String A) → hash.get string_eq n q ≡ hash.get string_eq m q) →
     text_map n.entries ≡ text_map m.entries
 same_text_map {A} m n same =
@@ -71,6 +71,14 @@ same_text_map {A} m n same =
     ] in
     fin.same_map nat_list_cmp_total (fin.slice_cmp-IsAntisymmetric fin.nat_cmp-IsAntisymmetric) _ _
     (λ q. at-text_map n.entries q ∙ ap (option_map string_bytes) (at_text q) ∙ sym (at-text_map m.entries q))
+
+abbrev state_of : TextMap → CarrierState
+state_of texts = record { texts = texts; refusals = 0 }
+
+pub same_map_state : {A S : Type 0} (m n : HashMap (String A) (String A) S) →
+    ((q : String A) → hash.get string_eq n q ≡ hash.get string_eq m q) →
+    map_state n.entries ≡ map_state m.entries
+same_map_state m n same = ap state_of (same_text_map m n same)
 
 -- what a look-up by a text finds
 pub at_found : {A : Type 0} (es : List (String A × String A)) (q p : List ℕ) (o : Option (String A)) →

@@ -1,6 +1,6 @@
 -- How what several members set comes together.
-use Rattle.std.proofs.Common.{Result, OnOk, OnErr, ◌≤◌, ◌⊎◌, inl, inr, ◌≡◌, ℕ, ◌+◌, ◌<◌, List, [], ◌∷◌, ◌++◌, Bool, IsTrue, Option, None, Some, refl, sym, ap, subst, ◌∙◌, take, length, get_or, map, append_assoc, arith, drop, if◌then◌else◌}
-use Rattle.std.proofs.lemmas.List.{take_more, take-append-drop, append-nil, take_all, map-append}
+use Rattle.std.proofs.Common.{Result, Ok, Err, ◌≤◌, ◌⊎◌, inl, inr, true≢false, ◌≡◌, ℕ, ◌+◌, ◌<◌, List, [], ◌∷◌, ◌++◌, Bool, IsTrue, Option, None, Some, refl, sym, ap, subst, ◌∙◌, take, length, get_or, append_assoc, arith, drop, if◌then◌else◌}
+use Rattle.std.proofs.lemmas.List.{take_more, take-append-drop, append-nil, take_all}
 use Rattle.std.proofs.lemmas.List.Folds.{list_any_at}
 use Rattle.std.proofs.lemmas.List.Concat.{flat_map-append}
 use Rattle.std.specs.List.{flat_map, list_any}
@@ -8,7 +8,9 @@ use Rattle.std.specs.Option.{option_or}
 use Rattle.std.specs.Str.{bytes_eq, str_to_ascii_lowercase}
 use Rattle.std.specs.FinMap as fin
 use Rattle.std.specs.Cmp.Lexicographic.{nat_list_cmp_total}
-use Rattle.opentelemetry.specs.Carrier.{Pairs, TextMap, at, last_value, Sets, SetsBeginning}
+use Rattle.opentelemetry.specs.Carrier.{CarrierState, Pairs, TextMap, at, last_value, Sets, SetsBeginning}
+use Rattle.opentelemetry.specs.Injection.{Injects}
+use Rattle.opentelemetry.specs.declared.propagation.error.PropagationError.{PropagationError}
 
 option_or-assoc : {A : Type 0} (a b c : Option A) → option_or (option_or a b) c ≡ option_or a (option_or b c)
 option_or-assoc None b c = refl
@@ -72,33 +74,29 @@ pub refused_by_one : {X : Type 0} (p : X → Bool) (xs ys : List X) (i : ℕ) (x
 refused_by_one p xs ys i x a b c same h is le (inl may) = inl (ap (list_any p) (sym same) ∙ list_any_at p xs i x h (ap p (sym is) ∙ may))
 refused_by_one p xs ys i x a b c same h is le (inr rose) = inr (omega arith)
 
--- the same where the carrier is known by another name
-pub on_ok_moved : {T E : Type 0} (r : Result T E) (a b c d : TextMap) (ps : Pairs) → a ≡ c → b ≡ d → OnOk r (Sets a ps b) → OnOk r (Sets c ps d)
-on_ok_moved r a b c d ps p q h = subst (λ x. OnOk r (Sets c ps x)) q (subst (λ x. OnOk r (Sets x ps b)) p h)
-
-pub on_err_moved : {T E : Type 0} (r : Result T E) (a b c d : TextMap) (ps : Pairs) → a ≡ c → b ≡ d → OnErr r (SetsBeginning a ps b) → OnErr r (SetsBeginning c ps d)
-on_err_moved r a b c d ps p q h = subst (λ x. OnErr r (SetsBeginning c ps x)) q (subst (λ x. OnErr r (SetsBeginning x ps b)) p h)
-
--- one more entry of a context
-pub sets_one_more : {Y : Type 0} (f : Y → List ℕ × List ℕ) (xs : List Y) (i : ℕ) (x : Y) (p : List ℕ × List ℕ) (a b c : TextMap) → i < length xs → x ≡ get_or xs i x → p ≡ f x →
-    Sets a (map f (take i xs)) b → Sets b (p ∷ []) c → Sets a (map f (take (i + 1) xs)) c
-sets_one_more f xs i x p a b c h is one s t =
-    let more : map f (take (i + 1) xs) ≡ map f (take i xs) ++ p ∷ [] =
-    ap (map f) (take_more xs i x h) ∙ map-append f (take i xs) (get_or xs i x ∷ []) ∙ ap (λ q. map f (take i xs) ++ q ∷ []) (sym (one ∙ ap f is)) in
-    rw more (sets_more a b c (map f (take i xs)) (p ∷ []) s t)
-
--- a beginning of a context's entries
-pub begins_entries : {Y : Type 0} (f : Y → List ℕ × List ℕ) (xs : List Y) (i : ℕ) (ps : Pairs) (a b c : TextMap) → map f xs ≡ ps →
-    Sets a (map f (take i xs)) b → c ≡ b → SetsBeginning a ps c
-begins_entries f xs i ps a b c all s same = record {
-  done = map f (take i xs);
-  left = map f (drop i xs);
-  split = sym all ∙ ap (map f) (sym (take-append-drop i xs)) ∙ map-append f (take i xs) (drop i xs);
-  sets = subst (λ x. Sets a (map f (take i xs)) x) (sym same) s;
+-- a member that returns an error ends the injection of all
+pub injects_until : {X T : Type 0} (f : X → Pairs) (p : X → Bool) (xs ys : List X) (i : ℕ) (x : X) (a b c : CarrierState) (e : PropagationError) → xs ≡ ys → i < length xs → x ≡ get_or xs i x →
+    Sets a.texts (flat_map f (take i xs)) b.texts → a.refusals ≤ b.refusals → Injects {T = T} (f x) (p x) b c (Err e) → Injects {T = T} (flat_map f ys) (list_any p ys) a c (Err e)
+injects_until f p xs ys i x a b c e same h is sets le t = record {
+  ok = tt;
+  err = begins_all f xs ys i x a.texts b.texts c.texts same h is sets t.err;
+  refused = λ does. refused_by_one p xs ys i x a.refusals b.refusals c.refusals same h is le (t.refused does);
+  count = omega (arith, le, t.count);
 }
 
-pub moved_ok : {T E : Type 0} (r : Result T E) (a b c d : TextMap) (ps : Pairs) → OnOk r (Sets a ps b) → a ≡ c → b ≡ d → OnOk r (Sets c ps d)
-moved_ok r a b c d ps h p q = on_ok_moved r a b c d ps p q h
+-- past the last member
+pub injects_all : {X T : Type 0} (f : X → Pairs) (may : Bool) (xs ys : List X) (i : ℕ) (a b : CarrierState) (t : T) → xs ≡ ys → length xs ≤ i →
+    Sets a.texts (flat_map f (take i xs)) b.texts → a.refusals ≤ b.refusals → Injects {T = T} (flat_map f ys) may a b (Ok t)
+injects_all f may xs ys i a b t same h sets le = record {
+  ok = sets_all f xs ys i a.texts b.texts same h sets;
+  err = tt;
+  refused = λ does. absurd (true≢false (sym does));
+  count = le;
+}
+
+-- the same where the carrier is known by another name
+pub injects_moved : {T : Type 0} (r : Result T PropagationError) (a b c d : CarrierState) (ps : Pairs) (may : Bool) → a ≡ c → b ≡ d → Injects ps may a b r → Injects ps may c d r
+injects_moved r a b c d ps may p q h = subst (λ x. Injects ps may c x r) q (subst (λ x. Injects ps may x b r) p h)
 
 -- where no pair is set the map stays
 pub sets_none : (a b : TextMap) → Sets a [] b → b ≡ a
@@ -108,5 +106,6 @@ sets_none a b s = fin.same_map nat_list_cmp_total (fin.slice_cmp-IsAntisymmetric
 pub sets_without : {X : Type 0} (f : X → Pairs) (xs ys : List X) (i : ℕ) (a b : TextMap) → xs ≡ ys → length xs ≤ i → Sets a (flat_map f (take i xs)) b → ys ≡ [] → b ≡ a
 sets_without f xs ys i a b same h s none = sets_none a b (rw none at (sets_all f xs ys i a b same h s))
 
-pub same_moved : (a b c d : TextMap) → a ≡ c → b ≡ d → b ≡ a → d ≡ c
-same_moved a b c d p q h = sym q ∙ h ∙ p
+-- texts that stay do so where the carrier is known by another name
+pub texts_moved : (a b c d : CarrierState) → a ≡ c → b ≡ d → b.texts ≡ a.texts → d.texts ≡ c.texts
+texts_moved a b c d p q h = ap (λ s. s.texts) (sym q) ∙ h ∙ ap (λ s. s.texts) p

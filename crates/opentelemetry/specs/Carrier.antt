@@ -7,10 +7,6 @@ use Rattle.std.specs.Str.{bytes_eq, str_to_ascii_lowercase}
 use Rattle.std.specs.FinMap as fin
 use Rattle.std.specs.declared.string.String.{String}
 
--- the bytes of a text
-abbrev pub Text : Type 0
-Text = List ℕ
-
 -- keys with their values, in the order in which they are set
 abbrev pub Pairs : Type 0
 Pairs = List (List ℕ × List ℕ)
@@ -18,12 +14,18 @@ Pairs = List (List ℕ × List ℕ)
 abbrev pub TextMap : Type 0
 TextMap = fin.FinMap (slice_cmp nat_cmp) (List ℕ)
 
+-- What a carrier that texts are put into means: its texts, and how often it has refused one of
+-- itself. No running program holds the count: contracts alone see it. Not in the Rust crate.
+pub record CarrierState : Type 0 where
+  pub texts : TextMap
+  pub refusals : ℕ
+
 -- the value of a key
 abbrev pub at : TextMap → List ℕ → Option (List ℕ)
 at m k = fin.get m k
 
--- The text with its ASCII letters in lower case (RFC 9110, section 5.1: names of fields are compared without regard to case).
--- Other letters stay: `Foo` gives `foo`, and U+00C9 stays U+00C9.
+-- The text with its ASCII letters in lower case (RFC 9110, section 5.1: names of fields are compared
+-- without regard to case). Other letters stay: `Foo` gives `foo`, and U+00C9 stays U+00C9.
 abbrev pub lower : List ℕ → List ℕ
 lower k = str_to_ascii_lowercase k
 
@@ -31,14 +33,15 @@ lower k = str_to_ascii_lowercase k
 -- Of the pairs (`Foo`, 1), (`foo`, 2), (`bar`, 3) it is 2 at `foo`, and there is none at `Foo`.
 abbrev pub last_value : Pairs → List ℕ → Option (List ℕ)
 last_value [] k = None
-last_value (p ∷ ps) k = option_or (last_value ps k) (if bytes_eq (lower p.0) k then Some p.1 else None)
+last_value (p ∷ ps) k =
+    option_or (last_value ps k) (if bytes_eq (lower p.0) k then Some p.1 else None)
 
--- `new` is `old` with the pairs set: a key that is the lower case of a pair's key has the value of the last such pair, and
--- every other key stays (the crate's `Injector`, for ASCII letters).
+-- `new` is `old` with the pairs set: a key that is the lower case of a pair's key has the value of
+-- the last such pair, and every other key stays (the crate's `Injector`, for ASCII letters).
 pub record Sets (old : TextMap) (pairs : Pairs) (new : TextMap) : Type 0 where
   pub at_key : (k : List ℕ) → at new k ≡ option_or (last_value pairs k) (at old k)
 
--- `new` is `old` with a beginning of the pairs set (own).
+-- `new` is `old` with a beginning of the pairs set. Not in the Rust crate.
 pub record SetsBeginning (old : TextMap) (pairs : Pairs) (new : TextMap) : Type 0 where
   pub done : Pairs
   pub left : Pairs
@@ -52,3 +55,7 @@ text_pair p = (string_bytes p.0, string_bytes p.1)
 -- what a map of strings means
 abbrev pub text_map : {A : Type 0} → List (String A × String A) → TextMap
 text_map es = fin.from_entries (map text_pair es)
+
+-- a map of strings as a carrier: it never refuses a text of itself
+abbrev pub map_state : {A : Type 0} → List (String A × String A) → CarrierState
+map_state es = record { texts = text_map es; refusals = 0 }

@@ -1,5 +1,6 @@
 pub mod Carrier
 pub mod Refusal
+pub mod Injection
 pub mod Composite
 pub mod Run
 pub mod Progress

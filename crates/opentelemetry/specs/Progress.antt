@@ -16,7 +16,8 @@ after_attach old (Attached position) context = record {
 after_attach old Full context = old
 after_attach old NoMemory context = old
 
--- what holds when the events so far are done: the outcomes, the position of each attach while it is live, and the stack are theirs
+-- what holds when the events so far are done: the outcomes, the position of each attach while it is
+-- live, and the stack are theirs
 pub record Stands
     (events : List StackEvent) (outcomes : List AttachOutcome)
     (kept : List (Option ℕ)) (stack : StackState) : Type 0 where

@@ -1,9 +1,9 @@
--- Which answers are refusals.
+-- Which results are refusals.
 use Rattle.std.specs.Prelude.{Bool, true, false, Result, Ok, Err}
 use Rattle.opentelemetry.specs.declared.propagation.error.PropagationError.{PropagationError}
 use Rattle.opentelemetry.specs.declared.propagation.error.PropagationError.TheVariants.{Memory, Refused}
 
--- the answer is `Refused`, and not want of memory
+-- the result is the error `Refused`, and not `Memory`
 abbrev pub is_refused : {T : Type 0} → Result T PropagationError → Bool
 is_refused (Ok x) = false
 is_refused (Err (Memory e)) = false

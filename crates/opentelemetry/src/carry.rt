@@ -1,8 +1,9 @@
 //! A run of attaches and detaches over one stack, whose current context is then injected.
-ghost use Rattle.std.specs.Prelude.{◌≡◌, ◌≤◌, ◌∷◌, ◌++◌, [], List, IsTrue, IsOk, IfOk, OnOk, OnErr};
+ghost use Rattle.std.specs.Prelude.{◌≡◌, ◌≤◌, ◌∷◌, ◌++◌, [], List, IsTrue, IsOk, IfOk, OnErr};
 ghost use Rattle.otel_context.specs.Stack.{newest_position, current, IsLawful};
-ghost use Rattle.opentelemetry.specs.Carrier.{Sets, SetsBeginning, text_map};
+ghost use Rattle.opentelemetry.specs.Carrier.{map_state, text_map};
 ghost use Rattle.opentelemetry.specs.Composite.{members_of, pairs_of, may_refuse_of};
+ghost use Rattle.opentelemetry.specs.Injection.{Injects};
 ghost use Rattle.opentelemetry.specs.Refusal.{is_refused};
 ghost use Rattle.opentelemetry.specs.Progress.{after_attach, Stands};
 ghost use Rattle.opentelemetry.specs.Run.{IsOutcome, IsCurrent, Legal, survivors, accepted_of, stack_of};
@@ -85,10 +86,12 @@ fn send(
     context: &Context,
     carrier: &mut HashMap<String, String>,
 ) -> Result<(), PropagationError>
-    ensures ok { OnOk result (Sets (text_map carrier.old.entries) (pairs_of (λ m. pairs m) composite.now context.now) (text_map carrier.new.entries)) }
-    ensures err { OnErr result (SetsBeginning (text_map carrier.old.entries) (pairs_of (λ m. pairs m) composite.now context.now) (text_map carrier.new.entries)) }
-    ensures refused { IsTrue (is_refused result) → IsTrue (may_refuse_of (λ m. may_refuse m) composite.now) }
-    ensures empty { members_of composite.now ≡ []
+    ensures injected { Injects (pairs_of (λ m. pairs m) composite.now context.now)
+        (may_refuse_of (λ m. may_refuse m) composite.now)
+        (map_state carrier.old.entries) (map_state carrier.new.entries) result }
+    ensures refused { IsTrue (is_refused result)
+        → IsTrue (may_refuse_of (λ m. may_refuse m) composite.now) }
+    ensures without_members { members_of composite.now ≡ []
         → IsOk result × (text_map carrier.new.entries ≡ text_map carrier.old.entries) }
 {
     composite.inject_context(context, carrier)
@@ -114,16 +117,18 @@ pub fn run(
     ensures current { IfOk result (λ report.
         IsCurrent events.items report.outcomes.items (current report.stack.live)) }
     ensures legal { IfOk result (λ report. Legal events.items report.outcomes.items) }
-    ensures injected { IfOk result (λ report. OnOk report.injected
-        (Sets (text_map carrier.old.entries) (pairs_of (λ m. pairs m) composite.now (current report.stack.live)) (text_map carrier.new.entries))) }
-    ensures given_up { IfOk result (λ report. OnErr report.injected
-        (SetsBeginning (text_map carrier.old.entries) (pairs_of (λ m. pairs m) composite.now (current report.stack.live)) (text_map carrier.new.entries))) }
-    ensures refused { IfOk result (λ report. IsTrue (is_refused report.injected) → IsTrue (may_refuse_of (λ m. may_refuse m) composite.now)) }
-    ensures accepted { IfOk result (λ report. report.stack.accepted ≡ accepted_of report.outcomes.items) }
+    ensures injected { IfOk result (λ report.
+        Injects (pairs_of (λ m. pairs m) composite.now (current report.stack.live))
+        (may_refuse_of (λ m. may_refuse m) composite.now)
+        (map_state carrier.old.entries) (map_state carrier.new.entries) report.injected) }
+    ensures refused { IfOk result (λ report. IsTrue (is_refused report.injected)
+        → IsTrue (may_refuse_of (λ m. may_refuse m) composite.now)) }
+    ensures accepted { IfOk result (λ report.
+        report.stack.accepted ≡ accepted_of report.outcomes.items) }
     ensures stepped { IfOk result (λ report. report.stack.stepped ≤ report.stack.accepted) }
     ensures stack { IfOk result (λ report.
         report.stack ≡ stack_of events.items report.outcomes.items) }
-    ensures empty { members_of composite.now ≡ [] → IfOk result (λ report. IsOk report.injected)
+    ensures without_members { members_of composite.now ≡ [] → IfOk result (λ report. IsOk report.injected)
         × (text_map carrier.new.entries ≡ text_map carrier.old.entries) }
     ensures err { OnErr result (text_map carrier.new.entries ≡ text_map carrier.old.entries) }
 {

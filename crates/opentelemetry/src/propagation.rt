@@ -1,6 +1,6 @@
 //! Propagation: the carriers that texts are put into, and the propagators that put them there.
-ghost use Rattle.std.specs.Prelude.{◌≡◌, ◌+◌, ◌∷◌, [], ℕ, OnOk, OnErr, string_bytes, if◌then◌else◌};
-ghost use Rattle.opentelemetry.specs.Carrier.{TextMap, Sets, text_map};
+ghost use Rattle.std.specs.Prelude.{◌≡◌, ◌+◌, ◌∷◌, [], OnOk, OnErr, string_bytes, if◌then◌else◌};
+ghost use Rattle.opentelemetry.specs.Carrier.{CarrierState, Sets, map_state};
 ghost use Rattle.opentelemetry.specs.Refusal.{is_refused};
 
 use std::collections::HashMap;
@@ -16,26 +16,29 @@ pub use text_map_propagator::TextMapPropagator;
 
 /// A carrier that texts are put into, such as the headers of a request.
 ///
-/// Contracts see it as a finite map of texts, `carried`, and as a count of its own refusals,
-/// `refusals`, which no running program holds. (The crate's `Injector`.)
+/// Contracts see it as its `state`: a finite map of texts, and a count of its own refusals, which
+/// no running program holds. (The crate's `Injector`.)
 pub trait Injector {
-    ghost carried: { Self → TextMap };
-
-    ghost refusals: { Self → ℕ };
+    ghost state: { Self → CarrierState };
 
     /// Maps the key, its ASCII letters in lower case, to the value.
     ///
-    /// `Refused` is the carrier's own refusal and raises its count by one; `Memory` is want of
-    /// memory. After either the map is as it was.
+    /// # Errors
+    ///
+    /// `Refused` where the carrier itself refuses the text, which raises its count by one; `Memory`
+    /// where a request for memory fails. After either the texts are as they were, and the value is
+    /// dropped.
     fn set(&mut self, key: &str, value: String) -> Result<(), PropagationError>
-        ensures ok { OnOk result (Sets (carried self.old) ((key.now, string_bytes value) ∷ []) (carried self.new)) }
-        ensures err { OnErr result (carried self.new ≡ carried self.old) }
-        ensures count { refusals self.new ≡ refusals self.old + (if is_refused result then 1 else 0) };
+        ensures ok { OnOk result (Sets (state self.old).texts
+            ((key.now, string_bytes value) ∷ []) (state self.new).texts) }
+        ensures err { OnErr result ((state self.new).texts ≡ (state self.old).texts) }
+        ensures count { (state self.new).refusals
+            ≡ (state self.old).refusals + (if is_refused result then 1 else 0) };
 
-    /// Hints that so many more texts are to come. Nothing that the carrier means changes.
+    /// Hints that so many more texts are to come. Nothing that the carrier means changes, also
+    /// where a request for memory fails.
     fn reserve(&mut self, additional: usize)
-        ensures map { carried self.new ≡ carried self.old }
-        ensures count { refusals self.new ≡ refusals self.old }
+        ensures { state self.new ≡ state self.old }
     {
         let _ = additional;
     }
@@ -43,9 +46,7 @@ pub trait Injector {
 
 /// A map of texts never refuses a text of itself: its count of refusals is always 0.
 impl<S: BuildHasher> Injector for HashMap<String, String, S> {
-    ghost carried = { λ m. text_map m.entries };
-
-    ghost refusals = { λ _. 0 };
+    ghost state = { λ m. map_state m.entries };
 
     fn set(&mut self, key: &str, value: String) -> Result<(), PropagationError> {
         let alloc = *value.allocator();

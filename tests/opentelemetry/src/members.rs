@@ -20,10 +20,12 @@ fn set_copy(
     key: &String,
     value: &String,
 ) -> Result<(), PropagationError>
-    ensures ok { OnOk result (Sets (carried injector.old) ((string_bytes key.now, string_bytes value.now) ∷ []) (carried injector.new)) }
-    ensures err { OnErr result (carried injector.new ≡ carried injector.old) }
-    ensures refused { IsTrue (is_refused result) → refusals injector.old < refusals injector.new }
-    ensures count { refusals injector.old ≤ refusals injector.new }
+    ensures ok { OnOk result (Sets (state injector.old).texts
+        ((string_bytes key.now, string_bytes value.now) ∷ []) (state injector.new).texts) }
+    ensures err { OnErr result ((state injector.new).texts ≡ (state injector.old).texts) }
+    ensures refused { IsTrue (is_refused result)
+        → (state injector.old).refusals < (state injector.new).refusals }
+    ensures count { (state injector.old).refusals ≤ (state injector.new).refusals }
 {
     let value = value.clone()?;
     injector.set(key, value)
@@ -82,9 +84,10 @@ impl Injector for CarrierRefusingOne {
     ghost use Rattle.std.specs.Prelude.{if◌then◌else◌};
     ghost use Rattle.opentelemetry.specs.Carrier.{text_map};
 
-    ghost carried = { λ c. text_map c.texts.entries };
-
-    ghost refusals = { λ c. if c.has_refused then 1 else 0 };
+    ghost state = { λ c. record {
+      texts = text_map c.texts.entries;
+      refusals = if c.has_refused then 1 else 0;
+    } };
 
     fn set(&mut self, key: &str, value: String) -> Result<(), PropagationError> {
         if self.has_refused {

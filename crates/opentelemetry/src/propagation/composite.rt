@@ -1,9 +1,8 @@
 //! A propagator made of propagators.
-ghost use Rattle.std.specs.Prelude.{◌≡◌, ◌<◌, ◌≤◌, ◌⊎◌, [], IsTrue, IsOk, OnOk, OnErr, IfOk};
+ghost use Rattle.std.specs.Prelude.{◌≡◌, [], IsOk, IfOk};
 ghost use Rattle.otel_context.specs.Stack.{current};
-ghost use Rattle.opentelemetry.specs.Carrier.{Sets, SetsBeginning};
 ghost use Rattle.opentelemetry.specs.Composite.{members_of, pairs_of, may_refuse_of};
-ghost use Rattle.opentelemetry.specs.Refusal.{is_refused};
+ghost use Rattle.opentelemetry.specs.Injection.{Injects};
 
 use crate::context::{Context, ContextStack};
 use crate::propagation::text_map_propagator::TextMapPropagator;
@@ -22,10 +21,8 @@ fn inject_member(
     context: &Context,
     injector: &mut dyn Injector,
 ) -> Result<(), PropagationError>
-    ensures ok { OnOk result (Sets (carried injector.old) (pairs member.now context.now) (carried injector.new)) }
-    ensures err { OnErr result (SetsBeginning (carried injector.old) (pairs member.now context.now) (carried injector.new)) }
-    ensures refused { IsTrue (is_refused result) → IsTrue (may_refuse member.now) ⊎ (refusals injector.old < refusals injector.new) }
-    ensures count { refusals injector.old ≤ refusals injector.new }
+    ensures { Injects (pairs member.now context.now) (may_refuse member.now)
+        (state injector.old) (state injector.new) result }
 {
     member.inject_context(context, injector)
 }
@@ -43,20 +40,23 @@ impl TextMapCompositePropagator {
         Ok(TextMapCompositePropagator { members })
     }
 
-    /// Lets each member inject the context, in turn, until one answers an error, and passes that on.
+    /// Lets each member inject the context, in turn, until one returns an error, and returns that.
+    /// Without members it is `Ok` and the carrier stays.
     ///
-    /// After an error a beginning of the members' pairs is set. `Refused` comes only where a member
-    /// may refuse, or the carrier's count of refusals rose.
+    /// # Errors
+    ///
+    /// `Memory` where a request for memory fails; `Refused` only where a member may refuse, or the
+    /// carrier refuses a text. After either a beginning of the members' pairs is set.
     pub fn inject_context(
         &self,
         context: &Context,
         injector: &mut dyn Injector,
     ) -> Result<(), PropagationError>
-        ensures ok { OnOk result (Sets (carried injector.old) (pairs_of (λ m. pairs m) self.now context.now) (carried injector.new)) }
-        ensures err { OnErr result (SetsBeginning (carried injector.old) (pairs_of (λ m. pairs m) self.now context.now) (carried injector.new)) }
-        ensures refused { IsTrue (is_refused result) → IsTrue (may_refuse_of (λ m. may_refuse m) self.now) ⊎ (refusals injector.old < refusals injector.new) }
-        ensures count { refusals injector.old ≤ refusals injector.new }
-        ensures empty { members_of self.now ≡ [] → IsOk result × (carried injector.new ≡ carried injector.old) }
+        ensures injected { Injects (pairs_of (λ m. pairs m) self.now context.now)
+            (may_refuse_of (λ m. may_refuse m) self.now)
+            (state injector.old) (state injector.new) result }
+        ensures without_members { members_of self.now ≡ []
+            → IsOk result × ((state injector.new).texts ≡ (state injector.old).texts) }
     {
         for member in &self.members {
             inject_member(member, context, &mut *injector)?;
@@ -65,16 +65,20 @@ impl TextMapCompositePropagator {
     }
 
     /// Lets each member inject the stack's current context, as `inject_context` does.
+    ///
+    /// # Errors
+    ///
+    /// Those of `inject_context`.
     pub fn inject(
         &self,
         stack: &ContextStack,
         injector: &mut dyn Injector,
     ) -> Result<(), PropagationError>
-        ensures ok { OnOk result (Sets (carried injector.old) (pairs_of (λ m. pairs m) self.now (current stack.now.live)) (carried injector.new)) }
-        ensures err { OnErr result (SetsBeginning (carried injector.old) (pairs_of (λ m. pairs m) self.now (current stack.now.live)) (carried injector.new)) }
-        ensures refused { IsTrue (is_refused result) → IsTrue (may_refuse_of (λ m. may_refuse m) self.now) ⊎ (refusals injector.old < refusals injector.new) }
-        ensures count { refusals injector.old ≤ refusals injector.new }
-        ensures empty { members_of self.now ≡ [] → IsOk result × (carried injector.new ≡ carried injector.old) }
+        ensures injected { Injects (pairs_of (λ m. pairs m) self.now (current stack.now.live))
+            (may_refuse_of (λ m. may_refuse m) self.now)
+            (state injector.old) (state injector.new) result }
+        ensures without_members { members_of self.now ≡ []
+            → IsOk result × ((state injector.new).texts ≡ (state injector.old).texts) }
     {
         self.inject_context(stack.current(), injector)
     }

@@ -1,14 +1,14 @@
-//! Why an injection was given up.
+//! Why a propagation was given up.
 ghost use Rattle.std.specs.Prelude.{◌≡◌, alloc_error};
 ghost use Rattle.opentelemetry.specs.declared.propagation.error.PropagationError.TheVariants.{Memory};
 
 use std::alloc::{AllocError, AllocFailed};
 use thiserror::Error;
 
-/// Why a carrier or a propagator gave up. (The Rust crate's calls answer nothing.)
+/// Why a carrier or a propagator gave up. Not in the Rust crate, whose calls return no error.
 #[derive(Clone, Copy, Debug, PartialEq, Eq, Drop, Error)]
 pub enum PropagationError {
-    /// A growth was refused.
+    /// A request for memory failed.
     #[error("no memory")]
     Memory(AllocError),
     /// The carrier, or the propagator itself, refused.
@@ -17,7 +17,7 @@ pub enum PropagationError {
 }
 
 impl From<AllocError> for PropagationError {
-    ghost from_gives = { λ e refused. refused ≡ Memory e };
+    ghost from_gives = { λ error converted. converted ≡ Memory error };
 
     fn from(error: AllocError) -> PropagationError {
         PropagationError::Memory(error)
@@ -25,7 +25,7 @@ impl From<AllocError> for PropagationError {
 }
 
 impl<T: Drop> From<AllocFailed<T>> for PropagationError {
-    ghost from_gives = { λ _ refused. refused ≡ Memory alloc_error };
+    ghost from_gives = { λ _ converted. converted ≡ Memory alloc_error };
 
     fn from(_failed: AllocFailed<T>) -> PropagationError {
         PropagationError::Memory(AllocError)

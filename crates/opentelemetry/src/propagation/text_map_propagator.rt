@@ -1,8 +1,6 @@
 //! Propagators: what writes a context into a carrier.
-ghost use Rattle.std.specs.Prelude.{◌≡◌, ◌<◌, ◌≤◌, ◌⊎◌, IsTrue, OnOk, OnErr};
 ghost use Rattle.otel_context.specs.Stack.{current};
-ghost use Rattle.opentelemetry.specs.Carrier.{Sets, SetsBeginning};
-ghost use Rattle.opentelemetry.specs.Refusal.{is_refused};
+ghost use Rattle.opentelemetry.specs.Injection.{Injects};
 
 use crate::context::{Context, ContextStack};
 use crate::propagation::{Injector, PropagationError};
@@ -22,28 +20,30 @@ pub trait TextMapPropagator: Drop {
 
     /// Sets the pairs of the context, in order.
     ///
-    /// After an error a beginning of the pairs is set. `Refused` comes only where this propagator
-    /// may refuse, or the carrier's count of refusals rose.
+    /// # Errors
+    ///
+    /// `Memory` where a request for memory fails; `Refused` only where this propagator may refuse,
+    /// or the carrier refuses a text. After either a beginning of the pairs is set.
     fn inject_context(
         &self,
         context: &Context,
         injector: &mut dyn Injector,
     ) -> Result<(), PropagationError>
-        ensures ok { OnOk result (Sets (carried injector.old) (pairs self.now context.now) (carried injector.new)) }
-        ensures err { OnErr result (SetsBeginning (carried injector.old) (pairs self.now context.now) (carried injector.new)) }
-        ensures refused { IsTrue (is_refused result) → IsTrue (may_refuse self.now) ⊎ (refusals injector.old < refusals injector.new) }
-        ensures count { refusals injector.old ≤ refusals injector.new };
+        ensures { Injects (pairs self.now context.now) (may_refuse self.now)
+            (state injector.old) (state injector.new) result };
 
     /// Sets the pairs of the stack's current context, as `inject_context` does.
+    ///
+    /// # Errors
+    ///
+    /// Those of `inject_context`.
     final fn inject(
         &self,
         stack: &ContextStack,
         injector: &mut dyn Injector,
     ) -> Result<(), PropagationError>
-        ensures ok { OnOk result (Sets (carried injector.old) (pairs self.now (current stack.now.live)) (carried injector.new)) }
-        ensures err { OnErr result (SetsBeginning (carried injector.old) (pairs self.now (current stack.now.live)) (carried injector.new)) }
-        ensures refused { IsTrue (is_refused result) → IsTrue (may_refuse self.now) ⊎ (refusals injector.old < refusals injector.new) }
-        ensures count { refusals injector.old ≤ refusals injector.new }
+        ensures { Injects (pairs self.now (current stack.now.live)) (may_refuse self.now)
+            (state injector.old) (state injector.new) result }
     {
         self.inject_context(stack.current(), injector)
     }

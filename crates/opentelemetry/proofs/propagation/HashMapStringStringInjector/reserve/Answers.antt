@@ -1,5 +1,5 @@
-use Rattle.opentelemetry.proofs.Maps.{same_text_map}
+use Rattle.opentelemetry.proofs.Maps.{same_map_state}
 use Rattle.opentelemetry.proofs.propagation.HashMapStringStringInjector.reserve.Goals as goal
 
-pub returns-clause-map : goal.returns-clause-map
-returns-clause-map g c = same_text_map c.args.self.now c.reserve.new.self c.reserve.ensures.entries.2
+pub returns : goal.returns
+returns g c = same_map_state c.args.self.now c.reserve.new.self c.reserve.ensures.entries.2

@@ -1,6 +1,6 @@
 use Rattle.std.proofs.Common.{arith, refl}
 use Rattle.std.proofs.lemmas.Result.{err_from_is_err_and}
-use Rattle.opentelemetry.proofs.Setting.{sets_nothing, more_all, begins_all, sets_all, refused_by_one, sets_without}
+use Rattle.opentelemetry.proofs.Setting.{sets_nothing, more_all, injects_all, injects_until, sets_without}
 use Rattle.opentelemetry.proofs.propagation.composite.TextMapCompositePropagator.inject_context.Goals as goal
 
 pub loop-member-init : goal.loop-member-init
@@ -12,21 +12,15 @@ loop-member-preserved g c = record {
   count = omega (arith, c.inject_member.ensures.count, c.loop-member.invariant.count);
 }
 
-pub returns-in_err-inject_member-clause-err : goal.returns-in_err-inject_member-clause-err
-returns-in_err-inject_member-clause-err g c =
-    let p = err_from_is_err_and c.from_residual.result c.from_residual.ensures.1 in
-    rw (p.1)
-    (begins_all _ _ _ _ _ _ _ _ c.deref-member-items.ensures.value c.loop-member-test.true c.member-item.is c.loop-member.invariant.sets c.in_err-inject_member.ensures.err)
-
-pub returns-in_err-inject_member-clause-refused : goal.returns-in_err-inject_member-clause-refused
-returns-in_err-inject_member-clause-refused g c =
+pub returns-in_err-inject_member-clause-injected : goal.returns-in_err-inject_member-clause-injected
+returns-in_err-inject_member-clause-injected g c =
     let p = err_from_is_err_and c.from_residual.result c.from_residual.ensures.1 in
     rw (p.1, p.2)
-    (λ h. refused_by_one _ _ _ _ _ _ _ _ c.deref-member-items.ensures.value c.loop-member-test.true c.member-item.is c.loop-member.invariant.count (c.in_err-inject_member.ensures.refused h))
+    (injects_until _ _ _ _ _ _ _ _ _ _ c.deref-member-items.ensures.value c.loop-member-test.true c.member-item.is c.loop-member.invariant.sets c.loop-member.invariant.count c.in_err-inject_member.ensures)
 
-pub returns-clause-ok : goal.returns-clause-ok
-returns-clause-ok g c =
-    sets_all _ _ _ _ _ _ c.deref-member-items.ensures.value c.loop-member-test.false c.loop-member.invariant.sets
+pub returns-clause-injected : goal.returns-clause-injected
+returns-clause-injected g c =
+    injects_all _ _ _ _ _ _ _ _ c.deref-member-items.ensures.value c.loop-member-test.false c.loop-member.invariant.sets c.loop-member.invariant.count
 
-pub returns-clause-empty : goal.returns-clause-empty
-returns-clause-empty g c = λ none. (refl, sets_without _ _ _ _ _ _ c.deref-member-items.ensures.value c.loop-member-test.false c.loop-member.invariant.sets none)
+pub returns-clause-without_members : goal.returns-clause-without_members
+returns-clause-without_members g c = λ none. (refl, sets_without _ _ _ _ _ _ c.deref-member-items.ensures.value c.loop-member-test.false c.loop-member.invariant.sets none)

@@ -6,9 +6,9 @@ use Rattle.opentelemetry.proofs.propagation.composite.TextMapCompositePropagator
 abbrev pub invariant-loop-member : goal.invariant-loop-member
 invariant-loop-member g l =
     record {
-      sets : Sets ((goal.Injector-dyn g l.fn.injector.now).carried l.fn.injector.now.1)
+      sets : Sets ((goal.Injector-dyn g l.fn.injector.now).state l.fn.injector.now.1).texts
           (flat_map (λ b. (goal.TextMapPropagator-dyn g (b.vtable, b.value)).pairs b.value l.context) (take l.member-index l.member-items))
-          ((goal.Injector-dyn g l.injector.now).carried l.injector.now.1);
-      count : (goal.Injector-dyn g l.fn.injector.now).refusals l.fn.injector.now.1
-          ≤ (goal.Injector-dyn g l.injector.now).refusals l.injector.now.1;
+          ((goal.Injector-dyn g l.injector.now).state l.injector.now.1).texts;
+      count : ((goal.Injector-dyn g l.fn.injector.now).state l.fn.injector.now.1).refusals
+          ≤ ((goal.Injector-dyn g l.injector.now).state l.injector.now.1).refusals;
     }
