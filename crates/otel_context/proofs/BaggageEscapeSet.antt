@@ -1,5 +1,5 @@
 -- The escapes of `percent_encoding` with this set are those of `specs`.
-use Rattle.std.proofs.Common.{◌≡◌, ℕ, ◌/◌, ◌%◌, ◌<◌, List, [], ◌∷◌, ◌++◌, All, refl, sym, ap, ◌∙◌, ⊎_elim, arith}
+use Rattle.std.proofs.Common.{◌≡◌, ℕ, ◌/◌, ◌%◌, ◌<◌, true, List, [], ◌∷◌, ◌++◌, All, refl, sym, ap, ◌∙◌, ⊎_elim, arith}
 use Rattle.std.specs.Prelude.{not}
 use Rattle.std.proofs.lemmas.Bool.{cases_Bool, agree_below_at, not_from_true, not_from_false}
 use Rattle.std.proofs.lemmas.List.Elements.{All-head, All-tail}
@@ -7,19 +7,20 @@ use Rattle.percent_encoding.proofs.PercentLemmas.{IsByte, percent_encode-nil, pe
 use Rattle.percent_encoding.proofs.OnLiterals.{percent_encoding_on_literals}
 use Rattle.percent_encoding.specs.AsciiSet.{should_percent_encode}
 use Rattle.percent_encoding.specs.Percent.{percent_encode, percent_encode_byte}
+use Rattle.std.specs.Fmt.{digit_glyph}
 use Rattle.otel_context.specs.declared.baggage.header.TheConstants.{ESCAPED}
-use Rattle.otel_context.specs.BaggageText.{is_unreserved, digit_text, escaped}
+use Rattle.otel_context.specs.BaggageText.{is_unreserved, escape, escaped}
 use Rattle.otel_context.proofs.BaggageEscapes.{escaped_plain, escaped_other}
 
 agrees : (b : ℕ) → b < 256 → should_percent_encode ESCAPED b ≡ not (is_unreserved b)
 unfolding percent_encoding_on_literals
 agrees b h = agree_below_at (should_percent_encode ESCAPED) (λ c. not (is_unreserved c)) 256 b refl h
 
-byte_is : (b : ℕ) → b < 256 → percent_encode_byte b ≡ 37 ∷ digit_text (b / 16) ∷ digit_text (b % 16) ∷ []
+byte_is : (b : ℕ) → b < 256 → percent_encode_byte b ≡ escape b
 unfolding percent_encode_byte
 byte_is b h =
     let e : b / 16 % 16 ≡ b / 16 = omega arith in
-    ap (λ d. 37 ∷ digit_text d ∷ digit_text (b % 16) ∷ []) e
+    ap (λ d. 37 ∷ digit_glyph true d ∷ digit_glyph true (b % 16) ∷ []) e
 
 pub escapes_are : (bs : List ℕ) → All IsByte bs → percent_encode ESCAPED bs ≡ escaped bs
 escapes_are [] h = percent_encode-nil ESCAPED
@@ -31,6 +32,6 @@ escapes_are (b ∷ bs) h =
     (λ e.
     percent_encode_escaped ESCAPED b bs (agrees b small ∙ not_from_false (is_unreserved b) e)
     ∙ ap (λ (x : List ℕ). x ++ percent_encode ESCAPED bs) (byte_is b small)
-    ∙ ap (λ (x : List ℕ). 37 ∷ digit_text (b / 16) ∷ digit_text (b % 16) ∷ x) rest
+    ∙ ap (λ (x : List ℕ). 37 ∷ digit_glyph true (b / 16) ∷ digit_glyph true (b % 16) ∷ x) rest
     ∙ sym (escaped_other b bs e))
     (cases_Bool (is_unreserved b))

@@ -1,18 +1,19 @@
--- The members of a header, and what the header tells.
+-- The members of a header, which it determines.
 use Rattle.std.proofs.Common.{◌≡◌, ℕ, ◌+◌, ◌*◌, ◌<◌, ◌≤◌, true, List, [], ◌∷◌, ◌++◌, length, All, refl, sym, ap, ◌∙◌, arith, length-append}
-use Rattle.std.specs.Prelude.{not, ◌==◌}
+use Rattle.std.specs.Prelude.{not, ◌==◌, nat_lt}
 use Rattle.std.specs.List.{list_all, AllByRecursion}
 use Rattle.std.proofs.lemmas.Bool.{and_parts, false≢true}
 use Rattle.std.proofs.lemmas.Bool.Decides.{nat_tests}
 use Rattle.std.proofs.lemmas.List.{append-nil}
 use Rattle.std.proofs.lemmas.List.Elements.{All-head, All-tail}
 use Rattle.std.proofs.lemmas.List.Sums.{sum_by-cons}
-use Rattle.otel_context.specs.BaggageText.{is_key_byte, is_some_text, is_key, escaped}
-use Rattle.otel_context.specs.Baggage.{Triple, triple_weight, weight, IsGoodTriple}
-use Rattle.otel_context.specs.BaggageHeader.{metadata_text, member, header}
-use Rattle.otel_context.specs.BaggageLaws.{HasNoComma, HeaderTells, HeaderIsShort}
+use Rattle.otel_context.specs.BaggageText.{is_key_byte, is_key, escaped}
+use Rattle.otel_context.specs.BaggageMember.{Member, member_of, weight_of, IsValidMember}
+use Rattle.otel_context.specs.Baggage.{weight}
+use Rattle.otel_context.specs.BaggageHeader.{metadata_text, member_text, header}
+use Rattle.otel_context.specs.BaggageLaws.{HasNoComma, HeaderDetermines, HeaderIsShort}
 use Rattle.otel_context.proofs.BaggageCuts.{Lacks, list_all-append, list_all-weaker, no_cut, same_cut}
-use Rattle.otel_context.proofs.BaggageEscapes.{escaped_tells, escaped_no_comma, escaped_no_semicolon, length-escaped}
+use Rattle.otel_context.proofs.BaggageEscapes.{escaped-injective, escaped_no_comma, escaped_no_semicolon, length-escaped}
 
 -- ---- which bytes a member lacks
 
@@ -23,66 +24,66 @@ key_no_equals : (b : ℕ) → is_key_byte b ≡ true → not (b == 61) ≡ true
 key_no_equals b h = grind (arith, nat_tests)
 
 key_lacks_comma : (k : List ℕ) → is_key k ≡ true → Lacks 44 k
-key_lacks_comma k h = list_all-weaker is_key_byte (λ b. not (b == 44)) key_no_comma k (and_parts (is_some_text k) (list_all is_key_byte k) h).1
+key_lacks_comma k h = list_all-weaker is_key_byte (λ b. not (b == 44)) key_no_comma k (and_parts (nat_lt 0 (length k)) (list_all is_key_byte k) h).1
 
 key_lacks_equals : (k : List ℕ) → is_key k ≡ true → Lacks 61 k
-key_lacks_equals k h = list_all-weaker is_key_byte (λ b. not (b == 61)) key_no_equals k (and_parts (is_some_text k) (list_all is_key_byte k) h).1
+key_lacks_equals k h = list_all-weaker is_key_byte (λ b. not (b == 61)) key_no_equals k (and_parts (nat_lt 0 (length k)) (list_all is_key_byte k) h).1
 
 metadata_lacks_comma : (m : List ℕ) → Lacks 44 m → Lacks 44 (metadata_text m)
 metadata_lacks_comma [] h = refl
 metadata_lacks_comma (b ∷ bs) h = h
 
-member_lacks_comma : (t : Triple) → IsGoodTriple t → HasNoComma t → Lacks 44 (member t)
+member_lacks_comma : (t : Member) → IsValidMember t → HasNoComma t → Lacks 44 (member_text t)
 member_lacks_comma t good none =
     let p = λ (b : ℕ). not (b == 44) in
-    list_all-append p t.0 (61 ∷ escaped t.1.0 ++ metadata_text t.1.1) (key_lacks_comma t.0 good.0)
-    (list_all-append p (escaped t.1.0) (metadata_text t.1.1) (escaped_no_comma t.1.0) (metadata_lacks_comma t.1.1 none))
+    list_all-append p t.key (61 ∷ escaped t.value ++ metadata_text t.metadata) (key_lacks_comma t.key good.0)
+    (list_all-append p (escaped t.value) (metadata_text t.metadata) (escaped_no_comma t.value) (metadata_lacks_comma t.metadata none))
 
--- ---- a member tells its triple
+-- ---- the text of a member determines it
 
 after_key : (v w m n : List ℕ) → escaped v ++ metadata_text m ≡ escaped w ++ metadata_text n → (v ≡ w) × (m ≡ n)
-after_key v w [] [] e = (escaped_tells v w (sym (append-nil (escaped v)) ∙ e ∙ append-nil (escaped w)), refl)
+after_key v w [] [] e = (escaped-injective v w (sym (append-nil (escaped v)) ∙ e ∙ append-nil (escaped w)), refl)
 after_key v w [] (b ∷ bs) e = absurd (no_cut 59 (escaped v) (escaped w) (b ∷ bs) (escaped_no_semicolon v) (sym (append-nil (escaped v)) ∙ e))
 after_key v w (b ∷ bs) [] e = absurd (no_cut 59 (escaped w) (escaped v) (b ∷ bs) (escaped_no_semicolon w) (sym (append-nil (escaped w)) ∙ sym e))
 after_key v w (b ∷ bs) (c ∷ cs) e =
     let parts = same_cut 59 (escaped v) (escaped w) (b ∷ bs) (c ∷ cs) (escaped_no_semicolon v) (escaped_no_semicolon w) e in
-    (escaped_tells v w parts.0, parts.1)
+    (escaped-injective v w parts.0, parts.1)
 
-member_tells : (s t : Triple) → IsGoodTriple s → IsGoodTriple t → member s ≡ member t → s ≡ t
-member_tells s t good fine e =
-    let parts = same_cut 61 s.0 t.0 (escaped s.1.0 ++ metadata_text s.1.1) (escaped t.1.0 ++ metadata_text t.1.1) (key_lacks_equals s.0 good.0) (key_lacks_equals t.0 fine.0) e in
-    let rest = after_key s.1.0 t.1.0 s.1.1 t.1.1 parts.1 in
-    λ i. (parts.0 i, (rest.0 i, rest.1 i))
+member_text-injective : (s t : Member) → IsValidMember s → IsValidMember t → member_text s ≡ member_text t → s ≡ t
+member_text-injective s t good fine e =
+    let parts = same_cut 61 s.key t.key (escaped s.value ++ metadata_text s.metadata) (escaped t.value ++ metadata_text t.metadata) (key_lacks_equals s.key good.0) (key_lacks_equals t.key fine.0) e in
+    let rest = after_key s.value t.value s.metadata t.metadata parts.1 in
+    λ i. member_of (parts.0 i) (rest.0 i) (rest.1 i)
 
--- ---- a header tells its list
+-- ---- a header determines its members
 
-not_empty : (t : Triple) (rest : List ℕ) → [] ≡ member t ++ rest → ⊥
-not_empty t rest e = let n = ap length e in omega (arith, length-append (member t) rest, length-append t.0 (61 ∷ escaped t.1.0 ++ metadata_text t.1.1))
+not_empty : (t : Member) (rest : List ℕ) → [] ≡ member_text t ++ rest → ⊥
+not_empty t rest e = let n = ap length e in omega (arith, length-append (member_text t) rest, length-append t.key (61 ∷ escaped t.value ++ metadata_text t.metadata))
 
-abbrev Good : Triple → Type 0
-Good t = IsGoodTriple t × HasNoComma t
+abbrev Good : Member → Type 0
+Good t = IsValidMember t × HasNoComma t
 
-tells : (xs ys : List Triple) → AllByRecursion Good xs → AllByRecursion Good ys → header xs ≡ header ys → xs ≡ ys
-tells [] [] h k e = refl
-tells [] (t ∷ []) h k e = absurd (not_empty t [] (e ∙ sym (append-nil (member t))))
-tells [] (t ∷ u ∷ ts) h k e = absurd (not_empty t (44 ∷ header (u ∷ ts)) e)
-tells (t ∷ []) [] h k e = absurd (not_empty t [] (sym e ∙ sym (append-nil (member t))))
-tells (t ∷ u ∷ ts) [] h k e = absurd (not_empty t (44 ∷ header (u ∷ ts)) (sym e))
-tells (s ∷ []) (t ∷ []) h k e = let i = member_tells s t h.0.0 k.0.0 e in ap (λ (x : Triple). x ∷ []) i
-tells (s ∷ []) (t ∷ u ∷ ts) h k e = absurd (no_cut 44 (member s) (member t) (header (u ∷ ts)) (member_lacks_comma s h.0.0 h.0.1) e)
-tells (s ∷ r ∷ rs) (t ∷ []) h k e = absurd (no_cut 44 (member t) (member s) (header (r ∷ rs)) (member_lacks_comma t k.0.0 k.0.1) (sym e))
-tells (s ∷ r ∷ rs) (t ∷ u ∷ ts) h k e =
-    let parts = same_cut 44 (member s) (member t) (header (r ∷ rs)) (header (u ∷ ts)) (member_lacks_comma s h.0.0 h.0.1) (member_lacks_comma t k.0.0 k.0.1) e in
-    let first = member_tells s t h.0.0 k.0.0 parts.0 in
-    let rest = tells (r ∷ rs) (u ∷ ts) h.1 k.1 parts.1 in
+determines : (xs ys : List Member) → AllByRecursion Good xs → AllByRecursion Good ys → header xs ≡ header ys → xs ≡ ys
+determines [] [] h k e = refl
+determines [] (t ∷ []) h k e = absurd (not_empty t [] (e ∙ sym (append-nil (member_text t))))
+determines [] (t ∷ u ∷ ts) h k e = absurd (not_empty t (44 ∷ header (u ∷ ts)) e)
+determines (t ∷ []) [] h k e = absurd (not_empty t [] (sym e ∙ sym (append-nil (member_text t))))
+determines (t ∷ u ∷ ts) [] h k e = absurd (not_empty t (44 ∷ header (u ∷ ts)) (sym e))
+determines (s ∷ []) (t ∷ []) h k e = let i = member_text-injective s t h.0.0 k.0.0 e in ap (λ (x : Member). x ∷ []) i
+determines (s ∷ []) (t ∷ u ∷ ts) h k e = absurd (no_cut 44 (member_text s) (member_text t) (header (u ∷ ts)) (member_lacks_comma s h.0.0 h.0.1) e)
+determines (s ∷ r ∷ rs) (t ∷ []) h k e = absurd (no_cut 44 (member_text t) (member_text s) (header (r ∷ rs)) (member_lacks_comma t k.0.0 k.0.1) (sym e))
+determines (s ∷ r ∷ rs) (t ∷ u ∷ ts) h k e =
+    let parts = same_cut 44 (member_text s) (member_text t) (header (r ∷ rs)) (header (u ∷ ts)) (member_lacks_comma s h.0.0 h.0.1) (member_lacks_comma t k.0.0 k.0.1) e in
+    let first = member_text-injective s t h.0.0 k.0.0 parts.0 in
+    let rest = determines (r ∷ rs) (u ∷ ts) h.1 k.1 parts.1 in
     λ i. first i ∷ rest i
 
-all_good : (ts : List Triple) → All IsGoodTriple ts → All HasNoComma ts → AllByRecursion Good ts
+all_good : (ts : List Member) → All IsValidMember ts → All HasNoComma ts → AllByRecursion Good ts
 all_good [] h k = tt
-all_good (t ∷ ts) h k = ((All-head IsGoodTriple t ts h, All-head HasNoComma t ts k), all_good ts (All-tail IsGoodTriple t ts h) (All-tail HasNoComma t ts k))
+all_good (t ∷ ts) h k = ((All-head IsValidMember t ts h, All-head HasNoComma t ts k), all_good ts (All-tail IsValidMember t ts h) (All-tail HasNoComma t ts k))
 
-pub header_tells : HeaderTells
-header_tells xs ys h k free none e = tells xs ys (all_good xs h.good free) (all_good ys k.good none) e
+pub header_determines : HeaderDetermines
+header_determines xs ys h k free none e = determines xs ys (all_good xs h.valid free) (all_good ys k.valid none) e
 
 -- ---- a header is short
 
@@ -94,16 +95,16 @@ length-metadata : (m : List ℕ) → length (metadata_text m) ≤ 3 * length m
 length-metadata [] = omega arith
 length-metadata (b ∷ bs) = omega arith
 
--- with the comma after it, a member has at most three bytes for each byte of its triple
-member_short : (t : Triple) → IsGoodTriple t → length (member t) + 1 ≤ 3 * triple_weight t
+-- with the comma after it, the text of a member has at most three bytes for each of its own
+member_short : (t : Member) → IsValidMember t → length (member_text t) + 1 ≤ 3 * weight_of t
 member_short t good =
-    omega (arith, key_nonempty t.0 good.0, length-escaped t.1.0, length-metadata t.1.1, length-append t.0 (61 ∷ escaped t.1.0 ++ metadata_text t.1.1), length-append (escaped t.1.0) (metadata_text t.1.1))
+    omega (arith, key_nonempty t.key good.0, length-escaped t.value, length-metadata t.metadata, length-append t.key (61 ∷ escaped t.value ++ metadata_text t.metadata), length-append (escaped t.value) (metadata_text t.metadata))
 
-short : (t : Triple) (ts : List Triple) → All IsGoodTriple (t ∷ ts) → length (header (t ∷ ts)) + 1 ≤ 3 * weight (t ∷ ts)
-short t [] h = omega (arith, member_short t (All-head IsGoodTriple t [] h), sum_by-cons triple_weight t [])
+short : (t : Member) (ts : List Member) → All IsValidMember (t ∷ ts) → length (header (t ∷ ts)) + 1 ≤ 3 * weight (t ∷ ts)
+short t [] h = omega (arith, member_short t (All-head IsValidMember t [] h), sum_by-cons weight_of t [])
 short t (u ∷ ts) h =
-    omega (arith, member_short t (All-head IsGoodTriple t (u ∷ ts) h), short u ts (All-tail IsGoodTriple t (u ∷ ts) h), sum_by-cons triple_weight t (u ∷ ts), length-append (member t) (44 ∷ header (u ∷ ts)))
+    omega (arith, member_short t (All-head IsValidMember t (u ∷ ts) h), short u ts (All-tail IsValidMember t (u ∷ ts) h), sum_by-cons weight_of t (u ∷ ts), length-append (member_text t) (44 ∷ header (u ∷ ts)))
 
 pub header_short : HeaderIsShort
 header_short [] h = omega arith
-header_short (t ∷ ts) h = omega (arith, short t ts h.good, h.light)
+header_short (t ∷ ts) h = omega (arith, short t ts h.valid, h.light)

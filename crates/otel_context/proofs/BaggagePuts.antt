@@ -1,292 +1,438 @@
--- What put does to a list of triples.
-use Rattle.std.proofs.Common.{◌≡◌, ℕ, suc, length-append, length-take, length-drop, ◌+◌, ◌-◌, ◌≤◌, Bool, true, false, List, [], ◌∷◌, length, All, Option, Some, None, refl, sym, ap, subst, ◌∙◌, ⊎_elim, arith, take, drop, slice_get}
-use Rattle.std.specs.Prelude.{◌&&◌, ◌||◌, nat_le, nat_lt, is_some, remove, position, if◌then◌else◌}
-use Rattle.std.specs.List.{IsDistinct}
-use Rattle.std.specs.Map.{keys_of}
-use Rattle.std.specs.Option.{option_map_or, option_map}
-use Rattle.std.proofs.lemmas.Option.{slice_get-map}
-use Rattle.std.proofs.lemmas.Option.{get_or_from_slice_get}
-use Rattle.indexmap.proofs.MapLemmas.{Found-position, Missing-position, remove_entry-first}
+-- What inserts and removals do to the members of a baggage.
+use Rattle.std.proofs.Common.{◌≡◌, ℕ, suc, length-append, length-take, length-drop, ◌+◌, ◌-◌, ◌<◌, ◌≤◌, Bool, true, false, List, [], ◌∷◌, ◌++◌, length, map, All, Option, Some, None, refl, sym, ap, subst, ◌∙◌, ⊎_elim, arith, take, drop, slice_get}
+use Rattle.std.specs.Prelude.{◌&&◌, ◌||◌, not, nat_le, nat_lt, is_some, remove as remove_at, position, option_map, if◌then◌else◌}
+use Rattle.std.specs.List.{IsDistinct, AllByRecursion, list_any}
+use Rattle.std.specs.Map.{keys_of, lookup, remove_entry}
+use Rattle.std.specs.Option.{option_map_or}
 use Rattle.std.specs.Str.{bytes_eq}
+use Rattle.std.proofs.lemmas.Option.{slice_get-map, get_or_from_slice_get}
 use Rattle.std.proofs.lemmas.Bool.{cases_Bool, and_parts, cond-true, cond-false, or_left, leb-true, ltb-true}
+use Rattle.std.proofs.lemmas.List.{length-map}
+use Rattle.std.proofs.lemmas.Map.Keys.{IsDistinct-head, IsDistinct-tail}
 use Rattle.std.proofs.lemmas.Slice.Eq.{bytes_eq-Decides}
 use Rattle.std.proofs.lemmas.List.Elements.{All-head, All-tail, All-cons, All-nil, All-append, All-take, All-drop}
 use Rattle.std.proofs.lemmas.List.Sums.{sum_by-cons, sum_by-remove}
+use Rattle.indexmap.proofs.MapLemmas.{Found-position, Missing-position, remove_entry-first}
+use Rattle.indexmap.proofs.SetLemmas.{map-remove}
 use Rattle.indexmap.specs.IndexMap.{insert_entry}
-use Rattle.otel_context.specs.BaggageText.{is_key, IsCut}
-use Rattle.otel_context.specs.Baggage.{Triple, triple_weight, weight, put, has_key, accepts, offered, at_key, without_key, IsGoodTriple, IsBaggage}
-use Rattle.otel_context.specs.BaggageRoom.{others_weight, room}
+use Rattle.otel_context.specs.BaggageText.{is_key, IsTrimmed}
+use Rattle.otel_context.specs.BaggageMember.{Member, has_key, weight_of, IsValidMember}
+use Rattle.otel_context.specs.Baggage.{max_key_value_pairs, max_len_of_all_pairs, weight, member_at, get_with_metadata, put, accepts, insert, remove, IsBaggage}
+use Rattle.otel_context.specs.BaggageWeight.{weight_of_others, weight_after}
+use Rattle.otel_context.specs.BaggageView.{Entry, entry_member, entry_members}
 
 same_text : (xs ys : List ℕ) → bytes_eq xs ys ≡ true → xs ≡ ys
 same_text xs ys = (bytes_eq-Decides xs ys).0
 
--- ---- one step
+abbrev keys : List Member → List (List ℕ)
+keys ms = map (λ m. m.key) ms
 
-module _ (t s : Triple) (ts : List Triple) where
-  put_here : bytes_eq t.0 s.0 ≡ true → put (s ∷ ts) t ≡ t ∷ ts
-  put_here e = cond-true (bytes_eq t.0 s.0) (t ∷ ts) (s ∷ put ts t) e
+abbrev AreDistinct : List Member → Type 0
+AreDistinct ms = IsDistinct bytes_eq (keys ms)
 
-  put_later : bytes_eq t.0 s.0 ≡ false → put (s ∷ ts) t ≡ s ∷ put ts t
-  put_later e = cond-false (bytes_eq t.0 s.0) (t ∷ ts) (s ∷ put ts t) e
+-- no member has the key
+abbrev HasNone : List ℕ → List Member → Type 0
+HasNone key ms = AllByRecursion (λ other. bytes_eq key other ≡ false) (keys ms)
 
-  at_here : bytes_eq t.0 s.0 ≡ true → at_key (s ∷ ts) t.0 ≡ Some s.1
-  at_here e = cond-true (bytes_eq t.0 s.0) (Some s.1) (at_key ts t.0) e
+-- ---- where no member has the key
 
-  at_later : bytes_eq t.0 s.0 ≡ false → at_key (s ∷ ts) t.0 ≡ at_key ts t.0
-  at_later e = cond-false (bytes_eq t.0 s.0) (Some s.1) (at_key ts t.0) e
+map_others : (m : Member) (ms : List Member) → HasNone m.key ms → map (λ other. if has_key m.key other then m else other) ms ≡ ms
+map_others m [] h = refl
+map_others m (o ∷ ms) h = λ i. cond-false (has_key m.key o) m o h.0 i ∷ map_others m ms h.1 i
 
--- what the map's insert does
-pub put_is : (ts : List Triple) (t : Triple) → insert_entry bytes_eq ts t.0 t.1 ≡ put ts t
-put_is [] t = refl
-put_is (s ∷ ts) t =
-    ⊎_elim
-    (λ e. let i : t.0 ≡ s.0 = same_text t.0 s.0 e in
-    cond-true (bytes_eq t.0 s.0) ((s.0, t.1) ∷ ts) (s ∷ insert_entry bytes_eq ts t.0 t.1) e
-    ∙ ap (λ (k : List ℕ). (k, t.1) ∷ ts) (sym i) ∙ sym (put_here t s ts e))
-    (λ e.
-    cond-false (bytes_eq t.0 s.0) ((s.0, t.1) ∷ ts) (s ∷ insert_entry bytes_eq ts t.0 t.1) e
-    ∙ ap (λ (x : List Triple). s ∷ x) (put_is ts t) ∙ sym (put_later t s ts e))
-    (cases_Bool (bytes_eq t.0 s.0))
+filter_others : (key : List ℕ) (ms : List Member) → HasNone key ms → remove ms key ≡ ms
+filter_others key [] h = refl
+filter_others key (o ∷ ms) h =
+    cond-true (not (has_key key o)) (o ∷ remove ms key) (remove ms key) (ap not h.0) ∙ ap (λ (x : List Member). o ∷ x) (filter_others key ms h.1)
 
-pub has_key_is : (ts : List Triple) (key : List ℕ) → has_key ts key ≡ is_some (at_key ts key)
-has_key_is [] key = refl
-has_key_is (s ∷ ts) key =
-    ⊎_elim
-    (λ e. or_left (bytes_eq key s.0) (has_key ts key) e ∙ sym (ap is_some (at_here (key, ([], [])) s ts e)))
-    (λ e. ap (λ b. b || has_key ts key) e ∙ has_key_is ts key ∙ sym (ap is_some (at_later (key, ([], [])) s ts e)))
-    (cases_Bool (bytes_eq key s.0))
+none_after : (key : List ℕ) (o : Member) (ms : List Member) → bytes_eq key o.key ≡ true → AreDistinct (o ∷ ms) → HasNone key ms
+none_after key o ms e d = subst (λ k. HasNone k ms) (sym (same_text key o.key e)) (IsDistinct-head bytes_eq o.key (keys ms) d)
 
--- ---- weight and length after put
+-- ---- put, member by member
 
-pub weight_replaced : (ts : List Triple) (t : Triple) (old : List ℕ × List ℕ) → at_key ts t.0 ≡ Some old → weight (put ts t) + triple_weight (t.0, old) ≡ weight ts + triple_weight t
-weight_replaced [] t old h = absurd (cc)
-weight_replaced (s ∷ ts) t old h =
-    ⊎_elim
-    (λ e.
-    let i : Some s.1 ≡ Some old = sym (at_here t s ts e) ∙ h in
-    let j : s.1 ≡ old = cc in
-    let k : t.0 ≡ s.0 = same_text t.0 s.0 e in
-    let w : triple_weight (t.0, old) ≡ triple_weight s = λ n. triple_weight (k n, sym j n) in
-    omega (arith, ap weight (put_here t s ts e), sum_by-cons triple_weight t ts, sum_by-cons triple_weight s ts))
-    (λ e.
-    let rest = weight_replaced ts t old (sym (at_later t s ts e) ∙ h) in
-    omega (arith, ap weight (put_later t s ts e), sum_by-cons triple_weight s (put ts t), sum_by-cons triple_weight s ts))
-    (cases_Bool (bytes_eq t.0 s.0))
+put_here : (m o : Member) (ms : List Member) → AreDistinct (o ∷ ms) → has_key m.key o ≡ true → put (o ∷ ms) m ≡ m ∷ ms
+put_here m o ms d e =
+    cond-true (list_any (has_key m.key) (o ∷ ms)) (map (λ other. if has_key m.key other then m else other) (o ∷ ms)) ((o ∷ ms) ++ m ∷ []) (or_left (has_key m.key o) (list_any (has_key m.key) ms) e)
+    ∙ (λ i. cond-true (has_key m.key o) m o e i ∷ map_others m ms (none_after m.key o ms e d) i)
 
-pub weight_added : (ts : List Triple) (t : Triple) → at_key ts t.0 ≡ None → weight (put ts t) ≡ weight ts + triple_weight t
-weight_added [] t h = sum_by-cons triple_weight t [] ∙ omega arith
-weight_added (s ∷ ts) t h =
-    ⊎_elim
-    (λ e. let i : Some s.1 ≡ None = sym (at_here t s ts e) ∙ h in absurd (cc))
-    (λ e.
-    let rest = weight_added ts t (sym (at_later t s ts e) ∙ h) in
-    omega (arith, ap weight (put_later t s ts e), sum_by-cons triple_weight s (put ts t), sum_by-cons triple_weight s ts))
-    (cases_Bool (bytes_eq t.0 s.0))
-
-pub weight_held : (ts : List Triple) (key : List ℕ) (old : List ℕ × List ℕ) → at_key ts key ≡ Some old → triple_weight (key, old) ≤ weight ts
-weight_held ts key old h =
-    by ts h
+put_later : (m o : Member) (ms : List Member) → has_key m.key o ≡ false → put (o ∷ ms) m ≡ o ∷ put ms m
+put_later m o ms e =
+    ap (λ b. if b || list_any (has_key m.key) ms then map (λ other. if has_key m.key other then m else other) (o ∷ ms) else ((o ∷ ms) ++ m ∷ [])) e
+    ∙ by (list_any (has_key m.key) ms)
   where
-    by : (ts : List Triple) → at_key ts key ≡ Some old → triple_weight (key, old) ≤ weight ts
-    by [] h = absurd (cc)
-    by (s ∷ ts) h =
-        ⊎_elim
-        (λ e.
-        let i : Some s.1 ≡ Some old = sym (at_here (key, old) s ts e) ∙ h in
-        let j : s.1 ≡ old = cc in
-        let k : key ≡ s.0 = same_text key s.0 e in
-        let w : triple_weight (key, old) ≡ triple_weight s = λ n. triple_weight (k n, sym j n) in
-        omega (arith, sum_by-cons triple_weight s ts))
-        (λ e. omega (arith, by ts (sym (at_later (key, old) s ts e) ∙ h), sum_by-cons triple_weight s ts))
-        (cases_Bool (bytes_eq key s.0))
+    by : (b : Bool) → (if b then map (λ other. if has_key m.key other then m else other) (o ∷ ms) else ((o ∷ ms) ++ m ∷ [])) ≡ o ∷ (if b then map (λ other. if has_key m.key other then m else other) ms else (ms ++ m ∷ []))
+    by true = ap (λ x. x ∷ map (λ other. if has_key m.key other then m else other) ms) (cond-false (has_key m.key o) m o e)
+    by false = refl
 
-pub length_put_new : (ts : List Triple) (t : Triple) → at_key ts t.0 ≡ None → length (put ts t) ≡ length ts + 1
-length_put_new [] t h = refl
-length_put_new (s ∷ ts) t h =
+at_here : (key : List ℕ) (o : Member) (ms : List Member) → has_key key o ≡ true → member_at (o ∷ ms) key ≡ Some o
+at_here key o ms e = cond-true (has_key key o) (Some o) (member_at ms key) e
+
+at_later : (key : List ℕ) (o : Member) (ms : List Member) → has_key key o ≡ false → member_at (o ∷ ms) key ≡ member_at ms key
+at_later key o ms e = cond-false (has_key key o) (Some o) (member_at ms key) e
+
+tail : (o : Member) (ms : List Member) → AreDistinct (o ∷ ms) → AreDistinct ms
+tail o ms = IsDistinct-tail bytes_eq o.key (keys ms)
+
+has_key_is : (ms : List Member) (key : List ℕ) → list_any (has_key key) ms ≡ is_some (member_at ms key)
+has_key_is [] key = refl
+has_key_is (o ∷ ms) key =
     ⊎_elim
-    (λ e. let i : Some s.1 ≡ None = sym (at_here t s ts e) ∙ h in absurd (cc))
-    (λ e. omega (arith, ap length (put_later t s ts e), length_put_new ts t (sym (at_later t s ts e) ∙ h)))
-    (cases_Bool (bytes_eq t.0 s.0))
+    (λ e. or_left (has_key key o) (list_any (has_key key) ms) e ∙ sym (ap is_some (at_here key o ms e)))
+    (λ e. ap (λ b. b || list_any (has_key key) ms) e ∙ has_key_is ms key ∙ sym (ap is_some (at_later key o ms e)))
+    (cases_Bool (has_key key o))
 
-pub length_put_held : (ts : List Triple) (t : Triple) (old : List ℕ × List ℕ) → at_key ts t.0 ≡ Some old → length (put ts t) ≡ length ts
-length_put_held [] t old h = absurd (cc)
-length_put_held (s ∷ ts) t old h =
+-- ---- members and the pairs of a map
+
+pub keys_are : (es : List Entry) → keys (entry_members es) ≡ keys_of es
+keys_are [] = refl
+keys_are (e ∷ es) = ap (λ (x : List (List ℕ)). e.0 ∷ x) (keys_are es)
+
+put_is : (es : List Entry) (e : Entry) → IsDistinct bytes_eq (keys_of es) → entry_members (insert_entry bytes_eq es e.0 e.1) ≡ put (entry_members es) (entry_member e)
+put_is [] e d = refl
+put_is (o ∷ es) e d =
     ⊎_elim
-    (λ e. ap length (put_here t s ts e))
-    (λ e. omega (arith, ap length (put_later t s ts e), length_put_held ts t old (sym (at_later t s ts e) ∙ h)))
-    (cases_Bool (bytes_eq t.0 s.0))
+    (λ t.
+    ap entry_members (cond-true (bytes_eq e.0 o.0) ((o.0, e.1) ∷ es) (o ∷ insert_entry bytes_eq es e.0 e.1) t)
+    ∙ ap (λ (k : List ℕ). entry_member (k, e.1) ∷ entry_members es) (sym (same_text e.0 o.0 t))
+    ∙ sym (put_here (entry_member e) (entry_member o) (entry_members es) (subst (IsDistinct bytes_eq) (sym (keys_are (o ∷ es))) d) t))
+    (λ t.
+    ap entry_members (cond-false (bytes_eq e.0 o.0) ((o.0, e.1) ∷ es) (o ∷ insert_entry bytes_eq es e.0 e.1) t)
+    ∙ ap (λ (x : List Member). entry_member o ∷ x) (put_is es e (IsDistinct-tail bytes_eq o.0 (keys_of es) d))
+    ∙ sym (put_later (entry_member e) (entry_member o) (entry_members es) t))
+    (cases_Bool (bytes_eq e.0 o.0))
 
--- ---- put keeps the triples good
-
-good_put_new : (ts : List Triple) (t : Triple) → All IsGoodTriple ts → IsGoodTriple t → All IsGoodTriple (put ts t)
-good_put_new [] t h g = All-cons IsGoodTriple t [] g (All-nil IsGoodTriple)
-good_put_new (s ∷ ts) t h g =
+remove_is : (es : List Entry) (key : List ℕ) → AreDistinct (entry_members es) → entry_members (remove_entry (bytes_eq key) es) ≡ remove (entry_members es) key
+remove_is [] key d = refl
+remove_is (o ∷ es) key d =
+    let ms = entry_members es in
+    let m = entry_member o in
     ⊎_elim
-    (λ e. rw (put_here t s ts e) (All-cons IsGoodTriple t ts g (All-tail IsGoodTriple s ts h)))
-    (λ e. rw (put_later t s ts e) (All-cons IsGoodTriple s (put ts t) (All-head IsGoodTriple s ts h) (good_put_new ts t (All-tail IsGoodTriple s ts h) g)))
-    (cases_Bool (bytes_eq t.0 s.0))
+    (λ t.
+    ap entry_members (cond-true (bytes_eq key o.0) es (o ∷ remove_entry (bytes_eq key) es) t)
+    ∙ sym (filter_others key ms (none_after key m ms t d))
+    ∙ sym (cond-false (not (has_key key m)) (m ∷ remove ms key) (remove ms key) (ap not t)))
+    (λ t.
+    ap entry_members (cond-false (bytes_eq key o.0) es (o ∷ remove_entry (bytes_eq key) es) t)
+    ∙ ap (λ (x : List Member). m ∷ x) (remove_is es key (tail m ms d))
+    ∙ sym (cond-true (not (has_key key m)) (m ∷ remove ms key) (remove ms key) (ap not t)))
+    (cases_Bool (bytes_eq key o.0))
 
-key_held : (ts : List Triple) (key : List ℕ) (old : List ℕ × List ℕ) → All IsGoodTriple ts → at_key ts key ≡ Some old → is_key key ≡ true
-key_held [] key old good h = absurd (cc)
-key_held (s ∷ ts) key old good h =
+pub get_is : (es : List Entry) (key : List ℕ) → lookup (bytes_eq key) es ≡ get_with_metadata (entry_members es) key
+get_is [] key = refl
+get_is (o ∷ es) key =
+    let ms = entry_members es in
     ⊎_elim
-    (λ e. ap is_key (same_text key s.0 e) ∙ (All-head IsGoodTriple s ts good).0)
-    (λ e. key_held ts key old (All-tail IsGoodTriple s ts good) (sym (at_later (key, old) s ts e) ∙ h))
-    (cases_Bool (bytes_eq key s.0))
+    (λ t. cond-true (bytes_eq key o.0) (Some o.1) (lookup (bytes_eq key) es) t ∙ sym (ap (option_map (λ m. (m.value, m.metadata))) (at_here key (entry_member o) ms t)))
+    (λ t.
+    cond-false (bytes_eq key o.0) (Some o.1) (lookup (bytes_eq key) es) t ∙ get_is es key
+    ∙ sym (ap (option_map (λ m. (m.value, m.metadata))) (at_later key (entry_member o) ms t)))
+    (cases_Bool (bytes_eq key o.0))
+
+-- the member of the key, from what stands beside the key
+pub member_found : (es : List Entry) (key : List ℕ) (beside : List ℕ × List ℕ) → lookup (bytes_eq key) es ≡ Some beside → member_at (entry_members es) key ≡ Some (entry_member (key, beside))
+member_found [] key beside h = absurd (cc)
+member_found (o ∷ es) key beside h =
+    let ms = entry_members es in
+    ⊎_elim
+    (λ t.
+    let i : Some o.1 ≡ Some beside = sym (cond-true (bytes_eq key o.0) (Some o.1) (lookup (bytes_eq key) es) t) ∙ h in
+    let j : o.1 ≡ beside = cc in
+    at_here key (entry_member o) ms t ∙ (λ n. Some (entry_member (sym (same_text key o.0 t) n, j n))))
+    (λ t.
+    at_later key (entry_member o) ms t
+    ∙ member_found es key beside (sym (cond-false (bytes_eq key o.0) (Some o.1) (lookup (bytes_eq key) es) t) ∙ h))
+    (cases_Bool (bytes_eq key o.0))
+
+pub member_missing : (es : List Entry) (key : List ℕ) → lookup (bytes_eq key) es ≡ None → member_at (entry_members es) key ≡ None
+member_missing [] key h = refl
+member_missing (o ∷ es) key h =
+    let ms = entry_members es in
+    ⊎_elim
+    (λ t. let i : Some o.1 ≡ None = sym (cond-true (bytes_eq key o.0) (Some o.1) (lookup (bytes_eq key) es) t) ∙ h in absurd (cc))
+    (λ t.
+    at_later key (entry_member o) ms t
+    ∙ member_missing es key (sym (cond-false (bytes_eq key o.0) (Some o.1) (lookup (bytes_eq key) es) t) ∙ h))
+    (cases_Bool (bytes_eq key o.0))
+
+-- ---- bytes and length after put
+
+weight_replaced : (ms : List Member) (m old : Member) → AreDistinct ms → member_at ms m.key ≡ Some old → weight (put ms m) + weight_of old ≡ weight ms + weight_of m
+weight_replaced [] m old d h = absurd (cc)
+weight_replaced (o ∷ ms) m old d h =
+    ⊎_elim
+    (λ e.
+    let i : Some o ≡ Some old = sym (at_here m.key o ms e) ∙ h in
+    let j : o ≡ old = cc in
+    omega (arith, ap weight_of j, ap weight (put_here m o ms d e), sum_by-cons weight_of m ms, sum_by-cons weight_of o ms))
+    (λ e.
+    let rest = weight_replaced ms m old (tail o ms d) (sym (at_later m.key o ms e) ∙ h) in
+    omega (arith, ap weight (put_later m o ms e), rest, sum_by-cons weight_of o (put ms m), sum_by-cons weight_of o ms))
+    (cases_Bool (has_key m.key o))
+
+weight_added : (ms : List Member) (m : Member) → member_at ms m.key ≡ None → weight (put ms m) ≡ weight ms + weight_of m
+weight_added [] m h = sum_by-cons weight_of m [] ∙ omega arith
+weight_added (o ∷ ms) m h =
+    ⊎_elim
+    (λ e. let i : Some o ≡ None = sym (at_here m.key o ms e) ∙ h in absurd (cc))
+    (λ e.
+    let rest = weight_added ms m (sym (at_later m.key o ms e) ∙ h) in
+    omega (arith, ap weight (put_later m o ms e), rest, sum_by-cons weight_of o (put ms m), sum_by-cons weight_of o ms))
+    (cases_Bool (has_key m.key o))
+
+pub weight_held : (ms : List Member) (key : List ℕ) (old : Member) → member_at ms key ≡ Some old → weight_of old ≤ weight ms
+weight_held [] key old h = absurd (cc)
+weight_held (o ∷ ms) key old h =
+    ⊎_elim
+    (λ e.
+    let i : Some o ≡ Some old = sym (at_here key o ms e) ∙ h in
+    let j : o ≡ old = cc in
+    omega (arith, ap weight_of j, sum_by-cons weight_of o ms))
+    (λ e. omega (arith, weight_held ms key old (sym (at_later key o ms e) ∙ h), sum_by-cons weight_of o ms))
+    (cases_Bool (has_key key o))
+
+length_put_new : (ms : List Member) (m : Member) → member_at ms m.key ≡ None → length (put ms m) ≡ length ms + 1
+length_put_new [] m h = refl
+length_put_new (o ∷ ms) m h =
+    ⊎_elim
+    (λ e. let i : Some o ≡ None = sym (at_here m.key o ms e) ∙ h in absurd (cc))
+    (λ e. omega (arith, ap length (put_later m o ms e), length_put_new ms m (sym (at_later m.key o ms e) ∙ h)))
+    (cases_Bool (has_key m.key o))
+
+length_put_held : (ms : List Member) (m old : Member) → AreDistinct ms → member_at ms m.key ≡ Some old → length (put ms m) ≡ length ms
+length_put_held [] m old d h = absurd (cc)
+length_put_held (o ∷ ms) m old d h =
+    ⊎_elim
+    (λ e. ap length (put_here m o ms d e))
+    (λ e. omega (arith, ap length (put_later m o ms e), length_put_held ms m old (tail o ms d) (sym (at_later m.key o ms e) ∙ h)))
+    (cases_Bool (has_key m.key o))
+
+-- ---- put keeps the members valid
+
+valid_put : (ms : List Member) (m : Member) → AreDistinct ms → All IsValidMember ms → IsValidMember m → All IsValidMember (put ms m)
+valid_put [] m d h g = All-cons IsValidMember m [] g (All-nil IsValidMember)
+valid_put (o ∷ ms) m d h g =
+    ⊎_elim
+    (λ e. rw (put_here m o ms d e) (All-cons IsValidMember m ms g (All-tail IsValidMember o ms h)))
+    (λ e.
+    rw (put_later m o ms e)
+    (All-cons IsValidMember o (put ms m) (All-head IsValidMember o ms h) (valid_put ms m (tail o ms d) (All-tail IsValidMember o ms h) g)))
+    (cases_Bool (has_key m.key o))
+
+key_held : (ms : List Member) (key : List ℕ) (old : Member) → All IsValidMember ms → member_at ms key ≡ Some old → is_key key ≡ true
+key_held [] key old valid h = absurd (cc)
+key_held (o ∷ ms) key old valid h =
+    ⊎_elim
+    (λ e. ap is_key (same_text key o.key e) ∙ (All-head IsValidMember o ms valid).0)
+    (λ e. key_held ms key old (All-tail IsValidMember o ms valid) (sym (at_later key o ms e) ∙ h))
+    (cases_Bool (has_key key o))
 
 -- ---- what is accepted is a baggage again
 
-module _ (ts : List Triple) (t : Triple) (held : IsBaggage ts) (cut : IsCut t.1.1) (distinct : IsDistinct bytes_eq (keys_of (put ts t))) (ok : accepts ts t ≡ true) where
-  parts : (nat_le (weight (put ts t)) 8192 ≡ true) × ((has_key ts t.0 || (is_key t.0 && nat_lt (length ts) 64)) ≡ true)
-  parts = and_parts (nat_le (weight (put ts t)) 8192) (has_key ts t.0 || (is_key t.0 && nat_lt (length ts) 64)) ok
+module _ (ms : List Member) (m : Member) (held : IsBaggage ms) (cut : IsTrimmed m.metadata) (distinct : AreDistinct (put ms m)) (ok : accepts ms m ≡ true) where
+  abbrev may_stand : Bool
+  may_stand = is_key m.key && nat_lt (length ms) max_key_value_pairs
 
-  by_key : (o : Option (List ℕ × List ℕ)) → at_key ts t.0 ≡ o → (is_key t.0 ≡ true) × (length (put ts t) ≤ 64)
-  by_key (Some old) e = (key_held ts t.0 old held.good e, omega (arith, length_put_held ts t old e, held.few))
+  parts : (nat_le (weight (put ms m)) max_len_of_all_pairs ≡ true) × ((list_any (has_key m.key) ms || may_stand) ≡ true)
+  parts = and_parts (nat_le (weight (put ms m)) max_len_of_all_pairs) (list_any (has_key m.key) ms || may_stand) ok
+
+  by_key : (o : Option Member) → member_at ms m.key ≡ o → (is_key m.key ≡ true) × (length (put ms m) ≤ max_key_value_pairs)
+  by_key (Some old) e = (key_held ms m.key old held.valid e, omega (arith, length_put_held ms m old held.distinct e, held.few))
   by_key None e =
-      let none : has_key ts t.0 ≡ false = has_key_is ts t.0 ∙ ap is_some e in
-      let new : (is_key t.0 && nat_lt (length ts) 64) ≡ true = ap (λ b. b || (is_key t.0 && nat_lt (length ts) 64)) (sym none) ∙ parts.1 in
-      let both = and_parts (is_key t.0) (nat_lt (length ts) 64) new in
-      (both.0, omega (arith, length_put_new ts t e, ltb-true (length ts) 64 both.1))
+      let none : list_any (has_key m.key) ms ≡ false = has_key_is ms m.key ∙ ap is_some e in
+      let new : may_stand ≡ true = ap (λ b. b || may_stand) (sym none) ∙ parts.1 in
+      let both = and_parts (is_key m.key) (nat_lt (length ms) max_key_value_pairs) new in
+      (both.0, omega (arith, length_put_new ms m e, ltb-true (length ms) max_key_value_pairs both.1))
 
-  pub put_baggage : IsBaggage (put ts t)
+  pub put_baggage : IsBaggage (put ms m)
   put_baggage =
-      let k = by_key (at_key ts t.0) refl in
-      record { few = k.1; distinct = distinct; good = good_put_new ts t held.good (k.0, cut); light = leb-true (weight (put ts t)) 8192 parts.0 }
+      let k = by_key (member_at ms m.key) refl in
+      record {
+        few = k.1;
+        distinct = distinct;
+        valid = valid_put ms m held.distinct held.valid (k.0, cut);
+        light = leb-true (weight (put ms m)) max_len_of_all_pairs parts.0;
+      }
 
--- ---- the weight that the code finds
-
-pub room_new : (ts : List Triple) (t : Triple) → at_key ts t.0 ≡ None → accepts ts t ≡ (nat_le (weight ts + triple_weight t) 8192 && (is_key t.0 && nat_lt (length ts) 64))
-room_new ts t e =
-    ap (λ b. nat_le (weight (put ts t)) 8192 && (b || (is_key t.0 && nat_lt (length ts) 64))) (has_key_is ts t.0 ∙ ap is_some e)
-    ∙ ap (λ w. nat_le w 8192 && (is_key t.0 && nat_lt (length ts) 64)) (weight_added ts t e)
-
-pub room_held : (ts : List Triple) (t : Triple) (old : List ℕ × List ℕ) → at_key ts t.0 ≡ Some old → accepts ts t ≡ (nat_le ((weight ts - triple_weight (t.0, old)) + triple_weight t) 8192 && true)
-room_held ts t old e =
-    let w : weight (put ts t) ≡ (weight ts - triple_weight (t.0, old)) + triple_weight t = omega (arith, weight_replaced ts t old e, weight_held ts t.0 old e) in
-    ap (λ b. nat_le (weight (put ts t)) 8192 && (b || (is_key t.0 && nat_lt (length ts) 64))) (has_key_is ts t.0 ∙ ap is_some e)
-    ∙ ap (λ w. nat_le w 8192 && true) w
+-- ---- the bytes that the code finds
 
 and_true : (x : Bool) → (x && true) ≡ x
 and_true true = refl
 and_true false = refl
 
-room_by : (ts : List Triple) (t : Triple) (n : ℕ) → weight (put ts t) ≡ n → accepts ts t ≡ (nat_le n 8192 && true) → (if nat_le n 8192 then Some n else None) ≡ room ts t
-room_by ts t n w a =
-    ap (λ x. if x then Some n else None) (sym (a ∙ and_true (nat_le n 8192)))
-    ∙ ap (λ m. if accepts ts t then Some m else None) (sym w)
-
-pub room_is : (ts : List Triple) (t : Triple) (o : ℕ) → others_weight ts t.0 ≡ Some o → (if nat_le (o + triple_weight t) 8192 then Some (o + triple_weight t) else None) ≡ room ts t
-room_is ts t o h = by (at_key ts t.0) refl
-  where
-    new : Option ℕ
-    new = if is_key t.0 && nat_lt (length ts) 64 then Some (weight ts) else None
-
-    by : (r : Option (List ℕ × List ℕ)) → at_key ts t.0 ≡ r → (if nat_le (o + triple_weight t) 8192 then Some (o + triple_weight t) else None) ≡ room ts t
-    by (Some old) e =
-        let i : Some o ≡ Some (weight ts - triple_weight (t.0, old)) = sym h ∙ ap (λ r. option_map_or (λ p. Some (weight ts - triple_weight (t.0, p))) r new) e in
-        let j : o ≡ weight ts - triple_weight (t.0, old) = cc in
-        room_by ts t (o + triple_weight t) (omega (arith, weight_replaced ts t old e, weight_held ts t.0 old e)) (room_held ts t old e ∙ ap (λ w. nat_le (w + triple_weight t) 8192 && true) (sym j))
-    by None e =
-        let i : Some o ≡ new = sym h ∙ ap (λ r. option_map_or (λ p. Some (weight ts - triple_weight (t.0, p))) r new) e in
-        ⊎_elim
-        (λ f.
-        let k : Some o ≡ Some (weight ts) = i ∙ cond-true (is_key t.0 && nat_lt (length ts) 64) (Some (weight ts)) None f in
-        let j : o ≡ weight ts = cc in
-        room_by ts t (o + triple_weight t) (omega (arith, weight_added ts t e)) (room_new ts t e ∙ (λ n. nat_le (sym j n + triple_weight t) 8192 && f n)))
-        (λ f. let k : Some o ≡ None = i ∙ cond-false (is_key t.0 && nat_lt (length ts) 64) (Some (weight ts)) None f in absurd (cc))
-        (cases_Bool (is_key t.0 && nat_lt (length ts) 64))
-
 and_false : (x : Bool) → (x && false) ≡ false
 and_false true = refl
 and_false false = refl
 
-pub room_none : (ts : List Triple) (t : Triple) → others_weight ts t.0 ≡ None → room ts t ≡ None
-room_none ts t h = by (at_key ts t.0) refl
-  where
-    new : Option ℕ
-    new = if is_key t.0 && nat_lt (length ts) 64 then Some (weight ts) else None
+module _ (ms : List Member) (m : Member) where
+  abbrev may_be_new : Bool
+  may_be_new = is_key m.key && nat_lt (length ms) max_key_value_pairs
 
-    by : (r : Option (List ℕ × List ℕ)) → at_key ts t.0 ≡ r → room ts t ≡ None
-    by (Some old) e =
-        let i : None ≡ Some (weight ts - triple_weight (t.0, old)) = sym h ∙ ap (λ r. option_map_or (λ p. Some (weight ts - triple_weight (t.0, p))) r new) e in absurd (cc)
-    by None e =
-        let i : None ≡ new = sym h ∙ ap (λ r. option_map_or (λ p. Some (weight ts - triple_weight (t.0, p))) r new) e in
-        ⊎_elim
-        (λ f. let k : None ≡ Some (weight ts) = i ∙ cond-true (is_key t.0 && nat_lt (length ts) 64) (Some (weight ts)) None f in absurd (cc))
-        (λ f.
-        ap (λ x. if x then Some (weight (put ts t)) else None)
-        (room_new ts t e ∙ ap (λ b. nat_le (weight ts + triple_weight t) 8192 && b) f ∙ and_false (nat_le (weight ts + triple_weight t) 8192)))
-        (cases_Bool (is_key t.0 && nat_lt (length ts) 64))
+  abbrev fits : ℕ → Bool
+  fits n = nat_le n max_len_of_all_pairs
 
-room_some : (ts : List Triple) (t : Triple) (n : ℕ) → room ts t ≡ Some n → (accepts ts t ≡ true) × (n ≡ weight (put ts t))
-room_some ts t n h =
-    ⊎_elim
-    (λ f. let k : Some (weight (put ts t)) ≡ Some n = sym (cond-true (accepts ts t) (Some (weight (put ts t))) None f) ∙ h in (f, (cc)))
-    (λ f. let k : None ≡ Some n = sym (cond-false (accepts ts t) (Some (weight (put ts t))) None f) ∙ h in absurd (cc))
-    (cases_Bool (accepts ts t))
+  abbrev if_new : Option ℕ
+  if_new = if may_be_new then Some (weight ms) else None
+
+  accepts_new : member_at ms m.key ≡ None → accepts ms m ≡ (fits (weight ms + weight_of m) && may_be_new)
+  accepts_new e =
+      ap (λ b. fits (weight (put ms m)) && (b || may_be_new)) (has_key_is ms m.key ∙ ap is_some e)
+      ∙ ap (λ w. fits w && may_be_new) (weight_added ms m e)
+
+  weight_then : (old : Member) → AreDistinct ms → member_at ms m.key ≡ Some old → weight (put ms m) ≡ (weight ms - weight_of old) + weight_of m
+  weight_then old d e = omega (arith, weight_replaced ms m old d e, weight_held ms m.key old e)
+
+  accepts_held : (old : Member) → AreDistinct ms → member_at ms m.key ≡ Some old → accepts ms m ≡ (fits ((weight ms - weight_of old) + weight_of m) && true)
+  accepts_held old d e =
+      ap (λ b. fits (weight (put ms m)) && (b || may_be_new)) (has_key_is ms m.key ∙ ap is_some e)
+      ∙ ap (λ w. fits w && true) (weight_then old d e)
+
+  others_are : (r : Option Member) → member_at ms m.key ≡ r → weight_of_others ms m.key ≡ option_map_or (λ old. Some (weight ms - weight_of old)) r if_new
+  others_are r e = ap (λ r. option_map_or (λ old. Some (weight ms - weight_of old)) r if_new) e
+
+  after_by : (n : ℕ) → weight (put ms m) ≡ n → accepts ms m ≡ (fits n && true) → (if fits n then Some n else None) ≡ weight_after ms m
+  after_by n w a =
+      ap (λ x. if x then Some n else None) (sym (a ∙ and_true (fits n)))
+      ∙ ap (λ n. if accepts ms m then Some n else None) (sym w)
+
+  -- from what the others weigh
+  pub after_is : (o : ℕ) → AreDistinct ms → weight_of_others ms m.key ≡ Some o → (if nat_le (o + weight_of m) max_len_of_all_pairs then Some (o + weight_of m) else None) ≡ weight_after ms m
+  after_is o d h = by (member_at ms m.key) refl
+    where
+      by : (r : Option Member) → member_at ms m.key ≡ r → (if fits (o + weight_of m) then Some (o + weight_of m) else None) ≡ weight_after ms m
+      by (Some old) e =
+          let i : Some o ≡ Some (weight ms - weight_of old) = sym h ∙ others_are (Some old) e in
+          let j : o ≡ weight ms - weight_of old = cc in
+          after_by (o + weight_of m) (weight_then old d e ∙ ap (λ w. w + weight_of m) (sym j)) (accepts_held old d e ∙ ap (λ w. fits (w + weight_of m) && true) (sym j))
+      by None e =
+          let i : Some o ≡ if_new = sym h ∙ others_are None e in
+          ⊎_elim
+          (λ f.
+          let k : Some o ≡ Some (weight ms) = i ∙ cond-true may_be_new (Some (weight ms)) None f in
+          let j : o ≡ weight ms = cc in
+          after_by (o + weight_of m) (weight_added ms m e ∙ ap (λ w. w + weight_of m) (sym j)) (accepts_new e ∙ (λ n. fits (sym j n + weight_of m) && f n)))
+          (λ f. let k : Some o ≡ None = i ∙ cond-false may_be_new (Some (weight ms)) None f in absurd (cc))
+          (cases_Bool may_be_new)
+
+  pub after_none : weight_of_others ms m.key ≡ None → weight_after ms m ≡ None
+  after_none h = by (member_at ms m.key) refl
+    where
+      by : (r : Option Member) → member_at ms m.key ≡ r → weight_after ms m ≡ None
+      by (Some old) e = let i : None ≡ Some (weight ms - weight_of old) = sym h ∙ others_are (Some old) e in absurd (cc)
+      by None e =
+          let i : None ≡ if_new = sym h ∙ others_are None e in
+          ⊎_elim
+          (λ f. let k : None ≡ Some (weight ms) = i ∙ cond-true may_be_new (Some (weight ms)) None f in absurd (cc))
+          (λ f.
+          ap (λ x. if x then Some (weight (put ms m)) else None)
+          (accepts_new e ∙ ap (λ b. fits (weight ms + weight_of m) && b) f ∙ and_false (fits (weight ms + weight_of m))))
+          (cases_Bool may_be_new)
+
+  after_some : (n : ℕ) → weight_after ms m ≡ Some n → (accepts ms m ≡ true) × (n ≡ weight (put ms m))
+  after_some n h =
+      ⊎_elim
+      (λ f. let k : Some (weight (put ms m)) ≡ Some n = sym (cond-true (accepts ms m) (Some (weight (put ms m))) None f) ∙ h in (f, (cc)))
+      (λ f. let k : None ≡ Some n = sym (cond-false (accepts ms m) (Some (weight (put ms m))) None f) ∙ h in absurd (cc))
+      (cases_Bool (accepts ms m))
+
+  pub refused : weight_after ms m ≡ None → accepts ms m ≡ false
+  refused h =
+      ⊎_elim
+      (λ f. let k : Some (weight (put ms m)) ≡ None = sym (cond-true (accepts ms m) (Some (weight (put ms m))) None f) ∙ h in absurd (cc))
+      (λ f. f)
+      (cases_Bool (accepts ms m))
+
+-- what the others weigh, from what stands beside the key
+pub others_held : (es : List Entry) (key : List ℕ) (beside : List ℕ × List ℕ) → lookup (bytes_eq key) es ≡ Some beside
+    → weight_of_others (entry_members es) key ≡ Some (weight (entry_members es) - weight_of (entry_member (key, beside)))
+others_held es key beside h =
+    let ms = entry_members es in
+    ap (λ r. option_map_or (λ old. Some (weight ms - weight_of old)) r (if is_key key && nat_lt (length ms) max_key_value_pairs then Some (weight ms) else None)) (member_found es key beside h)
+
+module _ (es : List Entry) (key : List ℕ) (new : Bool) (h : lookup (bytes_eq key) es ≡ None) (is : new ≡ (is_key key && nat_lt (length es) max_key_value_pairs)) where
+  others_new : weight_of_others (entry_members es) key ≡ (if new then Some (weight (entry_members es)) else None)
+  others_new =
+      let ms = entry_members es in
+      ap (λ r. option_map_or (λ old. Some (weight ms - weight_of old)) r (if is_key key && nat_lt (length ms) max_key_value_pairs then Some (weight ms) else None)) (member_missing es key h)
+      ∙ ap (λ n. if is_key key && nat_lt n max_key_value_pairs then Some (weight ms) else None) (length-map es entry_member)
+      ∙ ap (λ b. if b then Some (weight ms) else None) (sym is)
+
+  pub others_taken : new ≡ true → weight_of_others (entry_members es) key ≡ Some (weight (entry_members es))
+  others_taken t = others_new ∙ cond-true new (Some (weight (entry_members es))) None t
+
+  pub others_refused : new ≡ false → weight_of_others (entry_members es) key ≡ None
+  others_refused t = others_new ∙ cond-false new (Some (weight (entry_members es))) None t
 
 -- ---- what the calls leave
 
-pub record Inserted (ts us : List Triple) (t : Triple) (n : ℕ) : Type 0 where
-  pub baggage : IsBaggage us
-  pub sum : n ≡ weight us
-  pub list : us ≡ offered ts t
+pub record Inserted (old new : List Member) (m : Member) (n : ℕ) : Type 0 where
+  pub baggage : IsBaggage new
+  pub sum : n ≡ weight new
+  pub accepted : accepts old m ≡ true
+  pub list : new ≡ insert old m
 
-pub inserted : (ts us : List Triple) (t : Triple) (n : ℕ) → IsBaggage ts → IsCut t.1.1 → IsDistinct bytes_eq (keys_of us) → us ≡ insert_entry bytes_eq ts t.0 t.1 → room ts t ≡ Some n → Inserted ts us t n
-inserted ts us t n held cut distinct e h =
-    let r = room_some ts t n h in
-    let i : us ≡ put ts t = e ∙ put_is ts t in
+pub inserted : (es fs : List Entry) (e : Entry) (n : ℕ) → IsBaggage (entry_members es) → IsTrimmed e.1.1 → IsDistinct bytes_eq (keys_of fs) → fs ≡ insert_entry bytes_eq es e.0 e.1
+    → weight_after (entry_members es) (entry_member e) ≡ Some n → Inserted (entry_members es) (entry_members fs) (entry_member e) n
+inserted es fs e n held cut distinct is h =
+    let ms = entry_members es in
+    let m = entry_member e in
+    let r = after_some ms m n h in
+    let i : entry_members fs ≡ put ms m = ap entry_members is ∙ put_is es e (subst (IsDistinct bytes_eq) (keys_are es) held.distinct) in
+    let apart : AreDistinct (put ms m) = subst AreDistinct i (subst (IsDistinct bytes_eq) (sym (keys_are fs)) distinct) in
     record {
-      baggage = subst IsBaggage (sym i) (put_baggage ts t held cut (subst (λ l. IsDistinct bytes_eq (keys_of l)) i distinct) r.0);
+      baggage = subst IsBaggage (sym i) (put_baggage ms m held cut apart r.0);
       sum = r.1 ∙ ap weight (sym i);
-      list = i ∙ sym (cond-true (accepts ts t) (put ts t) ts r.0);
+      accepted = r.0;
+      list = i ∙ sym (cond-true (accepts ms m) (put ms m) ms r.0);
     }
 
-pub refused : (ts : List Triple) (t : Triple) → room ts t ≡ None → accepts ts t ≡ false
-refused ts t h =
-    ⊎_elim
-    (λ f. let k : Some (weight (put ts t)) ≡ None = sym (cond-true (accepts ts t) (Some (weight (put ts t))) None f) ∙ h in absurd (cc))
-    (λ f. f)
-    (cases_Bool (accepts ts t))
+pub record Removed (old new : List Member) (key : List ℕ) (m : Member) : Type 0 where
+  pub baggage : IsBaggage new
+  pub sum : weight new + weight_of m ≡ weight old
+  pub list : new ≡ remove old key
+  pub given : Some (m.value, m.metadata) ≡ get_with_metadata old key
 
-pub record Removed (ts us : List Triple) (key : List ℕ) (t : Triple) : Type 0 where
-  pub baggage : IsBaggage us
-  pub sum : weight us + triple_weight t ≡ weight ts
-  pub list : us ≡ without_key ts key
-  pub old : Some t.1 ≡ at_key ts key
+pub found_at : (es : List Entry) (key : List ℕ) (i : ℕ) (e : Entry) → position (bytes_eq key) (keys_of es) ≡ Some i → Some e ≡ slice_get es i → Some e.1 ≡ get_with_metadata (entry_members es) key
+found_at es key i e p at =
+    ap (option_map (λ (o : Entry). o.1)) at ∙ sym (slice_get-map (λ (o : Entry). o.1) es i) ∙ sym (Found-position (bytes_eq key) es i p).value ∙ get_is es key
 
-pub found_at : (ts : List Triple) (key : List ℕ) (i : ℕ) (t : Triple) → position (bytes_eq key) (keys_of ts) ≡ Some i → Some t ≡ slice_get ts i → Some t.1 ≡ at_key ts key
-found_at ts key i t p at =
-    ap (option_map (λ (s : Triple). s.1)) at ∙ sym (slice_get-map (λ (s : Triple). s.1) ts i) ∙ sym (Found-position (bytes_eq key) ts i p).value
+pub not_found : (es : List Entry) (key : List ℕ) → position (bytes_eq key) (keys_of es) ≡ None → get_with_metadata (entry_members es) key ≡ None
+not_found es key p = sym (get_is es key) ∙ (Missing-position (bytes_eq key) es p).value
 
-pub not_found : (ts : List Triple) (key : List ℕ) → position (bytes_eq key) (keys_of ts) ≡ None → at_key ts key ≡ None
-not_found ts key p = (Missing-position (bytes_eq key) ts p).value
-
-without_none : (ts : List Triple) (key : List ℕ) → at_key ts key ≡ None → without_key ts key ≡ ts
+without_none : (es : List Entry) (key : List ℕ) → lookup (bytes_eq key) es ≡ None → remove (entry_members es) key ≡ entry_members es
 without_none [] key h = refl
-without_none (s ∷ ts) key h =
+without_none (o ∷ es) key h =
+    let ms = entry_members es in
+    let m = entry_member o in
     ⊎_elim
-    (λ e. let i : Some s.1 ≡ None = sym (at_here (key, ([], [])) s ts e) ∙ h in absurd (cc))
-    (λ e. cond-false (bytes_eq key s.0) ts (s ∷ without_key ts key) e ∙ ap (λ (x : List Triple). s ∷ x) (without_none ts key (sym (at_later (key, ([], [])) s ts e) ∙ h)))
-    (cases_Bool (bytes_eq key s.0))
+    (λ t. let i : Some o.1 ≡ None = sym (cond-true (bytes_eq key o.0) (Some o.1) (lookup (bytes_eq key) es) t) ∙ h in absurd (cc))
+    (λ t.
+    cond-true (not (has_key key m)) (m ∷ remove ms key) (remove ms key) (ap not t)
+    ∙ ap (λ (x : List Member). m ∷ x) (without_none es key (sym (cond-false (bytes_eq key o.0) (Some o.1) (lookup (bytes_eq key) es) t) ∙ h)))
+    (cases_Bool (bytes_eq key o.0))
 
-pub not_removed : (ts : List Triple) (key : List ℕ) → position (bytes_eq key) (keys_of ts) ≡ None → ts ≡ without_key ts key
-not_removed ts key p = sym (without_none ts key (not_found ts key p))
+pub not_removed : (es : List Entry) (key : List ℕ) → position (bytes_eq key) (keys_of es) ≡ None → entry_members es ≡ remove (entry_members es) key
+not_removed es key p = sym (without_none es key (Missing-position (bytes_eq key) es p).value)
 
-pub removed : (ts us : List Triple) (key : List ℕ) (i : ℕ) (t : Triple) → IsBaggage ts → position (bytes_eq key) (keys_of ts) ≡ Some i → Some t ≡ slice_get ts i → us ≡ remove ts i → IsDistinct bytes_eq (keys_of us) → Removed ts us key t
-removed ts us key i t held p at e distinct =
-    let f = Found-position (bytes_eq key) ts i p in
-    let s : weight us + triple_weight t ≡ weight ts =
-    ap (λ l. weight l + triple_weight t) e ∙ ap (λ x. weight (remove ts i) + triple_weight x) (sym (get_or_from_slice_get ts i t t (sym at))) ∙ sum_by-remove triple_weight ts i t f.within in
-    let fewer : length (remove ts i) ≤ 64 = omega (arith, length-append (take i ts) (drop (suc i) ts), length-take i ts, length-drop (suc i) ts, held.few, f.within) in
+pub removed : (es fs : List Entry) (key : List ℕ) (i : ℕ) (e : Entry) → IsBaggage (entry_members es) → position (bytes_eq key) (keys_of es) ≡ Some i → Some e ≡ slice_get es i → fs ≡ remove_at es i
+    → IsDistinct bytes_eq (keys_of fs) → Removed (entry_members es) (entry_members fs) key (entry_member e)
+removed es fs key i e held p at is distinct =
+    let ms = entry_members es in
+    let m = entry_member e in
+    let f = Found-position (bytes_eq key) es i p in
+    let within : i < length ms = omega (arith, f.within, length-map es entry_member) in
+    let one : slice_get ms i ≡ Some m = slice_get-map entry_member es i ∙ ap (option_map entry_member) (sym at) in
+    let left : entry_members fs ≡ remove_at ms i = ap entry_members is ∙ map-remove entry_member es i in
+    let s : weight (entry_members fs) + weight_of m ≡ weight ms =
+    ap (λ l. weight l + weight_of m) left ∙ ap (λ x. weight (remove_at ms i) + weight_of x) (sym (get_or_from_slice_get ms i m m one)) ∙ sum_by-remove weight_of ms i m within in
+    let fewer : length (remove_at ms i) ≤ max_key_value_pairs = omega (arith, length-append (take i ms) (drop (suc i) ms), length-take i ms, length-drop (suc i) ms, held.few, within) in
     record {
-      baggage = subst IsBaggage (sym e) (record {
-        few = fewer;
-        distinct = subst (λ l. IsDistinct bytes_eq (keys_of l)) e distinct;
-        good = All-append IsGoodTriple (take i ts) (drop (suc i) ts) (All-take IsGoodTriple i ts held.good) (All-drop IsGoodTriple (suc i) ts held.good);
-        light = omega (arith, ap weight e, s, held.light);
-      });
+      baggage = record {
+        few = subst (λ (l : List Member). length l ≤ max_key_value_pairs) (sym left) fewer;
+        distinct = subst (IsDistinct bytes_eq) (sym (keys_are fs)) distinct;
+        valid = subst (All IsValidMember) (sym left) (All-append IsValidMember (take i ms) (drop (suc i) ms) (All-take IsValidMember i ms held.valid) (All-drop IsValidMember (suc i) ms held.valid));
+        light = omega (arith, s, held.light);
+      };
       sum = s;
-      list = e ∙ sym (remove_entry-first (bytes_eq key) ts i f.first);
-      old = found_at ts key i t p at;
+      list = ap entry_members (is ∙ sym (remove_entry-first (bytes_eq key) es i f.first)) ∙ remove_is es key held.distinct;
+      given = found_at es key i e p at;
     }

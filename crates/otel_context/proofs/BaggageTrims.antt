@@ -5,7 +5,7 @@ use Rattle.std.specs.Char.{is_whitespace}
 use Rattle.std.specs.Str.{IsUtf8, chars, encode_utf8_all, all_scalars, trim, trim_start, trim_end, skip_leading_whitespace as skip, drop_trailing_whitespace as shed}
 use Rattle.std.proofs.lemmas.Str.{chars-encodes}
 use Rattle.std.proofs.lemmas.Bool.{cases_Bool, and_parts, and_from, and_left, cond-true, cond-false}
-use Rattle.otel_context.specs.BaggageText.{IsCut}
+use Rattle.otel_context.specs.BaggageText.{IsTrimmed}
 
 skip_scalars : (cs : List ℕ) → all_scalars cs ≡ true → all_scalars (skip cs) ≡ true
 skip_scalars [] h = h
@@ -56,7 +56,7 @@ trim_encoded cs h =
     ∙ trim_end_is (encode_utf8_all (skip cs))
     ∙ ap (λ x. encode_utf8_all (shed x)) (chars-encodes (skip cs) (skip_scalars cs h))
 
-pub trim_twice : (bs : List ℕ) → IsUtf8 bs → IsCut (trim bs)
+pub trim_twice : (bs : List ℕ) → IsUtf8 bs → IsTrimmed (trim bs)
 trim_twice bs (cs, (h, e)) =
     let one : trim bs ≡ encode_utf8_all (shed (skip cs)) = ap trim (sym e) ∙ trim_encoded cs h in
     ap trim one
@@ -64,5 +64,5 @@ trim_twice bs (cs, (h, e)) =
     ∙ ap encode_utf8_all (ap shed (skip_shed cs) ∙ shed_twice (skip cs))
     ∙ sym one
 
-pub cut_nil : IsCut []
+pub cut_nil : IsTrimmed []
 cut_nil = trim_encoded [] refl

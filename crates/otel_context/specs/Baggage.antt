@@ -1,70 +1,94 @@
--- What a baggage is, a list of triples in the order in which their keys came, and what its calls do to that list.
-use Rattle.std.specs.Prelude.{◌≡◌, ℕ, ◌+◌, ◌≤◌, Bool, true, ◌&&◌, ◌||◌, nat_le, nat_lt, List, [], ◌∷◌, length, All, Option, None, if◌then◌else◌, codes, refl}
-use Rattle.std.specs.List.{IsDistinct, list_any, sum_by, fold}
-use Rattle.std.specs.Map.{keys_of, lookup, remove_entry}
+-- What a baggage is, a list of members in the order in which their keys came, and what its calls
+-- do to that list.
+use Rattle.std.specs.Prelude.{◌≡◌, ℕ, ◌≤◌, Bool, true, not, ◌&&◌, ◌||◌, nat_le, nat_lt, List, [], ◌∷◌, ◌++◌, length, map, filter, find, fold, sum_by, All, Option, None, option_map, Result, OnOk, OnErr, IfOk, if◌then◌else◌, codes, refl}
+use Rattle.std.specs.List.{IsDistinct, list_any}
 use Rattle.std.specs.Str.{bytes_eq}
-use Rattle.otel_context.specs.BaggageText.{is_key, IsCut}
+use Rattle.otel_context.specs.BaggageText.{is_key}
+use Rattle.otel_context.specs.BaggageMember.{Member, member_of, has_key, weight_of, IsValidMember}
 
--- A key, and its value with the metadata: three texts (the items of the Rust crate's `Baggage`).
-abbrev pub Triple : Type 0
-Triple = List ℕ × (List ℕ × List ℕ)
+-- The most members of a baggage (W3C baggage, "Limits"; the Rust crate's `MAX_KEY_VALUE_PAIRS`).
+abbrev pub max_key_value_pairs : ℕ
+max_key_value_pairs = 64
 
--- The bytes of a key, its value and its metadata (the Rust crate's `key_value_metadata_bytes_size`).
-abbrev pub triple_weight : Triple → ℕ
-triple_weight t = length t.0 + (length t.1.0 + length t.1.1)
+-- The most bytes of all its texts together (the same; the Rust crate's `MAX_LEN_OF_ALL_PAIRS`).
+abbrev pub max_len_of_all_pairs : ℕ
+max_len_of_all_pairs = 8192
 
--- The bytes of all that is held.
-abbrev pub weight : List Triple → ℕ
-weight ts = sum_by triple_weight ts
+-- The bytes of all the members.
+abbrev pub weight : List Member → ℕ
+weight ms = sum_by weight_of ms
 
--- What stands beside the key: its value and its metadata (the Rust crate's `get_with_metadata`).
-abbrev pub at_key : List Triple → List ℕ → Option (List ℕ × List ℕ)
-at_key ts key = lookup (bytes_eq key) ts
+-- What every baggage is: at most 64 valid members of distinct keys, and of at most 8192 bytes.
+pub record IsBaggage (ms : List Member) : Type 0 where
+  pub few : length ms ≤ max_key_value_pairs
+  pub distinct : IsDistinct bytes_eq (map (λ m. m.key) ms)
+  pub valid : All IsValidMember ms
+  pub light : weight ms ≤ max_len_of_all_pairs
 
--- Whether the key is present.
-abbrev pub has_key : List Triple → List ℕ → Bool
-has_key ts key = list_any (λ t. bytes_eq key t.0) ts
+-- The member of the key, where there is one.
+abbrev pub member_at : List Member → List ℕ → Option Member
+member_at ms key = find (has_key key) ms
 
--- The list with t in the place of the triple of its key, or else with t last (own: the Rust crate's map has no order).
-abbrev pub put : List Triple → Triple → List Triple
-put [] t = t ∷ []
-put (s ∷ ts) t = if bytes_eq t.0 s.0 then t ∷ ts else s ∷ put ts t
+-- The value of the key (the Rust crate's `get`).
+abbrev pub get : List Member → List ℕ → Option (List ℕ)
+get ms key = option_map (λ m. m.value) (member_at ms key)
 
-put_example : put ((codes "a", (codes "1", [])) ∷ (codes "b", (codes "2", [])) ∷ []) (codes "a", (codes "3", codes "m")) ≡ (codes "a", (codes "3", codes "m")) ∷ (codes "b", (codes "2", [])) ∷ []
+-- The value and the metadata of the key (the Rust crate's `get_with_metadata`).
+abbrev pub get_with_metadata : List Member → List ℕ → Option (List ℕ × List ℕ)
+get_with_metadata ms key = option_map (λ m. (m.value, m.metadata)) (member_at ms key)
+
+-- The list with m in the place of the member of its key, or else with m last.
+-- The order is own: the Rust crate's map has none.
+abbrev pub put : List Member → Member → List Member
+put ms m =
+    if list_any (has_key m.key) ms
+    then map (λ other. if has_key m.key other then m else other) ms
+    else (ms ++ m ∷ [])
+
+put_example : put (member_of (codes "a") (codes "1") [] ∷ member_of (codes "b") (codes "2") [] ∷ [])
+    (member_of (codes "a") (codes "3") (codes "m"))
+    ≡ member_of (codes "a") (codes "3") (codes "m") ∷ member_of (codes "b") (codes "2") [] ∷ []
 put_example = refl
 
--- Whether t may be put: at most 8192 bytes are held then, and a new key is valid and finds fewer than 64 triples
--- (the Rust crate's `insert_with_metadata`; the limits are those of W3C baggage).
-abbrev pub accepts : List Triple → Triple → Bool
-accepts ts t = nat_le (weight (put ts t)) 8192 && (has_key ts t.0 || (is_key t.0 && nat_lt (length ts) 64))
+-- Whether m may be put: the bytes are not too many then, and a new key is valid and finds fewer
+-- than 64 members. A present key isn't checked again (the Rust crate's `insert_with_metadata`).
+abbrev pub accepts : List Member → Member → Bool
+accepts ms m =
+    nat_le (weight (put ms m)) max_len_of_all_pairs
+    && (list_any (has_key m.key) ms || (is_key m.key && nat_lt (length ms) max_key_value_pairs))
 
--- What is held after t was offered: t is put where it is accepted, and else nothing changes.
-abbrev pub offered : List Triple → Triple → List Triple
-offered ts t = if accepts ts t then put ts t else ts
+-- The list after an insert of m: m is put where it is accepted, and else nothing changes (the
+-- Rust crate's `insert_with_metadata`, and `insert`, whose metadata is empty).
+abbrev pub insert : List Member → Member → List Member
+insert ms m = if accepts ms m then put ms m else ms
 
--- What t took the place of: nothing, where its key is new or t isn't accepted.
-abbrev pub replaced : List Triple → Triple → Option (List ℕ × List ℕ)
-replaced ts t = if accepts ts t then at_key ts t.0 else None
+-- What m takes the place of: nothing, where its key is new or m isn't accepted.
+abbrev pub replaced : List Member → Member → Option (List ℕ × List ℕ)
+replaced ms m = if accepts ms m then get_with_metadata ms m.key else None
 
--- What is held after each of them was offered in turn.
-abbrev pub offered_all : List Triple → List Triple → List Triple
-offered_all ts us = fold offered ts us
+-- The same, the value alone.
+abbrev pub replaced_value : List Member → Member → Option (List ℕ)
+replaced_value ms m = if accepts ms m then get ms m.key else None
 
-offered_example : offered_all [] ((codes "a", (codes "1", [])) ∷ (codes "a b", (codes "2", [])) ∷ (codes "c", (codes "3", [])) ∷ []) ≡ (codes "a", (codes "1", [])) ∷ (codes "c", (codes "3", [])) ∷ []
-offered_example = refl
+-- What the two inserts do to the list and return, where `given` is what m takes the place of.
+-- An error leaves the list, and comes only where m is accepted and its key is new.
+pub record Inserts {X E : Type 0} (old new : List Member) (m : Member) (given : X) (result : Result X E) : Type 0 where
+  pub ok : OnOk result (new ≡ insert old m)
+  pub returned : IfOk result (λ x. x ≡ given)
+  pub err : OnErr result (new ≡ old)
+  pub err_accepted : OnErr result (accepts old m ≡ true)
+  pub err_new : OnErr result (member_at old m.key ≡ None)
 
--- The others, in their order, without the triple of the key (the Rust crate's `remove`).
-abbrev pub without_key : List Triple → List ℕ → List Triple
-without_key ts key = remove_entry (bytes_eq key) ts
+-- The others, in their order (the Rust crate's `remove`).
+abbrev pub remove : List Member → List ℕ → List Member
+remove ms key = filter (λ m. not (has_key key m)) ms
 
--- A triple with a valid key, and with metadata that has no white space at its ends.
-abbrev pub IsGoodTriple : Triple → Type 0
-IsGoodTriple t = (is_key t.0 ≡ true) × IsCut t.1.1
+-- The list after each of them is inserted in turn into the empty one (the Rust crate's
+-- `FromIterator` of `Baggage`).
+abbrev pub from_members : List Member → List Member
+from_members ms = fold insert [] ms
 
--- What every baggage is: at most 64 triples, of distinct keys, each good, of at most 8192 bytes
--- (the limits of W3C baggage, which the Rust crate keeps).
-pub record IsBaggage (ts : List Triple) : Type 0 where
-  pub few : length ts ≤ 64
-  pub distinct : IsDistinct bytes_eq (keys_of ts)
-  pub good : All IsGoodTriple ts
-  pub light : weight ts ≤ 8192
+from_members_example : from_members (member_of (codes "a") (codes "1") []
+    ∷ member_of (codes "a b") (codes "2") [] ∷ member_of (codes "c") (codes "3") [] ∷ [])
+    ≡ member_of (codes "a") (codes "1") [] ∷ member_of (codes "c") (codes "3") [] ∷ []
+from_members_example = refl

@@ -1,19 +1,21 @@
--- What a header tells of its baggage.
+-- What the header of a baggage says of its members.
 use Rattle.std.specs.Prelude.{◌≡◌, ◌≤◌, true, not, ◌==◌, List, length, All}
 use Rattle.std.specs.List.{list_all}
-use Rattle.otel_context.specs.Baggage.{Triple, IsBaggage}
-use Rattle.otel_context.specs.BaggageHeader.{header}
+use Rattle.otel_context.specs.BaggageMember.{Member}
+use Rattle.otel_context.specs.Baggage.{IsBaggage}
+use Rattle.otel_context.specs.BaggageHeader.{header, max_len_of_header}
 
 -- The metadata holds no `,` (44).
-abbrev pub HasNoComma : Triple → Type 0
-HasNoComma t = list_all (λ b. not (b == 44)) t.1.1 ≡ true
+abbrev pub HasNoComma : Member → Type 0
+HasNoComma m = list_all (λ b. not (b == 44)) m.metadata ≡ true
 
--- Baggages of equal headers are of equal lists, where no metadata holds a comma (own).
+-- Baggages of equal headers have equal members, where no metadata holds a comma (own).
 -- That is needed: `a` with the value `1` and the metadata `x,b=2` has the header `a=1;x,b=2`,
 -- and so has `a` with `1` and `x`, followed by `b` with `2`.
-abbrev pub HeaderTells : Type 0
-HeaderTells = (xs ys : List Triple) → IsBaggage xs → IsBaggage ys → All HasNoComma xs → All HasNoComma ys → header xs ≡ header ys → xs ≡ ys
+abbrev pub HeaderDetermines : Type 0
+HeaderDetermines = (xs ys : List Member) → IsBaggage xs → IsBaggage ys
+    → All HasNoComma xs → All HasNoComma ys → header xs ≡ header ys → xs ≡ ys
 
--- A header has at most 24575 bytes, which is 3 * 8192 - 1 (own): `k` with a value of 8191 spaces has as many.
+-- No header is longer than that (own): `k` with a value of 8191 spaces has as many bytes.
 abbrev pub HeaderIsShort : Type 0
-HeaderIsShort = (ts : List Triple) → IsBaggage ts → length (header ts) ≤ 24575
+HeaderIsShort = (ms : List Member) → IsBaggage ms → length (header ms) ≤ max_len_of_header

@@ -1,6 +1,7 @@
 -- The texts of a baggage: which keys and which metadata it holds, and how a value is escaped.
-use Rattle.std.specs.Prelude.{◌≡◌, ℕ, ◌+◌, ◌/◌, ◌%◌, Bool, true, false, not, ◌&&◌, ◌||◌, ◌==◌, nat_le, nat_lt, List, [], ◌∷◌, codes, if◌then◌else◌, refl}
+use Rattle.std.specs.Prelude.{◌≡◌, ℕ, ◌/◌, ◌%◌, Bool, true, false, not, ◌&&◌, ◌||◌, ◌==◌, nat_le, nat_lt, List, [], ◌∷◌, length, codes, if◌then◌else◌, refl}
 use Rattle.std.specs.List.{list_all, list_any, flat_map}
+use Rattle.std.specs.Fmt.{digit_glyph}
 use Rattle.std.specs.Str.{trim}
 
 -- A delimiter: one of the visible ASCII characters that stand in no token (RFC 7230, section 3.2.6).
@@ -11,14 +12,9 @@ is_delimiter b = list_any (λ d. d == b) (codes "(),/:;<=>?@[\\]{}\"")
 abbrev pub is_key_byte : ℕ → Bool
 is_key_byte b = nat_le 33 b && (nat_le b 126 && not (is_delimiter b))
 
--- A text of at least one byte (own).
-abbrev pub is_some_text : List ℕ → Bool
-is_some_text [] = false
-is_some_text (b ∷ bs) = true
-
 -- A key is a token: one or more such bytes (W3C baggage, `key`; the Rust crate's `is_key_valid`).
 abbrev pub is_key : List ℕ → Bool
-is_key bs = is_some_text bs && list_all is_key_byte bs
+is_key bs = nat_lt 0 (length bs) && list_all is_key_byte bs
 
 key_example : is_key (codes "user-id") ≡ true
 key_example = refl
@@ -28,20 +24,22 @@ no_key_example = refl
 
 -- No Unicode white space stands at either end (the Rust crate's `From<&str>` of `BaggageMetadata`).
 -- `a=1; b` is such a text, and the empty text; ` a` and `a ` are none.
-abbrev pub IsCut : List ℕ → Type 0
-IsCut bs = trim bs ≡ bs
+abbrev pub IsTrimmed : List ℕ → Type 0
+IsTrimmed bs = trim bs ≡ bs
 
 -- A byte that stands for itself: A-Z, a-z, 0-9 and . - _ ~ (RFC 3986, section 2.3, `unreserved`).
 abbrev pub is_unreserved : ℕ → Bool
-is_unreserved b = (nat_le 65 b && nat_le b 90) || ((nat_le 97 b && nat_le b 122) || ((nat_le 48 b && nat_le b 57) || ((b == 46 || b == 45) || (b == 95 || b == 126))))
+is_unreserved b =
+    (nat_le 65 b && nat_le b 90) || ((nat_le 97 b && nat_le b 122) || ((nat_le 48 b && nat_le b 57)
+    || ((b == 46 || b == 45) || (b == 95 || b == 126))))
 
--- The capital hexadecimal digit of a number below 16: 0-9 (from 48 on), then A-F (from 65 on).
-abbrev pub digit_text : ℕ → ℕ
-digit_text d = if nat_lt d 10 then 48 + d else 55 + d
+-- `%` (37) and the two hexadecimal digits of a byte, in capitals (RFC 3986, section 2.1).
+abbrev pub escape : ℕ → List ℕ
+escape b = 37 ∷ digit_glyph true (b / 16) ∷ digit_glyph true (b % 16) ∷ []
 
--- A byte as it is, or as `%` (37) and its two digits (RFC 3986, section 2.1).
+-- A byte as it is, or its escape.
 abbrev pub escaped_byte : ℕ → List ℕ
-escaped_byte b = if is_unreserved b then b ∷ [] else 37 ∷ digit_text (b / 16) ∷ digit_text (b % 16) ∷ []
+escaped_byte b = if is_unreserved b then b ∷ [] else escape b
 
 -- A value with each byte escaped by itself (the Rust crate's `encode`).
 abbrev pub escaped : List ℕ → List ℕ

@@ -7,7 +7,7 @@ use Rattle.std.specs.Cmp.Lexicographic.{slice_cmp}
 use Rattle.std.specs.FinMap as map
 use Rattle.otel_ids.specs.SpanContext.{SpanContextRecord, no_span_context}
 use Rattle.otel_base.specs.AnyValue.{Tree}
-use Rattle.otel_context.specs.Baggage.{Triple}
+use Rattle.otel_context.specs.BaggageMember.{Member}
 
 -- a finite map from texts, in the order of their bytes, to value trees
 -- (not in the Rust crate, whose map goes from types to values of any type)
@@ -24,7 +24,7 @@ pub record SpanPart : Type 0 where
 -- (the Rust crate's `Context`). Without a baggage, `None` stands for the empty one.
 pub record ContextRecord : Type 0 where
   pub entries : EntryMap
-  pub baggage : Option (List Triple)
+  pub baggage : Option (List Member)
   pub span : Option SpanPart
   pub suppressed : Bool
 
@@ -41,8 +41,8 @@ abbrev pub with_value : ContextRecord → List ℕ → Tree → ContextRecord
 with_value context key value = record context { entries = map.insert context.entries key value }
 
 -- the same context, with that baggage (`Context::with_baggage`)
-abbrev pub with_baggage : ContextRecord → List Triple → ContextRecord
-with_baggage context triples = record context { baggage = Some triples }
+abbrev pub with_baggage : ContextRecord → List Member → ContextRecord
+with_baggage context members = record context { baggage = Some members }
 
 -- the same context, without baggage (`Context::with_cleared_baggage`)
 abbrev pub with_cleared_baggage : ContextRecord → ContextRecord

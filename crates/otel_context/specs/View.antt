@@ -13,7 +13,7 @@ use Rattle.otel_ids.specs.View.{span_context_code}
 use Rattle.otel_base.specs.AnyValue.{Tree}
 use Rattle.otel_base.specs.View.{tree_code}
 use Rattle.otel_base.specs.View.{tree}
-use Rattle.otel_context.specs.Baggage.{Triple}
+use Rattle.otel_context.specs.BaggageMember.{Member, member_code}
 use Rattle.otel_context.specs.Context.{EntryMap, SpanPart, ContextRecord, empty_context}
 use Rattle.otel_context.specs.Slots.{SlotsState}
 use Rattle.otel_context.specs.Stack.{Live, StackState}
@@ -49,9 +49,9 @@ record_of (Some parts) = parts.value
 abbrev pub entries_code : Coded EntryMap
 entries_code = code (coded_list coded_ℕ) tree_code
 
--- a code of lists of triples
-abbrev pub triples_code : Coded (List Triple)
-triples_code = coded_list (coded× (coded_list coded_ℕ) (coded× (coded_list coded_ℕ) (coded_list coded_ℕ)))
+-- a code of lists of members of a baggage
+abbrev pub members_code : Coded (List Member)
+members_code = coded_list member_code
 
 -- a code of active spans: that of the pair of their two fields
 abbrev pub span_part_code : Coded SpanPart
@@ -63,9 +63,9 @@ span_part_code = code_by (SpanContextRecord × Option ℕ)
 
 -- a code of contexts: that of the tuple of their four parts
 abbrev pub context_code : Coded ContextRecord
-context_code = code_by (EntryMap × (Option (List Triple) × (Option SpanPart × Bool)))
+context_code = code_by (EntryMap × (Option (List Member) × (Option SpanPart × Bool)))
     (coded× entries_code
-    (coded× (coded_option triples_code) (coded× (coded_option span_part_code) coded_bool)))
+    (coded× (coded_option members_code) (coded× (coded_option span_part_code) coded_bool)))
     (λ c. (c.entries, (c.baggage, (c.span, c.suppressed))))
     (λ p. record { entries = p.0; baggage = p.1.0; span = p.1.1.0; suppressed = p.1.1.1 })
     (λ _. refl)

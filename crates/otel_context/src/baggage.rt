@@ -1,15 +1,17 @@
 //! Baggage: named values that travel with a request, in the order in which their names came.
 //!
-//! A baggage is seen as a list of triples: key, value and metadata. It holds at most 64 of them,
-//! of distinct keys, and at most 8192 bytes in all (the limits of W3C baggage).
-ghost use Rattle.std.specs.Prelude.{◌≡◌, ℕ, List, [], length, position, map as map_list, Some, None, true, IfOk, OnOk, OnErr, IsTrue, ◌↔◌};
+//! A contract sees a baggage as the list of its members, each a key with its value and its metadata
+//! (W3C baggage, `list-member`): at most 64 of distinct keys, and at most 8192 bytes in all.
+ghost use Rattle.std.specs.Prelude.{◌≡◌, List, [], length, position, map as map_list, Some, IfOk, IsTrue, ◌↔◌};
 ghost use Rattle.std.specs.Map.{keys_of};
+ghost use Rattle.std.specs.Map.Iter.{ShowsInOrder};
+ghost use Rattle.std.specs.Option.{option_copied};
 ghost use Rattle.std.specs.Str.{bytes_eq};
-ghost use Rattle.std.specs.Option.{option_copied, option_map};
-ghost use Rattle.std.specs.Map.Iter.{ShowsInOrder, deref_pair};
-ghost use Rattle.otel_context.specs.Baggage.{offered, replaced, without_key, at_key, accepts, IsBaggage, offered_all};
-ghost use Rattle.otel_context.specs.BaggageAttribute.{plain_triple};
+ghost use Rattle.otel_context.specs.Baggage.{get, get_with_metadata, Inserts, replaced, replaced_value, remove, from_members, IsBaggage};
 ghost use Rattle.otel_context.specs.BaggageHeader.{header};
+ghost use Rattle.otel_context.specs.BaggageMember.{member_of};
+ghost use Rattle.otel_context.specs.BaggageView.{entry_members, lent_member};
+ghost use Rattle.otel_context.specs.KeyValueMetadata.{from_key_value};
 
 mod header;
 mod key;
@@ -27,29 +29,33 @@ use std::marker::Model;
 
 /// A list of keys, each with a value and metadata, in the order in which the keys came.
 ///
-/// At most 64 triples are held, of distinct keys, and all their texts have at most 8192 bytes in all.
-/// A key is one or more of the ASCII characters `!` to `~`, without the delimiters `(),/:;<=>?@[\]{}"`
-/// (RFC 7230, section 3.2.6).
+/// It has at most 64 members, of distinct keys, and all their texts have at most 8192 bytes together.
+/// A key is one or more of the ASCII characters `!` to `~`, without the delimiters
+/// `(),/:;<=>?@[\]{}"` (RFC 7230, section 3.2.6).
 ///
-/// It prints as the value of a `baggage` header (W3C baggage): for each triple the key, `=` and the value,
-/// in which each byte but A-Z, a-z, 0-9 and `.` `-` `_` `~` is written as `%` and two hexadecimal digits,
-/// then `;` and the metadata where there is some; the triples are joined by `,`. Metadata is printed as it is.
+/// It prints as the value of a `baggage` header (W3C baggage): for each member the key, `=` and the
+/// value, in which each byte but A-Z, a-z, 0-9 and `.` `-` `_` `~` is written as `%` and two
+/// hexadecimal digits, then `;` and the metadata where there is some; the members are joined by
+/// `,`. Metadata is printed as it is.
 #[derive(Debug, Drop)]
 pub struct Baggage {
     inner: IndexMap<Key, (StringValue, BaggageMetadata)>,
-    // The bytes of all that `inner` holds.
+    // The bytes of all texts in `inner`.
     content_len: usize,
 }
 
 impl Model for Baggage {
     ghost use Rattle.std.specs.Prelude.{◌≡◌, List};
-    ghost use Rattle.otel_context.specs.Baggage.{Triple, IsBaggage, weight};
+    ghost use Rattle.otel_context.specs.Baggage.{IsBaggage, weight};
+    ghost use Rattle.otel_context.specs.BaggageMember.{Member};
+    ghost use Rattle.otel_context.specs.BaggageView.{entry_members};
 
-    ghost Value = { List Triple };
+    ghost Value = { List Member };
 
-    ghost view = { λ b. b.inner.entries };
+    ghost view = { λ b. entry_members b.inner.entries };
 
-    ghost invariant = { λ b. IsBaggage b.inner.entries × (b.content_len ≡ weight b.inner.entries) };
+    ghost invariant = { λ b. IsBaggage (entry_members b.inner.entries)
+        × (b.content_len ≡ weight (entry_members b.inner.entries)) };
 }
 
 impl Baggage {
@@ -63,44 +69,43 @@ impl Baggage {
         }
     }
 
-    /// The value of the key, or `None` where the key isn't held. It compares at most 64 keys, and takes no memory.
+    /// The value of the key, or `None` where no member has the key.
+    ///
+    /// It compares at most 64 keys, and takes no memory.
     pub fn get(&self, key: &str) -> Option<&StringValue>
-        ensures { option_copied result ≡ option_map (λ pair. pair.0) (at_key self.now key.now) }
+        ensures { option_copied result ≡ get self.now key.now }
     {
         let (value, _) = self.get_with_metadata(key)?;
         Some(value)
     }
 
-    /// The value and the metadata of the key, or `None` where the key isn't held. It compares at most 64 keys, and takes no memory.
+    /// The value and the metadata of the key, or `None` where no member has the key.
+    ///
+    /// It compares at most 64 keys, and takes no memory.
     pub fn get_with_metadata(&self, key: &str) -> Option<&(StringValue, BaggageMetadata)>
-        ensures { option_copied result ≡ at_key self.now key.now }
+        ensures { option_copied result ≡ get_with_metadata self.now key.now }
     {
         let index = index_of(&self.inner, key)?;
         let (_, pair) = self.inner.get_index(index)?;
         Some(pair)
     }
 
-    /// Puts the value with empty metadata, and gives the value that it took the place of.
+    /// Sets the value of the key, with empty metadata, and returns the value that it replaces.
     ///
-    /// It returns `None` for a new key, and also where the triple isn't accepted,
-    /// as [`insert_with_metadata`](Self::insert_with_metadata) says; the baggage is then unchanged.
+    /// It returns `None` for a new key, and also where the member isn't accepted, as
+    /// [`insert_with_metadata`](Self::insert_with_metadata) says; the baggage is then unchanged.
     ///
     /// # Errors
     ///
-    /// `AllocError` where a request for memory fails, which comes only for a new key that is accepted. The baggage stays;
-    /// what was handed in is dropped.
+    /// `AllocError` where a request for memory fails, which comes only for a new key that is
+    /// accepted. The baggage is unchanged; what was handed in is dropped.
     pub fn insert(
         &mut self,
         key: Key,
         value: StringValue,
     ) -> Result<Option<StringValue>, AllocError>
-        ensures list { OnOk result (self.new ≡ offered self.old (key, (value, []))) }
-        ensures old { IfOk result
-            (λ old. old ≡ option_map (λ pair. pair.0) (replaced self.old (key, (value, [])))) }
-
-        ensures err { OnErr result (self.new ≡ self.old) }
-        ensures err_accepted { OnErr result (accepts self.old (key, (value, [])) ≡ true) }
-        ensures err_new { OnErr result (at_key self.old key ≡ None) }
+        ensures { let m = member_of key value [] in
+            Inserts self.old self.new m (replaced_value self.old m) result }
     {
         match self.insert_with_metadata(key, value, BaggageMetadata::default())? {
             Some((value, _)) => Ok(Some(value)),
@@ -108,29 +113,25 @@ impl Baggage {
         }
     }
 
-    /// Puts the triple, and gives the value and the metadata that it took the place of.
+    /// Sets the value and the metadata of the key, and returns those that they replace.
     ///
-    /// A present key keeps its place, and isn't checked again; a new key goes last. The triple is accepted where
-    /// at most 8192 bytes are held then, the old ones of its key taken off, and where a new key is valid
-    /// and fewer than 64 triples are held. It returns `None` for a new key, and also where the triple
-    /// isn't accepted; the baggage is then unchanged.
+    /// A present key keeps its place, and isn't checked again; a new key goes last. The member is
+    /// accepted where all texts have at most 8192 bytes then, those that it replaces not counted,
+    /// and where a new key is valid and finds fewer than 64 members. It returns `None` for a new
+    /// key, and also where the member isn't accepted; the baggage is then unchanged.
     ///
     /// # Errors
     ///
-    /// `AllocError` where a request for memory fails, which comes only for a new key that is accepted. The baggage stays;
-    /// what was handed in is dropped.
+    /// `AllocError` where a request for memory fails, which comes only for a new key that is
+    /// accepted. The baggage is unchanged; what was handed in is dropped.
     pub fn insert_with_metadata(
         &mut self,
         key: Key,
         value: StringValue,
         metadata: BaggageMetadata,
     ) -> Result<Option<(StringValue, BaggageMetadata)>, AllocError>
-        ensures list { OnOk result (self.new ≡ offered self.old (key, (value, metadata))) }
-        ensures old { IfOk result (λ old. old ≡ replaced self.old (key, (value, metadata))) }
-
-        ensures err { OnErr result (self.new ≡ self.old) }
-        ensures err_accepted { OnErr result (accepts self.old (key, (value, metadata)) ≡ true) }
-        ensures err_new { OnErr result (at_key self.old key ≡ None) }
+        ensures { let m = member_of key value metadata in
+            Inserts self.old self.new m (replaced self.old m) result }
     {
         let Some(total) = weight_after(&self.inner, self.content_len, &key, &value, &metadata)
         else {
@@ -141,12 +142,14 @@ impl Baggage {
         Ok(old)
     }
 
-    /// Takes the triple of the key out, and gives its value and metadata, or `None` where the key isn't held.
+    /// Removes the member of the key, and returns its value and metadata, or `None` where no member
+    /// has the key.
     ///
-    /// The others keep their order, and the bytes of the triple are free again. It takes no memory.
+    /// The others keep their order, and the bytes of the member don't count any more. It compares at
+    /// most 64 keys, and takes no memory.
     pub fn remove(&mut self, key: &str) -> Option<(StringValue, BaggageMetadata)>
-        ensures list { self.new ≡ without_key self.old key.now }
-        ensures old { result ≡ at_key self.old key.now }
+        ensures list { self.new ≡ remove self.old key.now }
+        ensures old { result ≡ get_with_metadata self.old key.now }
     {
         let index = index_of(&self.inner, key)?;
         let (name, pair) = self.inner.shift_remove_index(index)?;
@@ -154,7 +157,7 @@ impl Baggage {
         Some(pair)
     }
 
-    /// How many triples are held: at most 64.
+    /// How many members there are: at most 64.
     pub fn len(&self) -> usize
         ensures len { result ≡ length self.now }
         ensures baggage { IsBaggage self.now }
@@ -162,7 +165,7 @@ impl Baggage {
         self.inner.len()
     }
 
-    /// Whether no triple is held.
+    /// Whether there is no member.
     pub fn is_empty(&self) -> bool
         ensures empty { IsTrue result ↔ (self.now ≡ []) }
         ensures baggage { IsBaggage self.now }
@@ -170,74 +173,88 @@ impl Baggage {
         self.inner.is_empty()
     }
 
-    /// The triples in order, each as its key beside its value and metadata. It takes no memory.
+    /// The members in order, each as its key beside its value and metadata. It takes no memory.
     pub fn iter(&self) -> Iter<'_>
         ensures list { result ≡ self.now }
         ensures baggage { IsBaggage self.now }
-        ensures runs { ShowsInOrder (deref_pair {K = List ℕ} {X = List ℕ × List ℕ}) }
+        ensures runs { ShowsInOrder lent_member }
     {
         Iter {
             entries: self.inner.iter(),
         }
     }
 
-    /// The baggage of these triples, inserted in order into the empty one. What isn't accepted is left out.
+    /// The baggage of these members, inserted in order into the empty one. What isn't accepted is left
+    /// out.
     ///
     /// # Errors
     ///
-    /// `AllocError` at the first request for memory that fails. What was inserted until then is dropped.
+    /// `AllocError` at the first request for memory that fails. All that was inserted is dropped.
     pub fn from_pairs(
         alloc: Global,
-        pairs: Vec<(Key, (StringValue, BaggageMetadata))>,
+        members: Vec<(Key, (StringValue, BaggageMetadata))>,
     ) -> Result<Baggage, AllocError>
-        ensures { IfOk result (λ baggage. baggage ≡ offered_all [] pairs.items) }
+        ensures { IfOk result (λ b. b ≡ from_members (entry_members members.items)) }
     {
         let mut baggage = Baggage::new(alloc);
-        for (key, (value, metadata)) in pairs {
+        for (key, (value, metadata)) in members {
             drop(baggage.insert_with_metadata(key, value, metadata)?);
         }
         Ok(baggage)
     }
 
-    /// The baggage of these attributes, inserted in order into the empty one, each with the printed text of its value
-    /// and no metadata. What isn't accepted is left out.
+    /// The baggage of these attributes, inserted in order into the empty one, each with the printed
+    /// text of its value and no metadata. What isn't accepted is left out.
     ///
     /// # Errors
     ///
-    /// `AllocError` at the first request for memory that fails. What was inserted until then is dropped.
-    pub fn from_key_values(alloc: Global, pairs: Vec<KeyValue>) -> Result<Baggage, AllocError>
-        ensures { IfOk result (λ baggage. baggage ≡ offered_all [] (map_list plain_triple pairs.items)) }
+    /// `AllocError` at the first request for memory that fails. All that was inserted is dropped.
+    pub fn from_key_values(alloc: Global, attributes: Vec<KeyValue>) -> Result<Baggage, AllocError>
+        ensures { IfOk result (λ b. b ≡ from_members (map_list from_key_value attributes.items)) }
     {
         let mut baggage = Baggage::new(alloc);
-        for pair in pairs {
-            let triple = KeyValueMetadata::from_key_value(alloc, pair)?;
-            let (key, (value, metadata)) = triple.into_parts();
-            drop(baggage.insert_with_metadata(key, value, metadata)?);
+        for attribute in attributes {
+            let member = KeyValueMetadata::from_key_value(alloc, attribute)?;
+            drop(baggage.insert_member(member)?);
         }
         Ok(baggage)
     }
 
-    /// The baggage of these triples, inserted in order into the empty one. What isn't accepted is left out.
+    /// The baggage of these members, inserted in order into the empty one. What isn't accepted is left
+    /// out.
     ///
     /// # Errors
     ///
-    /// `AllocError` at the first request for memory that fails. What was inserted until then is dropped.
+    /// `AllocError` at the first request for memory that fails. All that was inserted is dropped.
     pub fn from_key_values_with_metadata(
         alloc: Global,
-        pairs: Vec<KeyValueMetadata>,
+        members: Vec<KeyValueMetadata>,
     ) -> Result<Baggage, AllocError>
-        ensures { IfOk result (λ baggage. baggage ≡ offered_all [] pairs.items) }
+        ensures { IfOk result (λ b. b ≡ from_members members.items) }
     {
         let mut baggage = Baggage::new(alloc);
-        for pair in pairs {
-            let (key, (value, metadata)) = pair.into_parts();
-            drop(baggage.insert_with_metadata(key, value, metadata)?);
+        for member in members {
+            drop(baggage.insert_member(member)?);
         }
         Ok(baggage)
+    }
+
+    fn insert_member(
+        &mut self,
+        member: KeyValueMetadata,
+    ) -> Result<Option<(StringValue, BaggageMetadata)>, AllocError>
+        ensures { Inserts self.old self.new member (replaced self.old member) result }
+    {
+        let KeyValueMetadata {
+            key,
+            value,
+            metadata,
+        } = member;
+        self.insert_with_metadata(key, value, metadata)
     }
 }
 
-/// Where the key stands.
+/// The position of the key, where it is there. A key of another length is passed over at once.
 fn index_of(held: &IndexMap<Key, (StringValue, BaggageMetadata)>, key: &str) -> Option<usize>
     ensures { result ≡ position (bytes_eq key.now) (keys_of held.now.entries) }
 {
@@ -260,13 +277,14 @@ impl<'a> IntoIterator for &'a Baggage {
 
     type IntoIter = Iter<'a>;
 
-    /// The triples in order, as [`Baggage::iter`] gives them.
+    /// The members in order, as [`Baggage::iter`] gives them.
     fn into_iter(self) -> Iter<'a> {
         self.iter()
     }
 }
 
-/// The triples of a [`Baggage`], in order, each once. A contract sees it as the list of those that are left.
+/// The members of a [`Baggage`], in order, each once. A contract sees it as the list of those that
+/// are left.
 #[derive(Debug, Drop)]
 pub struct Iter<'a> {
     entries: map::Iter<'a, Key, (StringValue, BaggageMetadata)>,
@@ -274,31 +292,33 @@ pub struct Iter<'a> {
 
 impl<'a> Model for Iter<'a> {
     ghost use Rattle.std.specs.Prelude.{List};
-    ghost use Rattle.otel_context.specs.Baggage.{Triple};
+    ghost use Rattle.otel_context.specs.BaggageMember.{Member};
+    ghost use Rattle.otel_context.specs.BaggageView.{entry_members};
 
-    ghost Value = { List Triple };
+    ghost Value = { List Member };
 
-    ghost view = { λ i. i.entries };
+    ghost view = { λ i. entry_members i.entries };
 }
 
 impl<'a> Iterator for Iter<'a> {
     ghost use Rattle.std.specs.Prelude.{◌≡◌, length, Some, IfSome};
     ghost use Rattle.std.specs.Iterator.{at_most, UpTo};
     ghost use Rattle.std.specs.Iterator.SizeHint.{IsWithinCount};
-    ghost use Rattle.std.specs.Map.Iter.{TakesFirst, deref_pair};
+    ghost use Rattle.std.specs.Map.Iter.{TakesFirst};
+    ghost use Rattle.otel_context.specs.BaggageView.{lent_member};
 
     type Item = (&'a Key, &'a (StringValue, BaggageMetadata));
 
-    ghost next_gives = { TakesFirst deref_pair };
+    ghost next_gives = { TakesFirst lent_member };
 
     ghost remaining = { λ s. at_most (length s) };
 
-    /// The first triple that is left, or `None` where none is.
+    /// The first member that is left, or `None` where none is.
     fn next(&mut self) -> Option<(&'a Key, &'a (StringValue, BaggageMetadata))> {
         self.entries.next()
     }
 
-    /// How many triples are left, exactly.
+    /// How many members are left, exactly.
     fn size_hint(&self) -> (usize, Option<usize>)
         ensures lower { IsWithinCount result.0 (at_most (length self.now)) }
         ensures upper { IfSome result.1 (UpTo (at_most (length self.now))) }

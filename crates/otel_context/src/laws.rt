@@ -1,15 +1,14 @@
 //! Laws of what the crate's types mean, each the contract of a function that does nothing.
-ghost use Rattle.otel_context.specs.BaggageLaws.{HeaderTells, HeaderIsShort};
+ghost use Rattle.otel_context.specs.BaggageLaws.{HeaderDetermines, HeaderIsShort};
 ghost use Rattle.otel_context.specs.StackLaws.{DetachRestores, AttachIsCurrent, AttachLeavesAll};
 ghost use Rattle.otel_context.specs.StackLaws.{RemovalLeavesOthers, RemovalKeepsOrder};
 
-/// What the header of a baggage says of its triples, for a caller to cite. Not in the Rust crate.
+/// What the header of a baggage says of its members, for a caller to cite. Not in the Rust crate.
 ///
-/// - Where no metadata holds a comma, baggages that print equal headers hold equal lists of
-///   triples.
+/// - Where no metadata holds a comma, baggages that print equal headers have equal members.
 /// - A header has at most 24575 bytes.
 pub fn header_reading()
-    ensures tells { HeaderTells }
+    ensures determines { HeaderDetermines }
     ensures short { HeaderIsShort }
 {}
 

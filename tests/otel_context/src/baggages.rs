@@ -11,7 +11,7 @@ use std::alloc::{AllocError, Global};
 /// A key, a value and the metadata as they are given.
 type Given = (&'static str, &'static str, &'static str);
 
-/// Offers one triple.
+/// Inserts one member.
 fn offer(baggage: &mut Baggage, given: Given, alloc: Global) -> Result<(), AllocError> {
     let (key, value, metadata) = given;
     let metadata = BaggageMetadata::new(alloc, metadata)?;
@@ -19,7 +19,7 @@ fn offer(baggage: &mut Baggage, given: Given, alloc: Global) -> Result<(), Alloc
     Ok(())
 }
 
-/// The baggage after each of the triples was offered in turn.
+/// The baggage after an insert of each member in turn.
 fn baggage_of(alloc: Global, givens: &[Given]) -> Result<Baggage, AllocError> {
     let mut baggage = Baggage::new(alloc);
     for given in givens {

@@ -2,8 +2,9 @@
 ghost use Rattle.std.specs.Prelude.{◌≡◌};
 ghost use Rattle.std.specs.Fmt.{WritesOnOk};
 ghost use Rattle.percent_encoding.specs.Iter.{encoded_text};
+ghost use Rattle.otel_context.specs.BaggageHeader.{header, member_text};
 ghost use Rattle.otel_context.specs.BaggageText.{escaped};
-ghost use Rattle.otel_context.specs.BaggageHeader.{member, header};
+ghost use Rattle.otel_context.specs.BaggageView.{entry_member, entry_members};
 
 use super::metadata::BaggageMetadata;
 use indexmap::IndexMap;
@@ -31,7 +32,8 @@ fn write_member<W: fmt::Write>(
     pair: &(StringValue, BaggageMetadata),
     f: &mut fmt::Formatter<W>,
 ) -> fmt::Result
-    ensures { WritesOnOk W.write_str_gives f.old result (member (key.now, pair.now)) f.new }
+    ensures { let m = entry_member (key.now, pair.now) in
+        WritesOnOk W.write_str_gives f.old result (member_text m) f.new }
 {
     let value = encode(pair.0.as_str());
     let metadata = pair.1.as_str();
@@ -47,7 +49,8 @@ pub(super) fn write_header<W: fmt::Write>(
     held: &IndexMap<Key, (StringValue, BaggageMetadata)>,
     f: &mut fmt::Formatter<W>,
 ) -> fmt::Result
-    ensures { WritesOnOk W.write_str_gives f.old result (header held.now.entries) f.new }
+    ensures { let ms = entry_members held.now.entries in
+        WritesOnOk W.write_str_gives f.old result (header ms) f.new }
 {
     let mut comma = "";
     for (key, pair) in held.iter() {

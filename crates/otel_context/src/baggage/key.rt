@@ -24,7 +24,7 @@ fn are_key_bytes(key: &str) -> bool
     key.as_bytes().iter().all(|byte| is_key_byte(*byte))
 }
 
-/// Whether a new key may be put: one or more visible ASCII characters, and no delimiter.
+/// Whether a new key may be inserted: one or more visible ASCII characters, and no delimiter.
 pub(super) fn is_key_valid(key: &str) -> bool
     ensures { result ≡ is_key key.now }
 {

@@ -3,8 +3,9 @@ ghost use Rattle.std.specs.Prelude.{◌≡◌, [], IfOk, IsOk, IsTrue, Some};
 ghost use Rattle.std.specs.Str.{trim};
 ghost use Rattle.otel_base.specs.Value.{is_text};
 ghost use Rattle.otel_base.specs.View.{value_of};
-ghost use Rattle.otel_context.specs.BaggageAttribute.{plain_triple};
-ghost use Rattle.otel_context.specs.BaggageText.{IsCut};
+ghost use Rattle.otel_context.specs.BaggageMember.{member_of};
+ghost use Rattle.otel_context.specs.BaggageText.{IsTrimmed};
+ghost use Rattle.otel_context.specs.KeyValueMetadata.{from_key_value};
 
 use otel_base::{Key, KeyValue, StringValue};
 use std::alloc::{AllocError, Global};
@@ -15,7 +16,8 @@ use std::marker::Model;
 ///
 /// The text is kept as it is, but for white space at its ends; nothing reads the properties in it.
 /// W3C baggage writes them as names or pairs that semicolons divide, as in `ttl=30;private`.
-/// Texts are compared and ordered by their bytes. The default is the empty text, which stands for no properties.
+/// Texts are compared and ordered by their bytes. The default is the empty text, which stands for
+/// no properties.
 #[derive(PartialEq, Eq, PartialOrd, Debug, Drop)]
 pub struct BaggageMetadata {
     text: StringValue,
@@ -23,19 +25,20 @@ pub struct BaggageMetadata {
 
 impl Model for BaggageMetadata {
     ghost use Rattle.std.specs.Prelude.{List, ℕ};
-    ghost use Rattle.otel_context.specs.BaggageText.{IsCut};
+    ghost use Rattle.otel_context.specs.BaggageText.{IsTrimmed};
 
     ghost Value = { List ℕ };
 
     ghost view = { λ m. m.text };
 
-    ghost invariant = { λ m. IsCut m.text };
+    ghost invariant = { λ m. IsTrimmed m.text };
 
     ghost inverse = { λ t. record { text = t } };
 }
 
 impl BaggageMetadata {
-    /// Metadata of the text, cut of the Unicode white space at both of its ends (`From<&str>` of the Rust crate).
+    /// Metadata of the text without the Unicode white space at its ends (`From<&str>` of the Rust
+    /// crate).
     ///
     /// # Errors
     ///
@@ -43,16 +46,16 @@ impl BaggageMetadata {
     pub fn new(alloc: Global, text: &str) -> Result<BaggageMetadata, AllocError>
         ensures { IfOk result (λ m. m ≡ trim text.now) }
     {
-        let cut = String::from_str(alloc, text.trim())?;
+        let trimmed = String::from_str(alloc, text.trim())?;
         Ok(BaggageMetadata {
-            text: StringValue::from(cut),
+            text: StringValue::from(trimmed),
         })
     }
 
     /// The text, with no white space at its ends.
     pub fn as_str(&self) -> &str
         ensures text { result.now ≡ self.now }
-        ensures cut { IsCut self.now }
+        ensures trimmed { IsTrimmed self.now }
     {
         self.text.as_str()
     }
@@ -72,7 +75,11 @@ impl Default for BaggageMetadata {
 impl Clone for BaggageMetadata {
     ghost is_clone = { λ s copy. copy ≡ s };
 
-    /// The same text. Its `AllocError` reports that a request for memory failed.
+    /// The same text.
+    ///
+    /// # Errors
+    ///
+    /// `AllocError` where a request for memory fails. The original is unchanged.
     fn clone(&self) -> Result<BaggageMetadata, AllocError> {
         Ok(BaggageMetadata {
             text: self.text.clone()?,
@@ -89,30 +96,31 @@ impl fmt::Display for BaggageMetadata {
     }
 }
 
-/// A key and a value with its metadata, as [`Baggage::from_key_values_with_metadata`](super::Baggage) takes them.
+/// A key with its value and its metadata: a member of a baggage, as
+/// [`Baggage::from_key_values_with_metadata`](super::Baggage) takes them.
 ///
-/// The key isn't checked before it is put into a baggage.
+/// The key isn't checked before it is inserted into a baggage.
 #[derive(PartialEq, Debug, Drop)]
 pub struct KeyValueMetadata {
-    key: Key,
-    value: StringValue,
-    metadata: BaggageMetadata,
+    pub(super) key: Key,
+    pub(super) value: StringValue,
+    pub(super) metadata: BaggageMetadata,
 }
 
 impl Model for KeyValueMetadata {
-    ghost use Rattle.otel_context.specs.Baggage.{Triple};
+    ghost use Rattle.otel_context.specs.BaggageMember.{Member, member_of};
 
-    ghost Value = { Triple };
+    ghost Value = { Member };
 
-    ghost view = { λ k. (k.key, (k.value, k.metadata)) };
+    ghost view = { λ k. member_of k.key k.value k.metadata };
 
-    ghost inverse = { λ t. record { key = t.0; value = t.1.0; metadata = t.1.1 } };
+    ghost inverse = { λ m. record { key = m.key; value = m.value; metadata = m.metadata } };
 }
 
 impl KeyValueMetadata {
     /// The three parts together.
     pub fn new(key: Key, value: StringValue, metadata: BaggageMetadata) -> KeyValueMetadata
-        ensures { result ≡ (key, (value, metadata)) }
+        ensures { result ≡ member_of key value metadata }
     {
         KeyValueMetadata {
             key,
@@ -121,37 +129,39 @@ impl KeyValueMetadata {
         }
     }
 
-    /// An attribute's key and the printed text of its value, with no metadata (`From<KeyValue>` of the Rust crate).
+    /// An attribute's key and the printed text of its value, with no metadata (`From<KeyValue>` of the
+    /// Rust crate).
     ///
-    /// A text is handed on without taking memory.
+    /// A value that is a text is handed on without a request for memory.
     ///
     /// # Errors
     ///
-    /// `AllocError` where the value is no text and a request for the memory of its printed text fails. The attribute is
-    /// dropped.
-    pub fn from_key_value(alloc: Global, pair: KeyValue) -> Result<KeyValueMetadata, AllocError>
-        ensures triple { IfOk result (λ k. k ≡ plain_triple pair) }
-        ensures without_memory { IsTrue (is_text (value_of pair.value)) → IsOk result }
+    /// `AllocError` where the value is no text and a request for the memory of its printed text
+    /// fails. The attribute is dropped.
+    pub fn from_key_value(
+        alloc: Global,
+        attribute: KeyValue,
+    ) -> Result<KeyValueMetadata, AllocError>
+        ensures member { IfOk result (λ k. k ≡ from_key_value attribute) }
+        ensures without_memory { IsTrue (is_text (value_of attribute.value)) → IsOk result }
     {
-        let KeyValue { key, value } = pair;
+        let KeyValue { key, value } = attribute;
         Ok(KeyValueMetadata {
             key,
             value: StringValue::from_value(alloc, value)?,
             metadata: BaggageMetadata::default(),
         })
     }
-
-    pub(super) fn into_parts(self) -> (Key, (StringValue, BaggageMetadata))
-        ensures { result ≡ self }
-    {
-        (self.key, (self.value, self.metadata))
-    }
 }
 
 impl Clone for KeyValueMetadata {
     ghost is_clone = { λ s copy. copy ≡ s };
 
-    /// The same three parts. Its `AllocError` reports that a request for memory failed.
+    /// The same three parts.
+    ///
+    /// # Errors
+    ///
+    /// `AllocError` where a request for memory fails. The original is unchanged.
     fn clone(&self) -> Result<KeyValueMetadata, AllocError> {
         Ok(KeyValueMetadata {
             key: self.key.clone()?,

@@ -1,32 +1,34 @@
-//! How many bytes a baggage holds, and whether a triple may be put.
-ghost use Rattle.std.specs.Prelude.{◌≡◌, ◌+◌, ◌≤◌, length, nat_le, Some, None, if◌then◌else◌};
-ghost use Rattle.otel_context.specs.Baggage.{triple_weight, weight};
-ghost use Rattle.otel_context.specs.BaggageRoom.{others_weight, room};
-ghost use Rattle.otel_context.specs.BaggageText.{IsCut};
+//! How many bytes a baggage has, and whether a member is accepted.
+ghost use Rattle.std.specs.Prelude.{◌≡◌, ◌+◌, ◌≤◌, length, ◌&&◌, nat_le, nat_lt, Some, None, if◌then◌else◌};
+ghost use Rattle.otel_context.specs.Baggage.{IsBaggage, max_key_value_pairs, max_len_of_all_pairs, weight};
+ghost use Rattle.otel_context.specs.BaggageMember.{member_of, weight_of};
+ghost use Rattle.otel_context.specs.BaggageText.{is_key, IsTrimmed};
+ghost use Rattle.otel_context.specs.BaggageView.{entry_member, entry_members};
+ghost use Rattle.otel_context.specs.BaggageWeight.{weight_of_others, weight_after};
 
 use super::key::is_key_valid;
 use super::metadata::BaggageMetadata;
 use indexmap::IndexMap;
 use otel_base::{Key, StringValue};
 
-/// The most pairs that a baggage holds.
+/// The most members of a baggage.
 const MAX_KEY_VALUE_PAIRS: usize = 64;
 
 /// The most bytes of all keys, values and metadata together.
 const MAX_LEN_OF_ALL_PAIRS: usize = 8192;
 
-/// The bytes of a triple that is held.
+/// The bytes of a member.
 pub(super) fn weight_of(key: &Key, pair: &(StringValue, BaggageMetadata)) -> usize
-    requires { triple_weight (key.now, pair.now) ≤ 8192 }
-    ensures { result ≡ triple_weight (key.now, pair.now) }
+    requires { weight_of (entry_member (key.now, pair.now)) ≤ max_len_of_all_pairs }
+    ensures { result ≡ weight_of (entry_member (key.now, pair.now)) }
 {
     key.as_str().len() + pair.0.as_str().len() + pair.1.as_str().len()
 }
 
-/// The bytes of others together with those of a triple, unless they are too many.
+/// The bytes of others together with those of a member, unless they are too many.
 fn weight_with(others: usize, key: &str, value: &str, metadata: &str) -> Option<usize>
     ensures { let total = others + (length key.now + (length value.now + length metadata.now)) in
-        result ≡ (if nat_le total 8192 then Some total else None) }
+        result ≡ (if nat_le total max_len_of_all_pairs then Some total else None) }
 {
     let left = MAX_LEN_OF_ALL_PAIRS
         .checked_sub(others)?
@@ -36,21 +38,29 @@ fn weight_with(others: usize, key: &str, value: &str, metadata: &str) -> Option<
     Some(MAX_LEN_OF_ALL_PAIRS - left)
 }
 
-/// The bytes of the triples of other keys, where this key may stand.
+/// Whether one more member may have this key: it is valid, and there are fewer than 64 members.
+fn takes_new_key(held: &IndexMap<Key, (StringValue, BaggageMetadata)>, key: &Key) -> bool
+    ensures { let few = nat_lt (length held.now.entries) max_key_value_pairs in
+        result ≡ (is_key key.now && few) }
+{
+    is_key_valid(key.as_str()) && held.len() < MAX_KEY_VALUE_PAIRS
+}
+
+/// The bytes of the members of other keys, where this key may stand.
 /// A key that is present isn't checked again.
 fn weight_of_others(
     held: &IndexMap<Key, (StringValue, BaggageMetadata)>,
     total: usize,
     key: &Key,
 ) -> Option<usize>
-    requires sum { total ≡ weight held.now.entries }
-    requires light { weight held.now.entries ≤ 8192 }
-    ensures { result ≡ others_weight held.now.entries key.now }
+    requires baggage { IsBaggage (entry_members held.now.entries) }
+    requires sum { total ≡ weight (entry_members held.now.entries) }
+    ensures { result ≡ weight_of_others (entry_members held.now.entries) key.now }
 {
     match held.get(key) {
         Some(pair) => Some(total - weight_of(key, pair)),
         None => {
-            if is_key_valid(key.as_str()) && held.len() < MAX_KEY_VALUE_PAIRS {
+            if takes_new_key(held, key) {
                 Some(total)
             } else {
                 None
@@ -59,7 +69,7 @@ fn weight_of_others(
     }
 }
 
-/// The bytes that are held after the triple is put, where it is accepted.
+/// The bytes of all members after an insert of this one, where it is accepted.
 pub(super) fn weight_after(
     held: &IndexMap<Key, (StringValue, BaggageMetadata)>,
     total: usize,
@@ -67,10 +77,11 @@ pub(super) fn weight_after(
     value: &StringValue,
     metadata: &BaggageMetadata,
 ) -> Option<usize>
-    requires sum { total ≡ weight held.now.entries }
-    requires light { weight held.now.entries ≤ 8192 }
-    ensures room { result ≡ room held.now.entries (key.now, (value.now, metadata.now)) }
-    ensures cut { IsCut metadata.now }
+    requires baggage { IsBaggage (entry_members held.now.entries) }
+    requires sum { total ≡ weight (entry_members held.now.entries) }
+    ensures weight { let m = member_of key.now value.now metadata.now in
+        result ≡ weight_after (entry_members held.now.entries) m }
+    ensures trimmed { IsTrimmed metadata.now }
 {
     let text = metadata.as_str();
     let others = weight_of_others(held, total, key)?;

@@ -90,7 +90,7 @@ fn attributes_are_held_as_texts(rt: HostRuntime) -> Result<(), Fail> {
 }
 
 #[test]
-fn the_last_triple_of_a_key_is_held(rt: HostRuntime) -> Result<(), Fail> {
+fn the_last_member_of_a_key_is_held(rt: HostRuntime) -> Result<(), Fail> {
     let mut pairs = Vec::new(rt.alloc());
     let plain = KeyValue::new(Key::from("a"), Value::I64(1));
     pairs.push(KeyValueMetadata::from_key_value(rt.alloc(), plain)?)?;
@@ -101,23 +101,23 @@ fn the_last_triple_of_a_key_is_held(rt: HostRuntime) -> Result<(), Fail> {
     Ok(())
 }
 
-/// The triple of `a`, `1` and that metadata.
-fn triple(alloc: Global, metadata: &str) -> Result<KeyValueMetadata, AllocError> {
+/// The member of `a`, `1` and that metadata.
+fn member(alloc: Global, metadata: &str) -> Result<KeyValueMetadata, AllocError> {
     let metadata = BaggageMetadata::new(alloc, metadata)?;
     Ok(KeyValueMetadata::new(Key::from("a"), StringValue::from("1"), metadata))
 }
 
 #[test]
-fn triples_are_cloned(rt: HostRuntime) -> Result<(), Fail> {
-    let one = triple(rt.alloc(), "m")?;
+fn members_are_cloned(rt: HostRuntime) -> Result<(), Fail> {
+    let one = member(rt.alloc(), "m")?;
     assert!(rt; one == one.clone()?);
     Ok(())
 }
 
 #[test]
-fn triples_are_compared(rt: HostRuntime) -> Result<(), Fail> {
-    let one = triple(rt.alloc(), "m")?;
-    assert!(rt; one != triple(rt.alloc(), "")?);
+fn members_are_compared(rt: HostRuntime) -> Result<(), Fail> {
+    let one = member(rt.alloc(), "m")?;
+    assert!(rt; one != member(rt.alloc(), "")?);
     Ok(())
 }
 

@@ -1,5 +1,5 @@
-use Rattle.otel_context.proofs.BaggageMembers.{header_tells, header_short}
+use Rattle.otel_context.proofs.BaggageMembers.{header_determines, header_short}
 use Rattle.otel_context.proofs.laws.header_reading.Goals as goal
 
 pub returns : goal.returns
-returns c = record { tells = header_tells; short = header_short }
+returns c = record { determines = header_determines; short = header_short }

@@ -1,5 +1,5 @@
 use Rattle.std.proofs.Common.{sym, ap, ◌∙◌, arith}
-use Rattle.otel_context.specs.Baggage.{without_key, at_key}
+use Rattle.otel_context.specs.Baggage.{remove, get_with_metadata}
 use Rattle.otel_context.proofs.BaggagePuts.{removed, not_found, not_removed}
 use Rattle.otel_context.proofs.baggage.Baggage.remove.Goals as goal
 
@@ -7,13 +7,13 @@ pub returns-in_err-index-clause-list : goal.returns-in_err-index-clause-list
 returns-in_err-index-clause-list c =
     sym c.self.view_is
     ∙ not_removed c.self.inside.inner.entries c.args.key.now (sym c.index_of.ensures ∙ c.in_err-index.was)
-    ∙ ap (λ l. without_key l c.args.key.now) c.self.view_is
+    ∙ ap (λ l. remove l c.args.key.now) c.self.view_is
 
 pub returns-in_err-index-clause-old : goal.returns-in_err-index-clause-old
 returns-in_err-index-clause-old c =
     c.from_residual.ensures
     ∙ sym (not_found c.self.inside.inner.entries c.args.key.now (sym c.index_of.ensures ∙ c.in_err-index.was))
-    ∙ ap (λ l. at_key l c.args.key.now) c.self.view_is
+    ∙ ap (λ l. get_with_metadata l c.args.key.now) c.self.view_is
 
 pub weight_of-requires : goal.weight_of-requires
 weight_of-requires c =
@@ -33,9 +33,9 @@ invariant_of-self-2 c =
 pub returns-clause-list : goal.returns-clause-list
 returns-clause-list c =
     let out = removed c.self.inside.inner.entries c.shift_remove_index.new.self.entries c.args.key.now c.in_ok-index.index (c.in_ok-name.name, c.in_ok-name.pair) c.self.invariant.0 (sym c.index_of.ensures ∙ c.in_ok-index.was) (sym c.in_ok-name.was ∙ c.shift_remove_index.ensures.entry) c.shift_remove_index.ensures.entries c.shift_remove_index.ensures.unique in
-    out.list ∙ ap (λ l. without_key l c.args.key.now) c.self.view_is
+    out.list ∙ ap (λ l. remove l c.args.key.now) c.self.view_is
 
 pub returns-clause-old : goal.returns-clause-old
 returns-clause-old c =
     let out = removed c.self.inside.inner.entries c.shift_remove_index.new.self.entries c.args.key.now c.in_ok-index.index (c.in_ok-name.name, c.in_ok-name.pair) c.self.invariant.0 (sym c.index_of.ensures ∙ c.in_ok-index.was) (sym c.in_ok-name.was ∙ c.shift_remove_index.ensures.entry) c.shift_remove_index.ensures.entries c.shift_remove_index.ensures.unique in
-    out.old ∙ ap (λ l. at_key l c.args.key.now) c.self.view_is
+    out.given ∙ ap (λ l. get_with_metadata l c.args.key.now) c.self.view_is

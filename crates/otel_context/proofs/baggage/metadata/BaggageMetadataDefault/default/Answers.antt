@@ -1,7 +1,7 @@
 use Rattle.std.proofs.Common.{sym, subst}
-use Rattle.otel_context.specs.BaggageText.{IsCut}
+use Rattle.otel_context.specs.BaggageText.{IsTrimmed}
 use Rattle.otel_context.proofs.BaggageTrims.{cut_nil}
 use Rattle.otel_context.proofs.baggage.metadata.BaggageMetadataDefault.default.Goals as goal
 
 pub invariant_of-result : goal.invariant_of-result
-invariant_of-result c = subst IsCut (sym c.from.ensures) cut_nil
+invariant_of-result c = subst IsTrimmed (sym c.from.ensures) cut_nil

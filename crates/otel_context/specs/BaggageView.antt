@@ -1,0 +1,21 @@
+-- Members of a baggage, from the pairs that hold them.
+use Rattle.std.specs.Prelude.{ℕ, List, map}
+use Rattle.std.specs.Borrow.{Bor}
+use Rattle.std.specs.Map.Iter.{deref_pair}
+use Rattle.otel_context.specs.BaggageMember.{Member, member_of}
+
+-- A key beside its value with metadata.
+abbrev pub Entry : Type 0
+Entry = List ℕ × (List ℕ × List ℕ)
+
+-- The member that such a pair stands for.
+abbrev pub entry_member : Entry → Member
+entry_member e = member_of e.0 e.1.0 e.1.1
+
+-- The members that a map's pairs stand for, in their order.
+abbrev pub entry_members : List Entry → List Member
+entry_members es = map entry_member es
+
+-- The member that a pair of references stands for.
+abbrev pub lent_member : Bor (List ℕ) × Bor (List ℕ × List ℕ) → Member
+lent_member p = entry_member (deref_pair p)

@@ -1,0 +1,10 @@
+-- An attribute as a member of a baggage.
+use Rattle.std.specs.Prelude.{[]}
+use Rattle.otel_base.specs.declared.key_value.KeyValue.{KeyValue}
+use Rattle.otel_base.specs.Value.{display}
+use Rattle.otel_base.specs.View.{value_of}
+use Rattle.otel_context.specs.BaggageMember.{Member, member_of}
+
+-- The key, the printed text of the value, and no metadata (the Rust crate's `From<KeyValue>`).
+abbrev pub from_key_value : KeyValue → Member
+from_key_value p = member_of p.key (display (value_of p.value)) []
