@@ -1,6 +1,6 @@
 -- What is wrong with a key, a value or a text, and which error reports it.
 use Rattle.std.specs.Prelude.{◌≡◌, ℕ, List, [], ◌∷◌, Option, Some, None, if◌then◌else◌}
-use Rattle.std.specs.Prelude.{Result, Ok, Err, IfOk, OnOk, IfErr, string_bytes}
+use Rattle.std.specs.Prelude.{Result, Ok, Err, string_bytes}
 use Rattle.otel_ids.specs.declared.error.TraceStateError.{TraceStateError}
 use Rattle.otel_ids.specs.declared.error.TraceStateError.TheVariants as errors
 use Rattle.otel_ids.specs.Text.{is_key, is_value}
@@ -46,6 +46,12 @@ IsMemory (errors.Key text) = ⊥
 IsMemory (errors.Value text) = ⊥
 IsMemory (errors.List text) = ⊥
 IsMemory (errors.Memory e) = Unit {0}
+
+-- the call makes these pairs where there is no fault, else its error reports the fault; or a request
+-- for memory failed [`TraceState::from_key_value`, `TraceState::insert`, `TraceState::delete`]
+abbrev pub Makes : List Pair → Option Fault → Result (List Pair) TraceStateError → Type 0
+Makes pairs fault (Ok made) = (made ≡ pairs) × (fault ≡ None)
+Makes pairs fault (Err error) = Reports error fault
 
 -- the call returns these pairs, or a request for memory failed
 abbrev pub Returns : Result (List Pair) TraceStateError → List Pair → Type 0
