@@ -1,13 +1,15 @@
 -- A list of shared entries in rising order of their keys, beside the finite map that it stands for.
-use Rattle.std.proofs.Common.{Ordering, Less, Equal, Greater, ◌≡◌, ◌<◌, zero, suc, ℕ, List, [], ◌∷◌, ◌++◌, length, get_or, take, drop, add-one, append_assoc, None, Some, Bool, true, false, cond, ◌&&◌, T, HoldsAt, nat_cmp, is_eq, is_lt, refl, sym, ap, subst, ◌∙◌, arith}
+use Rattle.std.proofs.Common.{bytes_eq, drop-cons, ◌+◌, Ordering, Less, Equal, Greater, ◌≡◌, ◌<◌, zero, suc, ℕ, List, [], ◌∷◌, ◌++◌, length, get_or, take, drop, add-one, append_assoc, None, Some, Bool, true, false, cond, ◌&&◌, T, HoldsAt, nat_cmp, is_eq, is_lt, refl, sym, ap, subst, ◌∙◌, arith}
 use Rattle.std.specs.List.{AllZip}
 use Rattle.std.specs.List.Sorted.{IsNonDecreasingBy, IsPartitionPoint}
 use Rattle.std.specs.Ordering.{ordering_index, ordering_reverse}
 use Rattle.std.specs.FinMap.Entries.{by_order, put, below_all, is_sorted, is_sorted-put, find-put}
+use Rattle.std.proofs.lemmas.Bool.{cond-true, cond-false}
 use Rattle.std.proofs.lemmas.List.{map-append}
 use Rattle.std.proofs.lemmas.List.Sorted.{searchable_from_sorted}
 use Rattle.std.proofs.lemmas.Cmp.{nat_list_cmp_total}
 use Rattle.std.proofs.lemmas.Map.Lookups.{exact_bytes}
+use Rattle.std.proofs.lemmas.Map.Text.{is_eq-slice_cmp}
 use Rattle.std.specs.Cmp.Lexicographic.{slice_cmp}
 use Rattle.std.specs.FinMap.{get, find, insert, get-from_entries, get-insert, same_map}
 use Rattle.std.specs.declared.alloc.Global.{Global}
@@ -22,6 +24,22 @@ text_cmp = slice_cmp nat_cmp
 
 pub get_seen : (es : List (Rc Entry Global)) (q : List ℕ) → get (entries_seen es) q ≡ find text_cmp q (pairs es)
 get_seen es q = get-from_entries nat_list_cmp_total (pairs es) q
+
+find_first : (e : List ℕ × Tree) (es : List (List ℕ × Tree)) (q : List ℕ)
+    → find text_cmp q (e ∷ es) ≡ cond (bytes_eq q e.0) (Some e.1) (find text_cmp q es)
+find_first e es q = ap (λ b. cond b (Some e.1) (find text_cmp q es)) (is_eq-slice_cmp q e.0)
+
+pub find_here : (e : Rc Entry Global) (es : List (Rc Entry Global)) (q : List ℕ) → bytes_eq q e.value.key ≡ true
+    → find text_cmp q (pairs (e ∷ es)) ≡ Some (tree e.value.value)
+find_here e es q h = find_first (e.value.key, tree e.value.value) (pairs es) q ∙ cond-true _ _ _ h
+
+pub find_later : (e : Rc Entry Global) (es : List (Rc Entry Global)) (q : List ℕ) → bytes_eq q e.value.key ≡ false
+    → find text_cmp q (pairs (e ∷ es)) ≡ find text_cmp q (pairs es)
+find_later e es q h = find_first (e.value.key, tree e.value.value) (pairs es) q ∙ cond-false _ _ _ h
+
+-- the entries from index i on
+pub from_index : (es : List (Rc Entry Global)) (i : ℕ) (e : Rc Entry Global) → e ≡ get_or es i e → i < length es → drop i es ≡ e ∷ drop (i + 1) es
+from_index es i e is within = drop-cons es i e within ∙ ap (λ f. f ∷ drop (suc i) es) (sym is) ∙ ap (λ n. e ∷ drop n es) (sym (add-one i))
 
 -- a copy that shares the entries stands for the same pairs
 pub pairs-AllZip : (es fs : List (Rc Entry Global)) → AllZip (λ e f. f.value ≡ e.value) es fs → pairs fs ≡ pairs es

@@ -3,12 +3,15 @@ ghost use Rattle.std.specs.Prelude.{◌≡◌, length, IfOk, option_map};
 ghost use Rattle.std.specs.FinMap as map;
 ghost use Rattle.std.specs.List.Sorted.{IsSearchInRange, IsBinarySearchResult};
 ghost use Rattle.otel_base.specs.View.{tree};
-ghost use Rattle.otel_context.specs.View.{by_key};
+ghost use Rattle.otel_context.specs.View.{by_key, entries_seen};
 
 use otel_base::{AnyValue, Key};
 use std::alloc::{AllocError, Global};
 use std::marker::Model;
 use std::rc::Rc;
+
+/// Up to how many entries `get` walks. Among more it searches by halves, which compares fewer names.
+const WALKED: usize = 8;
 
 #[derive(Drop)]
 struct Entry {
@@ -53,6 +56,9 @@ impl Entries {
     pub fn get(&self, key: &str) -> Option<&AnyValue>
         ensures { option_map (λ v. tree v.now) result ≡ map.get self.now key.now }
     {
+        if self.items.len() <= WALKED {
+            return walk(&self.items, key);
+        }
         match search(&self.items, key) {
             Ok(at) => Some(&self.items[at].as_ref().value),
             Err(_) => None,
@@ -87,7 +93,19 @@ impl Clone for Entries {
     }
 }
 
-/// Where the entry of that name is, or where it would go.
+/// The value of that name, compared with each name in turn: with its length first.
+fn walk<'a>(items: &'a [Rc<Entry>], key: &str) -> Option<&'a AnyValue>
+    ensures { option_map (λ v. tree v.now) result ≡ map.get (entries_seen items.now) key.now }
+{
+    for entry in items {
+        if key == entry.key.as_str() {
+            return Some(&entry.as_ref().value);
+        }
+    }
+    None
+}
+
+/// Where the entry of that name is, or where it would go, found by halves.
 fn search(items: &[Rc<Entry>], key: &str) -> Result<usize, usize>
     ensures bound { IsSearchInRange result (length items.now) }
     ensures position { IsBinarySearchResult (by_key key.now) items.now result }
