@@ -17,7 +17,8 @@ fn remote(number: u64) -> SpanContext {
     )
 }
 
-/// Asserts what stands in the four parts: the entry `name`, the baggage's `k`, the span's number, suppression.
+/// Asserts what stands in the four parts: the entry `name`, the baggage's `k`, the span's number,
+/// suppression.
 fn assert_parts(rt: &impl Abort, context: &Context, parts: (&str, &str, u64, bool)) {
     let (name, value, span, suppressed) = parts;
     assert_eq!(rt; name_of(context), name);

@@ -6,7 +6,8 @@ use std::alloc::{AllocError, Global};
 use std::process::Abort;
 use std::test::Fail;
 
-/// An attach of a context of that name and the position that it gets, or a removal and the name that it gives.
+/// An attach of a context of that name and the position that it gets, or a removal and the name
+/// that it gives.
 #[derive(Clone, Copy)]
 enum Step {
     Attach(&'static str, u16),
@@ -18,7 +19,8 @@ use Step::{Attach, Remove};
 /// A step, the name of the current context after it, and the newest position.
 type Row = (Step, &'static str, u16);
 
-/// Removals below the newest, then of the newest over an emptied slot, then an attach at a position given anew.
+/// Removals below the newest, then of the newest over an emptied slot, then an attach at a position
+/// given anew.
 const OUT_OF_ORDER: &[Row] = &[
     (Attach("a", 1), "a", 1),
     (Attach("b", 2), "b", 2),
@@ -88,7 +90,7 @@ impl Asked {
         })
     }
 
-    /// Attaches by `push`, or by `attach` with the guard's position.
+    /// Attaches by `ContextStack::push`, or by `ContextStack::attach` with the guard's position.
     fn attach(&mut self, context: Context) -> Result<u16, AllocError> {
         if self.by_guards {
             let guard = self.stack.attach(context)?;
@@ -100,7 +102,8 @@ impl Asked {
         }
     }
 
-    /// Removes by `pop_id`, or by `detach` with a guard of that position. No guard has position 0.
+    /// Removes by `ContextStack::pop_id`, or by `ContextStack::detach` with a guard of that
+    /// position. No guard has position 0.
     fn remove(&mut self, position: u16) -> Result<Option<Context>, AllocError> {
         if self.by_guards && position > 0 {
             let guard = self.guard_at(position)?;
@@ -130,7 +133,7 @@ fn name_given(given: &Option<Context>) -> &str {
     }
 }
 
-/// Plays one step, and asserts its answer.
+/// Plays one step, and asserts what it returned.
 fn play(rt: &impl Abort, alloc: Global, asked: &mut Asked, step: Step) -> Result<(), Fail> {
     match step {
         Attach(name, position) => {
@@ -240,7 +243,8 @@ fn the_guard_of_a_refused_attach_isnt_attached(rt: HostRuntime) -> Result<(), Fa
     Ok(())
 }
 
-/// Whether `a` of the current context is this text, and `b` is 42 where it is said to be there, and only there.
+/// Whether `a` of the current context is this text, and `b` is 42 where it is said to be there, and
+/// only there.
 fn has_entries(stack: &ContextStack, a: &str, has_b: bool) -> bool {
     let context = stack.current();
     let b = context.get("b");
