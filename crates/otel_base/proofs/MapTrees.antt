@@ -1,5 +1,6 @@
 -- What stands at each key determines a map's tree.
-use Rattle.std.proofs.Common.{◌≡◌, ℕ, List, [], ◌∷◌, Bool, true, false, ◌&&◌, cond, T, Option, Some, nat_cmp, refl, sym, ap, ◌∙◌, subst}
+use Rattle.std.proofs.Common.{◌≡◌, ℕ, List, [], ◌∷◌, Bool, true, false, ◌&&◌, cond, T, Option, Some}
+use Rattle.std.proofs.Common.{nat_cmp, refl, sym, ap, ◌∙◌, subst}
 use Rattle.std.specs.Cmp.Lexicographic.{slice_cmp}
 use Rattle.std.specs.List.{AllByRecursion}
 use Rattle.std.specs.List.Sorted.{IsStrictlySortedBy}
@@ -9,7 +10,8 @@ use Rattle.std.specs.declared.cmp.Ordering.TheVariants.{Less, Equal, Greater}
 use Rattle.std.specs.FinMap.Entries.{find, is_sorted, below_all, same_entries}
 use Rattle.std.proofs.lemmas.Cmp.{nat_list_cmp_total}
 use Rattle.std.proofs.lemmas.Map.Lookups.{exact_bytes}
-use Rattle.otel_base.specs.AnyValue.{Tree, Entries, no_entries, more_entries, map, entry_at, keys_of_entries}
+use Rattle.otel_base.specs.AnyValue.{Tree, Entries, no_entries, more_entries, map, entry_at}
+use Rattle.otel_base.specs.AnyValue.{keys_of_entries}
 use Rattle.otel_base.specs.View.{entries_of}
 use Rattle.otel_base.specs.Laws.{SameMap}
 
@@ -31,23 +33,34 @@ by_cases Greater a b = refl
 
 found : (k : List ℕ) (es : Entries) → entry_at k es ≡ find by_bytes k (listed es)
 found k no_entries = refl
-found k (more_entries l e es) = by_cases (by_bytes k l) (entry_at k es) (Some e) ∙ ap (cond (is_eq (by_bytes k l)) (Some e)) (found k es)
+found k (more_entries l e es) =
+    by_cases (by_bytes k l) (entry_at k es) (Some e)
+    ∙ ap (cond (is_eq (by_bytes k l)) (Some e)) (found k es)
 
 both : (a b : Bool) → T a → T b → T (a && b)
 both true b p q = q
 both false b p q = p
 
-below : (k : List ℕ) (es : Entries) → AllByRecursion (λ l. by_bytes k l ≡ Less) (keys_of_entries es) → T (below_all by_bytes k (listed es))
+below : (k : List ℕ) (es : Entries) → AllByRecursion (λ l. by_bytes k l ≡ Less) (keys_of_entries es)
+    → T (below_all by_bytes k (listed es))
 below k no_entries h = tt
-below k (more_entries l e es) h = subst (λ o. T (is_lt o && below_all by_bytes k (listed es))) (sym h.0) (below k es h.1)
+below k (more_entries l e es) h =
+    subst (λ o. T (is_lt o && below_all by_bytes k (listed es))) (sym h.0) (below k es h.1)
 
-rising : (es : Entries) → IsStrictlySortedBy by_bytes (keys_of_entries es) → T (is_sorted by_bytes (listed es))
+rising : (es : Entries) → IsStrictlySortedBy by_bytes (keys_of_entries es)
+    → T (is_sorted by_bytes (listed es))
 unfolding IsStrictlySortedBy
 rising no_entries h = tt
 rising (more_entries l e es) h = both _ _ (below l es h.0) (rising es h.1)
 
 pub same_map : SameMap
 same_map ps qs s t m n agree =
-    let is : (k : List ℕ) → find by_bytes k (listed m.entries) ≡ find by_bytes k (listed n.entries) = λ q. sym (found q m.entries) ∙ m.last_wins q ∙ agree q ∙ sym (n.last_wins q) ∙ found q n.entries in
-    let listings : listed m.entries ≡ listed n.entries = same_entries by_bytes nat_list_cmp_total exact_bytes (listed m.entries) (listed n.entries) (rising _ m.rising) (rising _ n.rising) is in
-    m.is ∙ ap map (sym (relisted m.entries) ∙ ap entries_of listings ∙ relisted n.entries) ∙ sym n.is
+    let is : (k : List ℕ)
+    → find by_bytes k (listed m.entries) ≡ find by_bytes k (listed n.entries) =
+    λ q. sym (found q m.entries) ∙ m.last_wins q ∙ agree q ∙ sym (n.last_wins q)
+    ∙ found q n.entries in
+    let listings : listed m.entries ≡ listed n.entries =
+    same_entries by_bytes nat_list_cmp_total exact_bytes (listed m.entries) (listed n.entries)
+    (rising _ m.rising) (rising _ n.rising) is in
+    m.is ∙ ap map (sym (relisted m.entries) ∙ ap entries_of listings ∙ relisted n.entries)
+    ∙ sym n.is

@@ -1,6 +1,7 @@
--- Value trees: an integer, a text, a boolean, a list of bytes, a list of trees, or a finite map from texts to
--- trees (the Rust crate's `AnyValue`).
-use Rattle.std.specs.Prelude.{◌≡◌, ℕ, ℤ, List, [], ◌∷◌, Bool, true, false, ◌&&◌, nat_eq, Option, Some, None, if◌then◌else◌}
+-- Value trees: an integer, a text, a boolean, a list of bytes, a list of trees, or a finite map
+-- from texts to trees (the Rust crate's `AnyValue`).
+use Rattle.std.specs.Prelude.{◌≡◌, ℕ, ℤ, List, [], ◌∷◌, Bool, true, false, ◌&&◌, nat_eq, Option}
+use Rattle.std.specs.Prelude.{Some, None, if◌then◌else◌}
 use Rattle.std.specs.Ordering.{nat_cmp, int_eq, match_ordering}
 use Rattle.std.specs.List.Sorted.{IsStrictlySortedBy}
 use Rattle.std.specs.Option.{option_or}
@@ -31,7 +32,8 @@ mutual
 -- the tree at a key, if there is one
 abbrev pub entry_at : List ℕ → Entries → Option Tree
 entry_at k no_entries = None
-entry_at k (more_entries l e es) = match_ordering (slice_cmp nat_cmp k l) (entry_at k es) (Some e) (entry_at k es)
+entry_at k (more_entries l e es) =
+    match_ordering (slice_cmp nat_cmp k l) (entry_at k es) (Some e) (entry_at k es)
 
 -- the keys, in order
 abbrev pub keys_of_entries : Entries → List (List ℕ)
@@ -43,8 +45,8 @@ abbrev pub last_at : List ℕ → List (List ℕ × Tree) → Option Tree
 last_at k [] = None
 last_at k (p ∷ ps) = option_or (last_at k ps) (if bytes_eq p.0 k then Some p.1 else None)
 
--- t is the map that has at each key the tree of its last pair (the Rust crate's `FromIterator` of `AnyValue`):
--- a=1, b=2, a=3 makes the map of a to 3 and b to 2
+-- t is the map that has at each key the tree of its last pair (the Rust crate's `FromIterator` of
+-- `AnyValue`): a=1, b=2, a=3 makes the map of a to 3 and b to 2
 pub record IsMapOf (pairs : List (List ℕ × Tree)) (t : Tree) : Type 0 where
   pub entries : Entries
   pub is : t ≡ map entries
@@ -72,5 +74,6 @@ abbrev mutual
   -- the same keys with the same trees
   pub entries_eq : Entries → Entries → Bool
   entries_eq no_entries no_entries = true
-  entries_eq (more_entries j x xs) (more_entries k y ys) = pointwise nat_eq j k && eq x y && entries_eq xs ys
+  entries_eq (more_entries j x xs) (more_entries k y ys) =
+      pointwise nat_eq j k && eq x y && entries_eq xs ys
   entries_eq _ _ = false

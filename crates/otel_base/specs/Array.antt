@@ -1,5 +1,6 @@
 -- What an array of an attribute means, how it is printed, and what is hashed of it.
-use Rattle.std.specs.Prelude.{ℕ, zero, suc, ℤ, List, [], ◌∷◌, ◌++◌, map, Bool, false, nat_eq, codes, if◌then◌else◌}
+use Rattle.std.specs.Prelude.{ℕ, zero, suc, ℤ, List, [], ◌∷◌, ◌++◌, map, Bool, false, nat_eq, codes}
+use Rattle.std.specs.Prelude.{if◌then◌else◌}
 use Rattle.std.specs.Fmt.{signed_decimal}
 use Rattle.std.specs.List.{join_with_byte}
 use Rattle.std.specs.Ordering.{int_eq}
@@ -18,7 +19,8 @@ pub data ArrayValue : Type 0 where
 abbrev pub boolean_text : Bool → List ℕ
 boolean_text b = if b then codes "true" else codes "false"
 
--- the text between two `"`, with nothing escaped (the Rust crate's `Display` of `Array`): a"b is printed as "a"b"
+-- the text between two `"`, with nothing escaped (the Rust crate's `Display` of `Array`): a"b is
+-- printed as "a"b"
 abbrev pub quoted : List ℕ → List ℕ
 quoted s = 34 ∷ s ++ 34 ∷ []
 
@@ -33,7 +35,8 @@ abbrev pub separator : ℕ → List ℕ
 separator zero = []
 separator (suc i) = 44 ∷ []
 
--- `[`, the texts joined by `,`, and `]` (the Rust crate's `Display` of `Array`): 1 and -2 give [1,-2]
+-- `[`, the texts joined by `,`, and `]` (the Rust crate's `Display` of `Array`): 1 and -2 give
+-- [1,-2]
 abbrev pub bracketed : List (List ℕ) → List ℕ
 bracketed ps = 91 ∷ join_with_byte 44 ps ++ 93 ∷ []
 
@@ -48,7 +51,8 @@ eq (integers xs) (integers ys) = pointwise int_eq xs ys
 eq (texts xs) (texts ys) = pointwise (pointwise nat_eq) xs ys
 eq _ _ = false
 
--- what is fed to a hasher: the items as a slice, without their type (the Rust crate's `Hash` of `KeyValue`)
+-- what is fed to a hasher: the items as a slice, without their type (the Rust crate's `Hash` of
+-- `KeyValue`)
 abbrev pub hash : ArrayValue → HashWrites
 hash (booleans xs) = fed.slice fed.bool xs
 hash (integers xs) = fed.slice fed.i64 xs

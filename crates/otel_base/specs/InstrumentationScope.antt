@@ -36,8 +36,9 @@ abbrev pub with_attributes : List Attribute → Scope → Scope
 with_attributes ps s = record s { attributes = ps }
 
 -- ---- equality and hash
--- the same texts and, for every key, the same list of values under it (the Rust crate's `PartialEq` of
--- `InstrumentationScope`, ties in given order): k=1, j=0, k=2 is as j=0, k=1, k=2 and not as j=0, k=2, k=1
+-- the same texts and, for every key, the same list of values under it (the Rust crate's `PartialEq`
+-- of `InstrumentationScope`, ties in given order): k=1, j=0, k=2 is as j=0, k=1, k=2 and not as
+-- j=0, k=2, k=1
 pub record IsSameScope (a b : Scope) : Type 0 where
   pub name : a.name ≡ b.name
   pub version : a.version ≡ b.version

@@ -16,7 +16,8 @@ Attribute = List ℕ × AttributeValue
 abbrev pub eq : Attribute → Attribute → Bool
 eq p q = pointwise nat_eq p.0 q.0 && Value.eq p.1 q.1
 
--- what is fed to a hasher: the key, then the value without its type (the Rust crate's `Hash` of `KeyValue`)
+-- what is fed to a hasher: the key, then the value without its type (the Rust crate's `Hash` of
+-- `KeyValue`)
 abbrev pub hash : Attribute → HashWrites
 hash p = fed.str p.0 ++ Value.hash p.1
 

@@ -1,7 +1,12 @@
 -- The severities of the OpenTelemetry logs data model.
 use Rattle.std.specs.Prelude.{ℕ, List, codes}
 use Rattle.otel_base.specs.declared.severity.Severity.{Severity}
-use Rattle.otel_base.specs.declared.severity.Severity.TheVariants.{Trace, Trace2, Trace3, Trace4, Debug, Debug2, Debug3, Debug4, Info, Info2, Info3, Info4, Warn, Warn2, Warn3, Warn4, Error, Error2, Error3, Error4, Fatal, Fatal2, Fatal3, Fatal4}
+use Rattle.otel_base.specs.declared.severity.Severity.TheVariants.{Trace, Trace2, Trace3, Trace4}
+use Rattle.otel_base.specs.declared.severity.Severity.TheVariants.{Debug, Debug2, Debug3, Debug4}
+use Rattle.otel_base.specs.declared.severity.Severity.TheVariants.{Info, Info2, Info3, Info4, Warn}
+use Rattle.otel_base.specs.declared.severity.Severity.TheVariants.{Warn2, Warn3, Warn4, Error}
+use Rattle.otel_base.specs.declared.severity.Severity.TheVariants.{Error2, Error3, Error4, Fatal}
+use Rattle.otel_base.specs.declared.severity.Severity.TheVariants.{Fatal2, Fatal3, Fatal4}
 
 -- the severity number (OpenTelemetry logs data model, field SeverityNumber)
 abbrev pub number : Severity → ℕ

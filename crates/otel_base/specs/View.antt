@@ -9,7 +9,8 @@ use Rattle.otel_base.specs.Value as value
 use Rattle.otel_base.specs.Value.{AttributeValue}
 use Rattle.otel_base.specs.KeyValue.{Attribute}
 use Rattle.otel_base.specs.AnyValue as any
-use Rattle.otel_base.specs.AnyValue.{Tree, Trees, no_trees, more_trees, Entries, no_entries, more_entries}
+use Rattle.otel_base.specs.AnyValue.{Tree, Trees, no_trees, more_trees, Entries, no_entries}
+use Rattle.otel_base.specs.AnyValue.{more_entries}
 use Rattle.otel_base.specs.declared.array.Array.{Array}
 use Rattle.otel_base.specs.declared.array.Array.TheVariants as A
 use Rattle.otel_base.specs.declared.value.Value.{Value}
@@ -62,8 +63,8 @@ tree_step (AnyValue-F.Bytes v) = any.bytes v.value.items
 tree_step (AnyValue-F.ListAny v) = any.list (trees_of v.value.items)
 tree_step (AnyValue-F.Map m) = any.map (entries_of m.value.entries)
 
--- the tree of a value (the Rust crate's `AnyValue`): `ListAny` of 1 and "a" means the list of `integer 1` and
--- `text [97]`
+-- the tree of a value (the Rust crate's `AnyValue`): `ListAny` of 1 and "a" means the list of
+-- `integer 1` and `text [97]`
 abbrev pub tree : AnyValue → Tree
 tree = fold-AnyValue Tree tree_step
 
@@ -98,7 +99,8 @@ abbrev mutual
   -- each key with its tree, in order
   pub code_entries : Entries → Gv
   code_entries no_entries = gnil
-  code_entries (more_entries k t es) = gcons ((coded_list coded_ℕ).code k) (gcons (code_tree t) (code_entries es))
+  code_entries (more_entries k t es) =
+      gcons ((coded_list coded_ℕ).code k) (gcons (code_tree t) (code_entries es))
 
 mutual
   -- trees of one code are one tree
@@ -113,13 +115,15 @@ mutual
 
   pub trees_inj : (x y : Trees) → code_trees x ≡ code_trees y → x ≡ y
   trees_inj no_trees no_trees p = cc
-  trees_inj (more_trees x xs) (more_trees y ys) p = λ i. more_trees (tree_inj x y (cc) i) (trees_inj xs ys (cc) i)
+  trees_inj (more_trees x xs) (more_trees y ys) p =
+      λ i. more_trees (tree_inj x y (cc) i) (trees_inj xs ys (cc) i)
   trees_inj _ _ p = cc
 
   pub entries_inj : (x y : Entries) → code_entries x ≡ code_entries y → x ≡ y
   entries_inj no_entries no_entries p = cc
   entries_inj (more_entries j x xs) (more_entries k y ys) p =
-      λ i. more_entries ((coded_list coded_ℕ).inj j k (cc) i) (tree_inj x y (cc) i) (entries_inj xs ys (cc) i)
+      λ i. more_entries ((coded_list coded_ℕ).inj j k (cc) i) (tree_inj x y (cc) i)
+      (entries_inj xs ys (cc) i)
   entries_inj _ _ p = cc
 
 -- the code of a tree

@@ -2,7 +2,8 @@
 ghost use Rattle.std.specs.Prelude.{◌≡◌, ◌↔◌, IfOk, IsTrue, string_bytes, pos};
 ghost use Rattle.std.specs.Cmp.{on_per, partial_equiv_from_equiv};
 ghost use Rattle.otel_base.specs.AnyValue as spec;
-ghost use Rattle.otel_base.specs.AnyValue.{integer, text, boolean, bytes, list, trees_eq, entries_eq, IsMapOf};
+ghost use Rattle.otel_base.specs.AnyValue.{integer, text, boolean, bytes, list, trees_eq};
+ghost use Rattle.otel_base.specs.AnyValue.{entries_eq, IsMapOf};
 ghost use Rattle.otel_base.specs.AnyValueLaws.{eq-equiv};
 ghost use Rattle.otel_base.specs.View.{tree, trees_view, entries_view, pairs_view};
 
@@ -14,8 +15,8 @@ use std::default::Emptied;
 
 /// A tree of values (the Rust crate's `AnyValue`, without its floats).
 ///
-/// Trees are equal where they have the same shape and content; values of different cases are never equal, and maps
-/// are equal where they hold equal trees under the same keys.
+/// Trees are equal where they have the same shape and content; values of different cases are never
+/// equal, and maps are equal where they hold equal trees under the same keys.
 #[derive(Debug, Drop)]
 pub enum AnyValue {
     /// An integer.
@@ -44,8 +45,8 @@ impl AnyValue {
         Ok(AnyValue::ListAny(Box::new(alloc, values)?))
     }
 
-    /// The map of the given pairs, where the last value of a key wins (the Rust crate's `FromIterator<(K, V)> for
-    /// AnyValue`).
+    /// The map of the given pairs, where the last value of a key wins (the Rust crate's
+    /// `FromIterator<(K, V)> for AnyValue`).
     ///
     /// # Errors
     ///
@@ -76,7 +77,8 @@ impl AnyValue {
 impl Clone for AnyValue {
     ghost is_clone = { λ v w. tree w ≡ tree v };
 
-    /// A tree of the same meaning, made in one walk. Its `AllocError` reports that a request for memory failed.
+    /// A tree of the same meaning, made in one walk. Its `AllocError` reports that a request for
+    /// memory failed.
     fn clone(&self) -> Result<AnyValue, AllocError> {
         copy(self)
     }

@@ -69,7 +69,8 @@ impl Clone for Array {
 impl PartialEq for Array {
     ghost eq = { λ a b. spec.eq (array_of a) (array_of b) };
 
-    ghost laws = { on_per array_of (partial_equiv_from_equiv (equiv_from_decides spec.eq array_eq-Decides)) };
+    ghost laws = { on_per array_of (partial_equiv_from_equiv
+        (equiv_from_decides spec.eq array_eq-Decides)) };
 
     /// Whether both have the same type and the same items in order.
     fn eq(&self, other: &Array) -> bool

@@ -13,8 +13,9 @@ use std::rc::RcStr;
 
 /// The key of an attribute, a context entry or a baggage entry (the Rust crate's `Key`).
 ///
-/// It means its text, the list of its UTF-8 bytes, whether that is owned, static or shared. Equality, order (by the
-/// bytes), hash and `Display` look at the text alone, so ordered and hashed maps may be keyed by it.
+/// It means its text, the list of its UTF-8 bytes, whether that is owned, static or shared.
+/// Equality, order (by the bytes), hash and `Display` look at the text alone, so ordered and hashed
+/// maps may be keyed by it.
 #[derive(Eq, PartialOrd, Ord, Hash, Debug, Drop)]
 pub struct Key {
     text: Text,
@@ -56,7 +57,8 @@ impl Key {
 
     /// The text as an owned `String` (the Rust crate's `From<Key> for String`).
     ///
-    /// A key made from a `String` gives it back without taking memory; a static or shared text is copied.
+    /// A key made from a `String` gives it back without taking memory; a static or shared text is
+    /// copied.
     ///
     /// # Errors
     ///

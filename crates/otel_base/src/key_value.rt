@@ -45,7 +45,8 @@ impl Clone for KeyValue {
 impl PartialEq for KeyValue {
     ghost eq = { λ a b. spec.eq (attribute_of a) (attribute_of b) };
 
-    ghost laws = { on_per attribute_of (partial_equiv_from_equiv (equiv_from_decides spec.eq attribute_eq-Decides)) };
+    ghost laws = { on_per attribute_of
+        (partial_equiv_from_equiv (equiv_from_decides spec.eq attribute_eq-Decides)) };
 
     /// Whether both have the same key and the same value.
     fn eq(&self, other: &KeyValue) -> bool

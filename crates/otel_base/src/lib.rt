@@ -1,5 +1,5 @@
-//! Texts, attributes, instrumentation scopes, value trees and severities of OpenTelemetry: the plain data that
-//! contexts, spans and log records carry.
+//! Texts, attributes, instrumentation scopes, value trees and severities of OpenTelemetry: the
+//! plain data that contexts, spans and log records carry.
 #![tactic(auto)]
 
 mod any_value;

@@ -1,5 +1,6 @@
 //! Instrumentation scopes: which library or module made a span or a log record.
-ghost use Rattle.std.specs.Prelude.{◌≡◌, IsTrue, ◌↔◌, IfOk, IsOk, Some, None, [], ◌++◌, map, option_map, fold, length};
+ghost use Rattle.std.specs.Prelude.{◌≡◌, IsTrue, ◌↔◌, IfOk, IsOk, Some, None, [], ◌++◌, map};
+ghost use Rattle.std.specs.Prelude.{option_map, fold, length};
 ghost use Rattle.std.specs.Cmp.{partial_equiv_from_equiv};
 ghost use Rattle.std.specs.Cmp.Lexicographic.{pointwise};
 ghost use Rattle.std.specs.Option.{option_eq};
@@ -7,6 +8,7 @@ ghost use Rattle.std.specs.List.{slice_get, flat_map};
 ghost use Rattle.std.specs.Slice.Iter.{iter_rest};
 ghost use Rattle.otel_base.specs.View.{attribute_of};
 ghost use Rattle.otel_base.specs.KeyValue as attribute;
+ghost use Rattle.otel_base.specs.KeyOrder as order;
 ghost use Rattle.otel_base.specs.KeyOrder.{IsKeyOrder, in_key_order, position_cmp};
 ghost use Rattle.otel_base.specs.InstrumentationScope as spec;
 ghost use Rattle.otel_base.specs.InstrumentationScope.{IsSameScope, texts_eq};
@@ -22,8 +24,9 @@ use std::slice::Iter;
 
 /// A library or module that makes spans or log records (the Rust crate's `InstrumentationScope`).
 ///
-/// Two scopes are equal where their names, versions and schema URLs agree and, for every key, the list of the values
-/// under that key, in given order, agrees. Equality and hash take no memory and are linear in the attributes.
+/// Two scopes are equal where their names, versions and schema URLs agree and, for every key, the
+/// list of the values under that key, in given order, agrees. Equality and hash take no memory and
+/// are linear in the attributes.
 #[derive(Debug, Drop)]
 pub struct InstrumentationScope {
     name: StringValue,
@@ -125,7 +128,8 @@ impl Clone for InstrumentationScope {
 }
 
 fn attribute_at(attributes: &[KeyValue], position: usize) -> Option<&KeyValue>
-    ensures { option_map (λ a. attribute_of a.now) result ≡ slice_get (map attribute_of attributes.now) position }
+    ensures { option_map (λ a. attribute_of a.now) result
+        ≡ slice_get (map attribute_of attributes.now) position }
 {
     attributes.get(position)
 }
@@ -137,7 +141,9 @@ fn same_in_order(
     right: &[KeyValue],
     right_positions: &[usize],
 ) -> bool
-    ensures { result ≡ pointwise (option_eq attribute.eq) (map (slice_get (map attribute_of left.now)) left_positions.now) (map (slice_get (map attribute_of right.now)) right_positions.now) }
+    ensures { result ≡ order.same_in_order
+        (map attribute_of left.now) left_positions.now
+        (map attribute_of right.now) right_positions.now }
 {
     if left_positions.len() != right_positions.len() {
         return false;
@@ -177,7 +183,8 @@ impl Eq for InstrumentationScope {
 // The attributes at the positions, one after another.
 fn hash_in_order<H: Hasher>(attributes: &[KeyValue], positions: &[usize], state: &mut H)
     requires { IsKeyOrder (map attribute_of attributes.now) positions.now }
-    ensures { state.new ≡ fold H.write state.old (flat_map attribute.hash (in_key_order (map attribute_of attributes.now))) }
+    ensures { state.new ≡ fold H.write state.old
+        (flat_map attribute.hash (in_key_order (map attribute_of attributes.now))) }
 {
     for position in positions {
         attributes[*position].hash(state);
@@ -198,7 +205,8 @@ impl Hash for InstrumentationScope {
     }
 }
 
-/// The parts of an instrumentation scope while they are given (the Rust crate's `InstrumentationScopeBuilder`).
+/// The parts of an instrumentation scope while they are given (the Rust crate's
+/// `InstrumentationScopeBuilder`).
 #[derive(Debug, Drop)]
 pub struct InstrumentationScopeBuilder {
     name: StringValue,
@@ -260,7 +268,8 @@ impl InstrumentationScopeBuilder {
         self
     }
 
-    /// Sets the attributes in place of those of an earlier call. Their order, and repeated keys, are kept.
+    /// Sets the attributes in place of those of an earlier call. Their order, and repeated keys,
+    /// are kept.
     pub fn with_attributes(mut self, attributes: Vec<KeyValue>) -> InstrumentationScopeBuilder
         ensures { result ≡ spec.with_attributes (map attribute_of attributes.items) self }
     {
@@ -270,11 +279,13 @@ impl InstrumentationScopeBuilder {
 
     /// The scope of the given parts.
     ///
-    /// Puts the positions of the attributes into the order of their keys, once. Without attributes it takes no memory.
+    /// Puts the positions of the attributes into the order of their keys, once. Without attributes
+    /// it takes no memory.
     ///
     /// # Errors
     ///
-    /// `AllocError` where there are attributes and a request for memory fails. The parts are dropped.
+    /// `AllocError` where there are attributes and a request for memory fails. The parts are
+    /// dropped.
     pub fn build(self, alloc: Global) -> Result<InstrumentationScope, AllocError>
         ensures built { IfOk result (λ s. s ≡ self) }
         ensures without_memory { self.attributes ≡ [] → IsOk result }

@@ -127,7 +127,8 @@ impl Eq for Severity {
 impl PartialOrd for Severity {
     ghost partial_cmp = { as_partial_cmp (on spec.number nat_cmp) };
 
-    ghost laws = { partial_order_from_own_ties (Prim.search (comparing, rules)) (λ x y. unsigned_ties (spec.number x) (spec.number y)) };
+    ghost laws = { partial_order_from_own_ties (Prim.search (comparing, rules))
+        (λ x y. unsigned_ties (spec.number x) (spec.number y)) };
 
     fn partial_cmp(&self, other: &Severity) -> Option<Ordering> {
         Some(self.cmp(other))

@@ -16,8 +16,8 @@ use std::rc::RcStr;
 
 /// A text as a value (the Rust crate's `StringValue`).
 ///
-/// It means its text, the list of its UTF-8 bytes, whether that is owned, static or shared. Equality, order (by the
-/// bytes), hash and `Display` look at the text alone.
+/// It means its text, the list of its UTF-8 bytes, whether that is owned, static or shared.
+/// Equality, order (by the bytes), hash and `Display` look at the text alone.
 #[derive(Eq, PartialOrd, Hash, Debug, Drop)]
 pub struct StringValue {
     text: Text,
@@ -43,7 +43,8 @@ impl StringValue {
 
     /// The text as an owned `String` (the Rust crate's `From<StringValue> for String`).
     ///
-    /// A value made from a `String` gives it back without taking memory; a static or shared text is copied.
+    /// A value made from a `String` gives it back without taking memory; a static or shared text is
+    /// copied.
     ///
     /// # Errors
     ///
@@ -60,7 +61,8 @@ impl StringValue {
     ///
     /// # Errors
     ///
-    /// `AllocError` where the value is no text and a request for memory fails. The value is dropped.
+    /// `AllocError` where the value is no text and a request for memory fails. The value is
+    /// dropped.
     pub fn from_value(alloc: Global, value: Value) -> Result<StringValue, AllocError>
         ensures text { IfOk result (λ s. s ≡ display (value_of value)) }
         ensures without_memory { IsTrue (is_text (value_of value)) → IsOk result }

@@ -139,7 +139,8 @@ impl Clone for Value {
 impl PartialEq for Value {
     ghost eq = { λ a b. spec.eq (value_of a) (value_of b) };
 
-    ghost laws = { on_per value_of (partial_equiv_from_equiv (equiv_from_decides spec.eq value_eq-Decides)) };
+    ghost laws = { on_per value_of (partial_equiv_from_equiv
+        (equiv_from_decides spec.eq value_eq-Decides)) };
 
     /// Whether both have the same type and content.
     fn eq(&self, other: &Value) -> bool

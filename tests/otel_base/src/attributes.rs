@@ -100,9 +100,9 @@ fn an_array_of_1001_texts_is_printed_whole(rt: HostRuntime) -> Result<(), Fail> 
 }
 
 #[test]
-fn arrays_of_truths_are_printed(rt: HostRuntime) -> Result<(), Fail> {
-    let truths = Array::from([true, false].to_vec(rt.alloc())?);
-    prints(&rt, rt.alloc(), &Value::Array(truths), "[true,false]")?;
+fn arrays_of_booleans_are_printed(rt: HostRuntime) -> Result<(), Fail> {
+    let booleans = Array::from([true, false].to_vec(rt.alloc())?);
+    prints(&rt, rt.alloc(), &Value::Array(booleans), "[true,false]")?;
     let empty = Array::Bool(Vec::new(rt.alloc()));
     prints(&rt, rt.alloc(), &Value::Array(empty), "[]")?;
     Ok(())
@@ -132,12 +132,12 @@ fn values_of_different_types_differ(rt: HostRuntime) {
 
 #[test]
 fn empty_arrays_of_different_types_differ(rt: HostRuntime) {
-    let truths = Array::Bool(Vec::new(rt.alloc()));
+    let booleans = Array::Bool(Vec::new(rt.alloc()));
     let integers = Array::I64(Vec::new(rt.alloc()));
     let texts = Array::String(Vec::new(rt.alloc()));
-    assert!(rt; truths != integers);
+    assert!(rt; booleans != integers);
     assert!(rt; integers != texts);
-    assert!(rt; texts != truths);
+    assert!(rt; texts != booleans);
 }
 
 #[test]

@@ -41,7 +41,7 @@ fn the_last_value_of_a_key_wins(rt: HostRuntime) -> Result<(), Fail> {
 }
 
 #[test]
-fn numbers_and_truths_become_trees(rt: HostRuntime) {
+fn numbers_and_booleans_become_trees(rt: HostRuntime) {
     assert!(rt; AnyValue::from(-8i8) == AnyValue::Int(-8));
     assert!(rt; AnyValue::from(i16::MIN) == AnyValue::Int(-32768));
     assert!(rt; AnyValue::from(i32::MIN) == AnyValue::Int(-2147483648));

@@ -5,4 +5,6 @@ use Rattle.otel_base.proofs.array.write_items.Given as goal
 
 abbrev pub invariant-loop-i : goal.invariant-loop-i
 invariant-loop-i g l =
-    IsPlainFormatter l.fn.f → HasWritten g.W.Write.write_str_gives l.fn.f (91 ∷ join_with_byte 44 (map g.I.Item.text (take l.i l.items))) l.f
+    IsPlainFormatter l.fn.f
+    → HasWritten g.W.Write.write_str_gives l.fn.f
+    (91 ∷ join_with_byte 44 (map g.I.Item.text (take l.i l.items))) l.f

@@ -7,4 +7,6 @@ use Rattle.otel_base.proofs.scope.hash_in_order.Given as goal
 
 abbrev pub invariant-loop-position : goal.invariant-loop-position
 invariant-loop-position g l =
-    l.state ≡ fold g.H.Hasher.write l.initial.state (flat_map attribute.hash (take l.position-index (in_key_order (map attribute_of l.attributes))))
+    l.state ≡ fold g.H.Hasher.write l.initial.state
+    (flat_map attribute.hash
+    (take l.position-index (in_key_order (map attribute_of l.attributes))))

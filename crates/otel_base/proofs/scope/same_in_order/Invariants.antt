@@ -9,5 +9,8 @@ use Rattle.otel_base.proofs.scope.same_in_order.Given as goal
 -- what is left to compare decides
 abbrev pub invariant-loop-place : goal.invariant-loop-place
 invariant-loop-place l =
-    pointwise (option_eq attribute.eq) (map (slice_get (map attribute_of l.left)) l.left_positions) (map (slice_get (map attribute_of l.right)) l.right_positions)
-    ≡ pointwise (option_eq attribute.eq) (map (slice_get (map attribute_of l.left)) (drop l.place l.left_positions)) (map (slice_get (map attribute_of l.right)) (drop l.place l.right_positions))
+    pointwise (option_eq attribute.eq) (map (slice_get (map attribute_of l.left)) l.left_positions)
+    (map (slice_get (map attribute_of l.right)) l.right_positions)
+    ≡ pointwise (option_eq attribute.eq)
+    (map (slice_get (map attribute_of l.left)) (drop l.place l.left_positions))
+    (map (slice_get (map attribute_of l.right)) (drop l.place l.right_positions))
