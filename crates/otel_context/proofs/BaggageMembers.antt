@@ -1,5 +1,6 @@
 -- The members of a header, which it determines.
-use Rattle.std.proofs.Common.{◌≡◌, ℕ, ◌+◌, ◌*◌, ◌<◌, ◌≤◌, true, List, [], ◌∷◌, ◌++◌, length, All, refl, sym, ap, ◌∙◌, arith, length-append}
+use Rattle.std.proofs.Common.{◌≡◌, ℕ, ◌+◌, ◌*◌, ◌<◌, ◌≤◌, true, List, [], ◌∷◌, ◌++◌, length, All}
+use Rattle.std.proofs.Common.{refl, sym, ap, ◌∙◌, arith, length-append}
 use Rattle.std.specs.Prelude.{not, ◌==◌, nat_lt}
 use Rattle.std.specs.List.{list_all, AllByRecursion}
 use Rattle.std.proofs.lemmas.Bool.{and_parts, false≢true}
@@ -12,8 +13,10 @@ use Rattle.otel_context.specs.BaggageMember.{Member, member_of, weight_of, IsVal
 use Rattle.otel_context.specs.Baggage.{weight}
 use Rattle.otel_context.specs.BaggageHeader.{metadata_text, member_text, header}
 use Rattle.otel_context.specs.BaggageLaws.{HasNoComma, HeaderDetermines, HeaderIsShort}
-use Rattle.otel_context.proofs.BaggageCuts.{Lacks, list_all-append, list_all-weaker, no_cut, same_cut}
-use Rattle.otel_context.proofs.BaggageEscapes.{escaped-injective, escaped_no_comma, escaped_no_semicolon, length-escaped}
+use Rattle.otel_context.proofs.BaggageCuts.{Lacks, list_all-append, list_all-weaker, no_cut}
+use Rattle.otel_context.proofs.BaggageCuts.{same_cut}
+use Rattle.otel_context.proofs.BaggageEscapes.{escaped-injective, escaped_no_comma}
+use Rattle.otel_context.proofs.BaggageEscapes.{escaped_no_semicolon, length-escaped}
 
 -- ---- which bytes a member lacks
 

@@ -2,7 +2,8 @@
 use Rattle.std.proofs.Common.{◌≡◌, ℕ, true, List, [], ◌∷◌, length, refl, sym, ap, ◌∙◌, ⊎_elim}
 use Rattle.std.specs.Prelude.{◌&&◌, ◌==◌}
 use Rattle.std.specs.Char.{is_whitespace}
-use Rattle.std.specs.Str.{IsUtf8, chars, encode_utf8_all, all_scalars, trim, trim_start, trim_end, skip_leading_whitespace as skip, drop_trailing_whitespace as shed}
+use Rattle.std.specs.Str.{IsUtf8, chars, encode_utf8_all, all_scalars, trim, trim_start, trim_end}
+use Rattle.std.specs.Str.{skip_leading_whitespace as skip, drop_trailing_whitespace as shed}
 use Rattle.std.proofs.lemmas.Str.{chars-encodes}
 use Rattle.std.proofs.lemmas.Bool.{cases_Bool, and_parts, and_from, and_left, cond-true, cond-false}
 use Rattle.otel_context.specs.BaggageText.{IsTrimmed}

@@ -1,6 +1,8 @@
 -- What a baggage is, a list of members in the order in which their keys came, and what its calls
 -- do to that list.
-use Rattle.std.specs.Prelude.{◌≡◌, ℕ, ◌≤◌, Bool, true, not, ◌&&◌, ◌||◌, nat_le, nat_lt, List, [], ◌∷◌, ◌++◌, length, map, filter, find, fold, sum_by, All, Option, None, option_map, Result, OnOk, OnErr, IfOk, if◌then◌else◌, codes, refl}
+use Rattle.std.specs.Prelude.{◌≡◌, ℕ, ◌≤◌, Bool, true, not, ◌&&◌, ◌||◌, nat_le, nat_lt, List, []}
+use Rattle.std.specs.Prelude.{◌∷◌, ◌++◌, length, map, filter, find, fold, sum_by, All, Option, None}
+use Rattle.std.specs.Prelude.{option_map, Result, OnOk, OnErr, IfOk, if◌then◌else◌, codes, refl}
 use Rattle.std.specs.List.{IsDistinct, list_any}
 use Rattle.std.specs.Str.{bytes_eq}
 use Rattle.otel_context.specs.BaggageText.{is_key}
@@ -72,7 +74,8 @@ replaced_value ms m = if accepts ms m then get ms m.key else None
 
 -- What the two inserts do to the list and return, where `given` is what m takes the place of.
 -- An error leaves the list, and comes only where m is accepted and its key is new.
-pub record Inserts {X E : Type 0} (old new : List Member) (m : Member) (given : X) (result : Result X E) : Type 0 where
+pub record Inserts {X E : Type 0} (old new : List Member) (m : Member) (given : X)
+    (result : Result X E) : Type 0 where
   pub ok : OnOk result (new ≡ insert old m)
   pub returned : IfOk result (λ x. x ≡ given)
   pub err : OnErr result (new ≡ old)

@@ -1,10 +1,12 @@
 -- The texts of a baggage: which keys and which metadata it holds, and how a value is escaped.
-use Rattle.std.specs.Prelude.{◌≡◌, ℕ, ◌/◌, ◌%◌, Bool, true, false, not, ◌&&◌, ◌||◌, ◌==◌, nat_le, nat_lt, List, [], ◌∷◌, length, codes, if◌then◌else◌, refl}
+use Rattle.std.specs.Prelude.{◌≡◌, ℕ, ◌/◌, ◌%◌, Bool, true, false, not, ◌&&◌, ◌||◌, ◌==◌, nat_le}
+use Rattle.std.specs.Prelude.{nat_lt, List, [], ◌∷◌, length, codes, if◌then◌else◌, refl}
 use Rattle.std.specs.List.{list_all, list_any, flat_map}
 use Rattle.std.specs.Fmt.{digit_glyph}
 use Rattle.std.specs.Str.{trim}
 
--- A delimiter: one of the visible ASCII characters that stand in no token (RFC 7230, section 3.2.6).
+-- A delimiter: one of the visible ASCII characters that stand in no token (RFC 7230,
+-- section 3.2.6).
 abbrev pub is_delimiter : ℕ → Bool
 is_delimiter b = list_any (λ d. d == b) (codes "(),/:;<=>?@[\\]{}\"")
 

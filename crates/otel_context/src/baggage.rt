@@ -2,12 +2,14 @@
 //!
 //! A contract sees a baggage as the list of its members, each a key with its value and its metadata
 //! (W3C baggage, `list-member`): at most 64 of distinct keys, and at most 8192 bytes in all.
-ghost use Rattle.std.specs.Prelude.{◌≡◌, List, [], length, position, map as map_list, Some, IfOk, IsTrue, ◌↔◌};
+ghost use Rattle.std.specs.Prelude.{◌≡◌, List, [], length, position, map as map_list, Some, IfOk};
+ghost use Rattle.std.specs.Prelude.{IsTrue, ◌↔◌};
 ghost use Rattle.std.specs.Map.{keys_of};
 ghost use Rattle.std.specs.Map.Iter.{ShowsInOrder};
 ghost use Rattle.std.specs.Option.{option_copied};
 ghost use Rattle.std.specs.Str.{bytes_eq};
-ghost use Rattle.otel_context.specs.Baggage.{get, get_with_metadata, Inserts, replaced, replaced_value, remove, from_members, IsBaggage};
+ghost use Rattle.otel_context.specs.Baggage.{get, get_with_metadata, Inserts, replaced};
+ghost use Rattle.otel_context.specs.Baggage.{replaced_value, remove, from_members, IsBaggage};
 ghost use Rattle.otel_context.specs.BaggageHeader.{header};
 ghost use Rattle.otel_context.specs.BaggageMember.{member_of};
 ghost use Rattle.otel_context.specs.BaggageView.{entry_members, lent_member};
@@ -29,7 +31,8 @@ use std::marker::Model;
 
 /// A list of keys, each with a value and metadata, in the order in which the keys came.
 ///
-/// It has at most 64 members, of distinct keys, and all their texts have at most 8192 bytes together.
+/// It has at most 64 members, of distinct keys, and all their texts have at most 8192 bytes
+/// together.
 /// A key is one or more of the ASCII characters `!` to `~`, without the delimiters
 /// `(),/:;<=>?@[\]{}"` (RFC 7230, section 3.2.6).
 ///
@@ -145,8 +148,8 @@ impl Baggage {
     /// Removes the member of the key, and returns its value and metadata, or `None` where no member
     /// has the key.
     ///
-    /// The others keep their order, and the bytes of the member don't count any more. It compares at
-    /// most 64 keys, and takes no memory.
+    /// The others keep their order, and the bytes of the member don't count any more. It compares
+    /// at most 64 keys, and takes no memory.
     pub fn remove(&mut self, key: &str) -> Option<(StringValue, BaggageMetadata)>
         ensures list { self.new ≡ remove self.old key.now }
         ensures old { result ≡ get_with_metadata self.old key.now }
@@ -184,8 +187,8 @@ impl Baggage {
         }
     }
 
-    /// The baggage of these members, inserted in order into the empty one. What isn't accepted is left
-    /// out.
+    /// The baggage of these members, inserted in order into the empty one. What isn't accepted is
+    /// left out.
     ///
     /// # Errors
     ///
@@ -220,8 +223,8 @@ impl Baggage {
         Ok(baggage)
     }
 
-    /// The baggage of these members, inserted in order into the empty one. What isn't accepted is left
-    /// out.
+    /// The baggage of these members, inserted in order into the empty one. What isn't accepted is
+    /// left out.
     ///
     /// # Errors
     ///

@@ -129,8 +129,8 @@ impl KeyValueMetadata {
         }
     }
 
-    /// An attribute's key and the printed text of its value, with no metadata (`From<KeyValue>` of the
-    /// Rust crate).
+    /// An attribute's key and the printed text of its value, with no metadata (`From<KeyValue>` of
+    /// the Rust crate).
     ///
     /// A value that is a text is handed on without a request for memory.
     ///

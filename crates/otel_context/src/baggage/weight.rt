@@ -1,6 +1,8 @@
 //! How many bytes a baggage has, and whether a member is accepted.
-ghost use Rattle.std.specs.Prelude.{◌≡◌, ◌+◌, ◌≤◌, length, ◌&&◌, nat_le, nat_lt, Some, None, if◌then◌else◌};
-ghost use Rattle.otel_context.specs.Baggage.{IsBaggage, max_key_value_pairs, max_len_of_all_pairs, weight};
+ghost use Rattle.std.specs.Prelude.{◌≡◌, ◌+◌, ◌≤◌, length, ◌&&◌, nat_le, nat_lt, Some, None};
+ghost use Rattle.std.specs.Prelude.{if◌then◌else◌};
+ghost use Rattle.otel_context.specs.Baggage.{IsBaggage, max_key_value_pairs, max_len_of_all_pairs};
+ghost use Rattle.otel_context.specs.Baggage.{weight};
 ghost use Rattle.otel_context.specs.BaggageMember.{member_of, weight_of};
 ghost use Rattle.otel_context.specs.BaggageText.{is_key, IsTrimmed};
 ghost use Rattle.otel_context.specs.BaggageView.{entry_member, entry_members};
