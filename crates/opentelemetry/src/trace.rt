@@ -8,7 +8,10 @@ mod tracer_provider;
 
 pub use event::Event;
 pub use link::Link;
-pub use otel_context::{Span, SpanCause, SpanKind, SpanRefused, Spans, Status};
+pub use otel_context::{
+    Span, SpanCause, SpanKind, SpanRef, SpanRefused, Spans, Status, get_active_span,
+    mark_span_as_active,
+};
 pub use otel_ids::{
     SpanContext, SpanId, TraceFlags, TraceId, TraceState, TraceStateError, TraceStateIter,
 };

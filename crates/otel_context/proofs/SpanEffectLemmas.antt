@@ -2,7 +2,8 @@
 use Rattle.std.proofs.Common.{◌≡◌, ℕ, List, ◌++◌, length, take, fold, sym, ap, ◌∙◌, arith, length-append, Bool, true}
 use Rattle.std.proofs.lemmas.Grind.{common_steps}
 use Rattle.std.specs.Prelude.{Option, Result, Ok, Err, OnOk, OnErr, IfSome, codes}
-use Rattle.otel_context.specs.SpanEffects.{Attribute, message, RecordsError, SetSoFar, SetsBeginning}
+use Rattle.otel_base.specs.KeyValue.{Attribute}
+use Rattle.otel_context.specs.SpanEffects.{message, RecordsError, SetSoFar, SetsBeginning}
 
 take_append : {A : Type 0} (xs ys : List A) → take (length xs) (xs ++ ys) ≡ xs
 take_append xs ys = grind (arith, common_steps)

@@ -1,9 +1,9 @@
 -- A `BTreeMap` from numbers to spans, seen as the finite map of its entries.
-use Rattle.std.proofs.Common.{◌≡◌, ℕ, ◌+◌, List, [], ◌∷◌, length, Option, Some, None, cond, true, is_some, refl, sym, ap, ◌∙◌, arith}
+use Rattle.std.proofs.Common.{◌≡◌, ℕ, ◌+◌, List, [], ◌∷◌, length, Option, Some, None, Bool, cond, true, false, is_some, refl, sym, ap, ◌∙◌, arith, inr}
 use Rattle.std.specs.Borrow.{MutBor}
 use Rattle.std.specs.Option.{IsSome, OnSome, option_copied_mut}
 use Rattle.std.specs.Ordering.{nat_cmp, eq_by_cmp, is_eq}
-use Rattle.std.specs.Cmp.{nat_cmp_total, eq_by_cmp_equiv}
+use Rattle.std.specs.Cmp.{nat_cmp_total, eq_by_cmp_equiv, unsigned_Decides}
 use Rattle.std.specs.List.{IsDistinct}
 use Rattle.std.specs.Map.{lookup, keys_of}
 use Rattle.std.specs.declared.cmp.Ordering.{Ordering}
@@ -15,7 +15,11 @@ use Rattle.std.proofs.lemmas.Map.{lookup-none}
 use Rattle.std.proofs.lemmas.Map.Keys.{IsDistinct-from_sorted, IsDistinct-tail}
 use Rattle.std.proofs.lemmas.Map.Entries.{none_past_head}
 use Rattle.std.proofs.lemmas.Map.Made.{IsSome-lookup_same_keys}
-use Rattle.otel_context.specs.Spans.{map_of}
+use Rattle.otel_context.specs.View.{map_of}
+use Rattle.otel_context.specs.Spans.{SpansState, get, insert, take, used_up, cause_of, HasSameSpans}
+use Rattle.otel_context.specs.declared.spans.SpanCause.TheVariants.{NumbersUsedUp, Memory}
+use Rattle.std.specs.Prelude.{◌==◌, if◌then◌else◌, alloc_error}
+use Rattle.std.proofs.lemmas.Bool.{false_from_ne_true}
 
 flipped : (k q : ℕ) → eq_by_cmp nat_cmp q k ≡ is_at (nat_cmp k) q
 flipped k q = (eq_by_cmp_equiv nat_cmp_total).symm q k
@@ -70,3 +74,27 @@ module _ {S : Type 0} where
   pub None-absent : (o : Option S) → (IsSome o → ⊥) → o ≡ None
   None-absent (Some x) h = absurd (h refl)
   None-absent None h = refl
+
+  pub get-insert : (t : SpansState S) (s : S) → get (insert t s) t.next_number ≡ Some s
+  get-insert t s =
+      map.get-insert nat_cmp_total t.spans t.next_number s t.next_number ∙ ap (λ b. cond b (Some s) (map.get t.spans t.next_number)) ((eq_by_cmp_equiv nat_cmp_total).refl t.next_number)
+
+  folded : (b : Bool) (o v : Option S) → (b ≡ true → o ≡ None) → cond b None (cond b v o) ≡ o
+  folded true o v h = sym (h refl)
+  folded false o v h = refl
+
+  -- to take a span back that was just put in leaves the same spans
+  pub HasSameSpans-take_back : (t : SpansState S) (s : S) → get t t.next_number ≡ None → HasSameSpans t (take (insert t s) t.next_number)
+  HasSameSpans-take_back t s absent =
+      let m = t.spans in let k = t.next_number in
+      record {
+        spans = map.same_map nat_cmp_total map.nat_cmp-IsAntisymmetric _ _ (λ q.
+            map.get-remove nat_cmp_total (map.insert m k s) k q
+            ∙ ap (cond (eq_by_cmp nat_cmp q k) None) (map.get-insert nat_cmp_total m k s q)
+            ∙ folded (eq_by_cmp nat_cmp q k) (map.get m q) (Some s) (λ e. ap (map.get m) (map.nat_cmp-IsAntisymmetric q k (equal_of (nat_cmp q k) e)) ∙ absent));
+        next_number = inr refl;
+      }
+
+  -- where numbers are left, a table takes no span only because a request for memory failed
+  pub cause_of-memory : (t : SpansState S) → (t.next_number ≡ used_up → ⊥) → cause_of t ≡ Memory alloc_error
+  cause_of-memory t left = ap (λ b. if b then NumbersUsedUp else Memory alloc_error) (false_from_ne_true (t.next_number == used_up) (λ e. left ((unsigned_Decides t.next_number used_up).0 e)))

@@ -68,6 +68,13 @@ with_remote_span_context context remote = record context {
   span = Some (record { context = remote; number = None });
 }
 
+-- the same context, whose active span is a local one, of this span context and this number in its
+-- span table (`Context::with_span`)
+abbrev pub with_span : ContextRecord → SpanContextRecord → ℕ → ContextRecord
+with_span context local number = record context {
+  span = Some (record { context = local; number = Some number });
+}
+
 -- whether telemetry is suppressed (`Context::is_telemetry_suppressed`)
 abbrev pub is_telemetry_suppressed : ContextRecord → Bool
 is_telemetry_suppressed context = context.suppressed

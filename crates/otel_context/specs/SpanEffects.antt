@@ -1,20 +1,19 @@
 -- What the calls of a span that are made of others do.
-use Rattle.std.specs.Prelude.{◌≡◌, ◌≤◌, ℕ, List, [], ◌∷◌, ◌++◌, Bool, length, map, take, fold, codes, Option, IfSome, MatchBool}
+use Rattle.std.specs.Prelude.{◌≡◌, ◌≤◌, ℕ, List, [], ◌∷◌, ◌++◌, length, map, take, fold, codes}
+use Rattle.std.specs.Prelude.{Bool, Option, IfSome, MatchBool}
 use Rattle.std.specs.declared.vec.Vec.{Vec}
 use Rattle.std.specs.declared.alloc.Global.{Global}
-use Rattle.otel_base.specs.Value.{AttributeValue, text}
+use Rattle.otel_base.specs.KeyValue.{Attribute}
+use Rattle.otel_base.specs.Value.{text}
 use Rattle.otel_base.specs.View.{attribute_of}
 use Rattle.otel_base.specs.declared.key_value.KeyValue.{KeyValue}
-
--- an attribute: its key and what its value holds (the Rust crate's `KeyValue`)
-abbrev pub Attribute : Type 0
-Attribute = List ℕ × AttributeValue
 
 -- the attributes of a list, in order
 abbrev pub attributes_of : Vec KeyValue Global → List Attribute
 attributes_of attributes = map attribute_of attributes.items
 
--- the one attribute of an error's event: `exception.message`, with the error's text (OpenTelemetry semantic conventions, "Exceptions")
+-- the one attribute of an error's event: `exception.message`, with the error's text (OpenTelemetry
+-- semantic conventions, "Exceptions")
 abbrev pub message : List ℕ → List Attribute
 message printed = (codes "exception.message", text printed) ∷ []
 
@@ -23,29 +22,37 @@ module _ {S : Type 0} where
   abbrev pub each_set : (S → Attribute → S) → S → List Attribute → S
   each_set after_attribute span attributes = fold after_attribute span attributes
 
-  -- where the span records, each attribute is set in order; else it is as it was (the Rust crate's `set_attributes`)
-  abbrev pub SetsAttributes : (S → Bool) → (S → Attribute → S) → S → List Attribute → S → Type 0
+  -- where the span records, each attribute is set in order; else it is as it was (the Rust crate's
+  -- `set_attributes`)
+  abbrev pub SetsAttributes : (S → Bool) → (S → Attribute → S) → S → List Attribute → S
+      → Type 0
   SetsAttributes is_recording after_attribute old attributes new =
       MatchBool (is_recording old) (new ≡ each_set after_attribute old attributes) (new ≡ old)
 
   -- some first ones of the attributes were set, in order
-  pub record SetsBeginning (after_attribute : S → Attribute → S) (old : S) (attributes : List Attribute) (new : S) : Type 0 where
+  pub record SetsBeginning (after_attribute : S → Attribute → S) (old : S)
+      (attributes : List Attribute) (new : S) : Type 0 where
     pub count : ℕ
     pub within : count ≤ length attributes
     pub set : new ≡ each_set after_attribute old (take count attributes)
 
-  -- an event `exception` at that time, with the error's text: what the error prints, where its type says what it prints
-  pub record AddsException (after_event : List ℕ → ℕ → List Attribute → S) (output : Option (List ℕ)) (time : ℕ) (new : S) : Type 0 where
+  -- an event `exception` at that time, with the error's text: what the error prints, where its type
+  -- says what it prints
+  pub record AddsException (after_event : List ℕ → ℕ → List Attribute → S)
+      (output : Option (List ℕ)) (time : ℕ) (new : S) : Type 0 where
     pub printed : List ℕ
     pub prints : IfSome output (λ bytes. printed ≡ bytes)
     pub added : new ≡ after_event (codes "exception") time (message printed)
 
-  -- where the span records, the error's event is added; else it is as it was (the Rust crate's `record_error`)
-  abbrev pub RecordsError : (S → Bool) → (S → List ℕ → ℕ → List Attribute → S) → S → Option (List ℕ) → ℕ → S → Type 0
+  -- where the span records, the error's event is added; else it is as it was (the Rust crate's
+  -- `record_error`)
+  abbrev pub RecordsError : (S → Bool) → (S → List ℕ → ℕ → List Attribute → S) → S
+      → Option (List ℕ) → ℕ → S → Type 0
   RecordsError is_recording after_event old output time new =
       MatchBool (is_recording old) (AddsException (after_event old) output time new) (new ≡ old)
 
   -- these first ones were set, and the others are left
-  pub record SetSoFar (after_attribute : S → Attribute → S) (old : S) (attributes : List Attribute) (new : S) (done left : List Attribute) : Type 0 where
+  pub record SetSoFar (after_attribute : S → Attribute → S) (old : S)
+      (attributes : List Attribute) (new : S) (done left : List Attribute) : Type 0 where
     pub set : new ≡ each_set after_attribute old done
     pub parts : attributes ≡ done ++ left

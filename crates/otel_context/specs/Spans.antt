@@ -1,7 +1,8 @@
--- What a span table is: a finite map from numbers to spans, and the number that is given out next (own: the Rust crate's contexts share their spans).
-use Rattle.std.specs.Prelude.{◌≡◌, ◌⊎◌, ℕ, ◌+◌, ◌==◌, Option, if◌then◌else◌, alloc_error}
+-- What a span table is: a finite map from numbers to spans, and the number that is given out next
+-- (own: the Rust crate's contexts share their spans).
+use Rattle.std.specs.Prelude.{◌≡◌, ◌⊎◌, ℕ, ◌+◌, ◌==◌, Option, Some, None, alloc_error}
+use Rattle.std.specs.Prelude.{if◌then◌else◌}
 use Rattle.std.specs.Ordering.{nat_cmp}
-use Rattle.std.specs.BTreeMap.{BTreeMap}
 use Rattle.std.specs.FinMap as map
 use Rattle.otel_context.specs.declared.spans.SpanCause.{SpanCause}
 use Rattle.otel_context.specs.declared.spans.SpanCause.TheVariants.{NumbersUsedUp, Memory}
@@ -17,10 +18,6 @@ abbrev pub used_up : ℕ
 used_up = 18446744073709551615
 
 module _ {S : Type 0} where
-  -- the entries of a tree as a finite map
-  abbrev pub map_of : BTreeMap ℕ S → map.FinMap nat_cmp S
-  map_of tree = map.from_entries tree.entries
-
   -- no span, and the number that is given out first
   abbrev pub starting_at : ℕ → SpansState S
   starting_at first = record { spans = map.empty; next_number = first }
@@ -44,6 +41,16 @@ module _ {S : Type 0} where
   -- the table with this span in place of the one under the number
   abbrev pub replace : SpansState S → ℕ → S → SpansState S
   replace table number span = record table { spans = map.insert table.spans number span }
+
+  -- the span under the number of a context, where there are both
+  abbrev pub find : SpansState S → Option ℕ → Option S
+  find table None = None
+  find table (Some number) = get table number
+
+  -- the table with this span under the number of a context, where there is one
+  abbrev pub replace_found : SpansState S → Option ℕ → S → SpansState S
+  replace_found table None span = table
+  replace_found table (Some number) span = replace table number span
 
   -- the table without the span under the number, which isn't given out again
   abbrev pub take : SpansState S → ℕ → SpansState S

@@ -1,27 +1,19 @@
 -- What a span table ends as, where one of its spans is lent for writing (own).
-use Rattle.std.specs.Prelude.{◌≡◌, ℕ, Option, Some, None, OnSome}
+use Rattle.std.specs.Prelude.{◌≡◌, ℕ, Option, OnSome}
 use Rattle.std.specs.Borrow.{LendsSo, follows_so, Fml, RattleType, MutBor}
 use Rattle.std.specs.Option.{ghost_name_of}
-use Rattle.otel_context.specs.Spans.{SpansState, get, replace}
+use Rattle.otel_context.specs.Spans.{SpansState, replace, replace_found}
 use Rattle.otel_context.specs.contracts.spans.Spans.{the_row}
 
 -- once the borrow ends, the number has the span that was left behind it; at `None` the table stays
-abbrev pub LendsSpan : (S : RattleType) → MutBor (SpansState S.Denot) → ℕ → Option (MutBor S.Denot) → Fml
+abbrev pub LendsSpan : (S : RattleType) → MutBor (SpansState S.Denot) → ℕ
+    → Option (MutBor S.Denot) → Fml
 LendsSpan S table number lent = LendsSo (the_row S) S table lent
     (λ after span. OnSome lent (after ≡ replace table.now number span)) (λ after. after ≡ table.now)
 
-module _ {S : Type 0} where
-  -- the span under the number, where there are both
-  abbrev pub find : SpansState S → Option ℕ → Option S
-  find table None = None
-  find table (Some number) = get table number
-
-  -- the table with this span under the number, where there is one
-  abbrev pub replace_found : SpansState S → Option ℕ → S → SpansState S
-  replace_found table None span = table
-  replace_found table (Some number) span = replace table number span
-
 -- the same of a number that may be absent
-abbrev pub LendsFound : (S : RattleType) → MutBor (SpansState S.Denot) → Option ℕ → Option (MutBor S.Denot) → Fml
+abbrev pub LendsFound : (S : RattleType) → MutBor (SpansState S.Denot) → Option ℕ
+    → Option (MutBor S.Denot) → Fml
 LendsFound S table number lent = follows_so (the_row S) S table.ghost_name (ghost_name_of lent)
-    (λ span after. OnSome lent (after ≡ replace_found table.now number span)) (λ after. after ≡ table.now)
+    (λ span after. OnSome lent (after ≡ replace_found table.now number span))
+    (λ after. after ≡ table.now)

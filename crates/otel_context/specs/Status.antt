@@ -6,7 +6,8 @@ use Rattle.std.specs.Cmp.Lexicographic.{slice_cmp, pointwise}
 use Rattle.otel_context.specs.declared.status.Status.{Status}
 use Rattle.otel_context.specs.declared.status.Status.TheVariants.{Unset, Error, Ok}
 
--- the place of a status among the three: no status is below an error, and an error below success (OpenTelemetry trace API, "Set Status")
+-- the place of a status among the three: no status is below an error, and an error below success
+-- (OpenTelemetry trace API, "Set Status")
 abbrev pub rank : Status → ℕ
 rank Unset = 0
 rank (Error _) = 1
@@ -22,7 +23,8 @@ description Ok = []
 abbrev pub eq : Status → Status → Bool
 eq = eq_of_both (on rank nat_eq) (on description (pointwise nat_eq))
 
--- by the case, and then two errors by the bytes of their descriptions (the Rust crate's `PartialOrd` of `Status`)
+-- by the case, and then two errors by the bytes of their descriptions (the Rust crate's
+-- `PartialOrd` of `Status`)
 -- `Unset`, an error `a`, an error `b` and `Ok` rise in this order
 abbrev pub cmp : Status → Status → Ordering
 cmp = then_cmp (on rank nat_cmp) (on description (slice_cmp nat_cmp))

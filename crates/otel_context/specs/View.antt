@@ -1,10 +1,11 @@
 -- From code to meaning: what contracts see of the fields of a context, and the codes by which a
--- model's value may hold contexts, slots and stacks. No public contract cites a word of this file.
+-- model's value may hold contexts, slots, stacks and span tables. No public contract cites a word of this file.
 use Rattle.std.specs.Prelude.{ℕ, List, Bool, Option, Some, None, T, map, refl}
 use Rattle.std.specs.declared.rc.Rc.{Rc}
 use Rattle.std.specs.declared.alloc.Global.{Global}
 use Rattle.std.specs.Coded.{Coded, code_by, coded×, coded_ℕ, coded_bool, coded_list, coded_option}
-use Rattle.std.specs.FinMap.{code, from_entries, is_sorted}
+use Rattle.std.specs.BTreeMap.{BTreeMap}
+use Rattle.std.specs.FinMap.{FinMap, code, from_entries, is_sorted}
 use Rattle.std.specs.Cmp.Lexicographic.{slice_cmp}
 use Rattle.std.specs.Ordering.{nat_cmp}
 use Rattle.std.specs.declared.cmp.Ordering.{Ordering}
@@ -16,6 +17,7 @@ use Rattle.otel_base.specs.View.{tree}
 use Rattle.otel_context.specs.BaggageMember.{Member, member_code}
 use Rattle.otel_context.specs.Context.{EntryMap, SpanPart, ContextRecord, empty_context}
 use Rattle.otel_context.specs.Slots.{SlotsState}
+use Rattle.otel_context.specs.Spans.{SpansState}
 use Rattle.otel_context.specs.Stack.{Live, StackState}
 use Rattle.otel_context.specs.declared.entries.Entry.{Entry}
 use Rattle.otel_context.specs.declared.parts.ActiveSpan.{ActiveSpan}
@@ -84,4 +86,16 @@ stack_code = code_by (Live × (ℕ × ℕ))
     (coded× (coded_list (coded× coded_ℕ context_code)) (coded× coded_ℕ coded_ℕ))
     (λ s. (s.live, (s.accepted, s.stepped)))
     (λ p. record { live = p.0; accepted = p.1.0; stepped = p.1.1 })
+    (λ _. refl)
+
+-- the entries of a tree of spans as a finite map
+abbrev pub map_of : {S : Type 0} → BTreeMap ℕ S → FinMap nat_cmp S
+map_of tree = from_entries tree.entries
+
+-- a code of span tables: that of the pair of the two fields
+abbrev pub spans_code : {S : Type 0} → Coded S → Coded (SpansState S)
+spans_code {S} span_code = code_by (FinMap nat_cmp S × ℕ)
+    (coded× (code coded_ℕ span_code) coded_ℕ)
+    (λ t. (t.spans, t.next_number))
+    (λ p. record { spans = p.0; next_number = p.1 })
     (λ _. refl)

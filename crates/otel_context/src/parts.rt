@@ -1,10 +1,12 @@
 //! The parts of a context.
-ghost use Rattle.std.specs.Prelude.{◌≡◌, IfOk, option_map};
+ghost use Rattle.std.specs.Prelude.{◌≡◌, IfOk, Some, option_map};
 ghost use Rattle.otel_base.specs.View.{tree};
 ghost use Rattle.otel_context.specs.Context.{empty_context, get, with_value, with_baggage};
 ghost use Rattle.otel_context.specs.Context.{with_cleared_baggage, has_active_span, span_number};
 ghost use Rattle.otel_context.specs.Context.{with_remote_span_context, is_telemetry_suppressed};
 ghost use Rattle.otel_context.specs.Context.{with_telemetry_suppressed};
+ghost use Rattle.otel_context.specs.Context.{with_span};
+ghost use Rattle.otel_context.specs.View.{span_part};
 
 use crate::baggage::Baggage;
 use crate::entries::Entries;
@@ -153,10 +155,37 @@ impl Parts {
     ) -> Result<Rc<Parts>, AllocError>
         ensures { IfOk result (λ c. c.value ≡ with_remote_span_context self.now span_context) }
     {
-        let span = ActiveSpan {
-            context: span_context,
-            number: None,
-        };
+        self.with_active_span(
+            alloc,
+            ActiveSpan {
+                context: span_context,
+                number: None,
+            },
+        )
+    }
+
+    /// Parts whose active span is a local one, with that number in its span table.
+    pub fn with_span(
+        &self,
+        alloc: Global,
+        span_context: SpanContext,
+        number: u64,
+    ) -> Result<Rc<Parts>, AllocError>
+        ensures { IfOk result (λ c. c.value ≡ with_span self.now span_context number) }
+    {
+        self.with_active_span(
+            alloc,
+            ActiveSpan {
+                context: span_context,
+                number: Some(number),
+            },
+        )
+    }
+
+    /// Parts with that active span.
+    fn with_active_span(&self, alloc: Global, span: ActiveSpan) -> Result<Rc<Parts>, AllocError>
+        ensures { IfOk result (λ c. c.value ≡ record self.now { span = Some (span_part span) }) }
+    {
         let mut parts = self.clone()?;
         parts.span = Some(Rc::new(alloc, span)?);
         Ok(Rc::new(alloc, parts)?)

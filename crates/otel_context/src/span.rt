@@ -10,19 +10,23 @@ use std::fmt::Display;
 
 /// A piece of work in a trace: what happens to it is told to its span while it runs.
 ///
-/// Who writes a span type names, by ghost members, the effect of each writing call as a function of the span and of what
-/// the arguments mean: `after_event` of name, time and attributes, `after_attribute`, `after_link`, `after_status`,
-/// `after_name`, `after_end`; and `context_of` and `records`, what `span_context` and `is_recording` return. Each call owes
-/// its effect or, after an error, the span as it was, and no effect changes the span context (`event_keeps` and the five
-/// laws like it). The other calls are made of these. What the calls do once the span has ended is for the type to say.
+/// Who writes a span type names, by ghost members, the effect of each writing call as a function of
+/// the span and of what the arguments mean: `after_event` of name, time and attributes,
+/// `after_attribute`, `after_link`, `after_status`, `after_name`, `after_end`; and `context_of` and
+/// `records`, what `span_context` and `is_recording` return. Each call owes its effect or, after an
+/// error, the span as it was, and no effect changes the span context (`event_keeps` and the five
+/// laws like it). The other calls are made of these. What the calls do once the span has ended is
+/// for the type to say.
 ///
-/// Moments are nanoseconds since 1970-01-01T00:00:00Z. The Rust crate reads the clock in `add_event`, `record_error` and
-/// `end`; here the moment is handed in.
+/// Moments are nanoseconds since 1970-01-01T00:00:00Z. The Rust crate reads the clock in
+/// `add_event`, `record_error` and `end`; here the moment is handed in.
 pub trait Span: Drop {
     ghost use Rattle.std.specs.Prelude.{ℕ, List, Bool};
     ghost use Rattle.otel_ids.specs.SpanContext.{SpanContextRecord};
     ghost use Rattle.otel_context.specs.declared.status.Status.{Status};
-    ghost use Rattle.otel_context.specs.SpanEffects.{Attribute, attributes_of, SetsAttributes, SetsBeginning, RecordsError};
+    ghost use Rattle.otel_base.specs.KeyValue.{Attribute};
+    ghost use Rattle.otel_context.specs.SpanEffects.{attributes_of, SetsAttributes, SetsBeginning};
+    ghost use Rattle.otel_context.specs.SpanEffects.{RecordsError};
 
     ghost context_of: { Self → SpanContextRecord };
 
@@ -119,8 +123,8 @@ pub trait Span: Drop {
         self.add_event_with_timestamp(alloc, name, now, attributes)
     }
 
-    /// Adds an event `exception` that happens now, with the error's text as the attribute `exception.message`. Where the
-    /// span doesn't record, it does nothing.
+    /// Adds an event `exception` that happens now, with the error's text as the attribute
+    /// `exception.message`. Where the span doesn't record, it does nothing.
     ///
     /// # Errors
     ///

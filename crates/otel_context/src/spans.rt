@@ -1,5 +1,6 @@
 //! The table of the spans that contexts name by their numbers.
-ghost use Rattle.std.specs.Prelude.{◌≡◌, ◌↔◌, IsTrue, IsErr, OnOk, OnErr, IfOk, IfErr, None, option_copied};
+ghost use Rattle.std.specs.Prelude.{◌≡◌, ◌↔◌, IsTrue, IsErr, OnOk, OnErr, IfOk, IfErr, None};
+ghost use Rattle.std.specs.Prelude.{option_copied, alloc_error};
 ghost use Rattle.std.specs.Option.{option_copied_mut};
 ghost use Rattle.std.specs.Borrow.{sem};
 
@@ -25,10 +26,35 @@ pub struct SpanRefused<S> {
     pub cause: SpanCause,
 }
 
-/// The spans that contexts name by their numbers. Not in the Rust crate, whose contexts share their spans behind a lock.
+impl<S> SpanRefused<S> {
+    ghost use Rattle.otel_context.specs.declared.spans.SpanCause.TheVariants as Cause;
+
+    // The refusal where the numbers are used up.
+    pub(crate) fn numbers_used_up(span: S) -> SpanRefused<S>
+        ensures { result ≡ record { span = span; cause = Cause.NumbersUsedUp } }
+    {
+        SpanRefused {
+            span,
+            cause: SpanCause::NumbersUsedUp,
+        }
+    }
+
+    // The refusal where a request for memory failed.
+    pub(crate) fn no_memory(span: S) -> SpanRefused<S>
+        ensures { result ≡ record { span = span; cause = Cause.Memory alloc_error } }
+    {
+        SpanRefused {
+            span,
+            cause: SpanCause::Memory(AllocError),
+        }
+    }
+}
+
+/// The spans that contexts name by their numbers. Not in the Rust crate, whose contexts share their
+/// spans behind a lock.
 ///
-/// Each span that is put in gets the next number, and no number is given out twice, even after its span was taken.
-/// Contracts see a finite map from numbers to spans, and the next number.
+/// Each span that is put in gets the next number, and no number is given out twice, even after its
+/// span was taken. Contracts see a finite map from numbers to spans, and the next number.
 #[derive(Drop)]
 pub struct Spans<S> {
     table: BTreeMap<u64, S>,
@@ -39,8 +65,8 @@ impl<S> Model for Spans<S> {
     ghost use Rattle.std.specs.Prelude.{◌<◌, ℕ, IsSome};
     ghost use Rattle.std.specs.Ordering.{nat_cmp};
     ghost use Rattle.std.specs.BTreeMap as tree;
-    ghost use Rattle.otel_context.specs.Spans.{SpansState, map_of};
-    ghost use Rattle.otel_context.specs.SpansCode.{spans_code};
+    ghost use Rattle.otel_context.specs.Spans.{SpansState};
+    ghost use Rattle.otel_context.specs.View.{map_of, spans_code};
 
     ghost Value = { SpansState S };
 
@@ -53,8 +79,9 @@ impl<S> Model for Spans<S> {
 }
 
 impl<S: Drop> Spans<S> {
-    ghost use Rattle.otel_context.specs.Spans.{starting_at, get, len, insert, take, used_up, refusal};
-    ghost use Rattle.otel_context.specs.SpansLent.{LendsSpan, LendsFound, find};
+    ghost use Rattle.otel_context.specs.Spans.{starting_at, get, find, len, insert, take};
+    ghost use Rattle.otel_context.specs.Spans.{used_up, refusal};
+    ghost use Rattle.otel_context.specs.SpansLent.{LendsSpan, LendsFound};
 
     /// An empty table, whose first number is 0. Takes no memory.
     pub fn new(alloc: Global) -> Spans<S>
@@ -73,13 +100,13 @@ impl<S: Drop> Spans<S> {
         }
     }
 
-    /// Puts a span under the next number, and returns that number. It is looked up, taken and put in within the logarithm
-    /// of the table's size.
+    /// Puts a span under the next number, and returns that number. It is looked up, taken and put
+    /// in within the logarithm of the table's size.
     ///
     /// # Errors
     ///
-    /// `NumbersUsedUp` where the next number is 18446744073709551615, and else `Memory` where a request for memory fails. The
-    /// table is unchanged, and the span comes back.
+    /// `NumbersUsedUp` where the next number is 18446744073709551615, and else `Memory` where a
+    /// request for memory fails. The table is unchanged, and the span comes back.
     pub fn insert(&mut self, span: S) -> Result<u64, SpanRefused<S>>
         ensures number { IfOk result (λ number. number ≡ self.old.next_number) }
         ensures fresh { IfOk result (λ number. get self.old number ≡ None) }
@@ -90,10 +117,7 @@ impl<S: Drop> Spans<S> {
     {
         let number = self.next;
         if number == u64::MAX {
-            return Err(SpanRefused {
-                span,
-                cause: SpanCause::NumbersUsedUp,
-            });
+            return Err(SpanRefused::numbers_used_up(span));
         }
         match self.table.insert(number, span) {
             Ok(_) => {
@@ -102,10 +126,7 @@ impl<S: Drop> Spans<S> {
             }
             Err(failed) => {
                 let (_, span) = failed.value;
-                Err(SpanRefused {
-                    span,
-                    cause: SpanCause::Memory(AllocError),
-                })
+                Err(SpanRefused::no_memory(span))
             }
         }
     }
@@ -168,9 +189,11 @@ impl<S: Drop> Spans<S> {
         self.len() == 0
     }
 
-    /// The number of the next span that is put in, or 18446744073709551615 once the numbers are used up.
+    /// The number of the next span that is put in, or 18446744073709551615 once the numbers are
+    /// used up. No span stands under it.
     pub fn next_number(&self) -> u64
-        ensures { result ≡ self.now.next_number }
+        ensures number { result ≡ self.now.next_number }
+        ensures fresh { get self.now result ≡ None }
     {
         self.next
     }

@@ -27,7 +27,8 @@ pub enum SpanKind {
 
 /// How what a span stands for went. (OpenTelemetry trace API, "Set Status".)
 ///
-/// `Unset` is below an error, and an error below `Ok`. Two errors compare by their descriptions, byte by byte.
+/// `Unset` is below an error, and an error below `Ok`. Two errors compare by their descriptions,
+/// byte by byte.
 #[derive(Debug, Drop)]
 pub enum Status {
     /// Nothing was said.

@@ -1,7 +1,7 @@
 use Rattle.std.proofs.Common.{refl, sym, ap, ◌∙◌}
 use Rattle.std.specs.BTreeMap as tree
 use Rattle.std.specs.Ordering.{nat_cmp}
-use Rattle.otel_context.specs.Spans.{map_of}
+use Rattle.otel_context.specs.View.{map_of}
 use Rattle.otel_context.proofs.SpansLemmas.{get-view, view-updates, IsSome-same_keys, OnSome-found}
 use Rattle.otel_context.proofs.spans.Spans.get_mut.Goals as goal
 

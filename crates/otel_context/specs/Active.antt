@@ -1,0 +1,35 @@
+-- What a call does that makes a span the current one, or lends a function the reference to it.
+use Rattle.std.specs.Prelude.{◌≡◌, ℕ, Ok}
+use Rattle.std.specs.declared.alloc.AllocError.{AllocError}
+use Rattle.std.specs.Borrow.{MutBor}
+use Rattle.std.specs.Fn.{Once, FnOnceReturnsAtMut}
+use Rattle.otel_context.specs.declared.span_ref.SpanRef.{SpanRef}
+use Rattle.otel_context.specs.Context.{ContextRecord, span_context, span_number}
+use Rattle.otel_context.specs.SpanRef as reference
+use Rattle.otel_context.specs.SpanRef.{IsSameReference, table_of, number_of}
+use Rattle.otel_context.specs.SpanTold.{OthersStay}
+use Rattle.otel_context.specs.Spans.{SpansState}
+use Rattle.otel_context.specs.Stack.{StackState, Attaches}
+
+-- the context is attached at that position or, where the greatest is live, nothing is (`attach`)
+abbrev pub AttachesAt : ℕ → ContextRecord → StackState → StackState → Type 0
+AttachesAt position context old new = Attaches {E = AllocError} context old new (Ok position)
+
+-- a function that is lent a reference, and returns a value of type T
+abbrev pub OnSpan : Type 0 → Type 0 → Type 0 → Type 1
+OnSpan F T S = Once F (MutBor (SpanRef S) × Unit {0}) (T × (MutBor (SpanRef S) × Unit {0}))
+
+module _ {F T S : Type 0} (g : OnSpan F T S) (f : F) where
+  -- f was called once, on a reference to the context's span in the table, and returned that. Where
+  -- it left a reference into the same table, as each call of a `SpanRef` does, the table is as f
+  -- left it, and no other span changed
+  pub record CallsOnce (context : ContextRecord) (old : SpansState S) (returned : T)
+      (new : SpansState S) : Type 0 where
+    pub before : SpanRef S
+    pub table : table_of before ≡ old
+    pub number : number_of before ≡ span_number context
+    pub span_context_is : reference.span_context before ≡ span_context context
+    pub after : SpanRef S
+    pub called : FnOnceReturnsAtMut g f before returned after
+    pub left : IsSameReference before after → new ≡ table_of after
+    pub others : IsSameReference before after → OthersStay (span_number context) old new

@@ -1,0 +1,31 @@
+-- What is told to the span that a context names, and the spans that it leaves alone.
+use Rattle.std.specs.Prelude.{◌≡◌, ◌≢◌, ℕ, Option, Some, MatchOption}
+use Rattle.std.specs.Option.{option_map_or}
+use Rattle.std.specs.Coded.{Coded, Coded-set, coded_ℕ, coded_option, ×_prop, Π_prop, →_prop}
+use Rattle.otel_context.specs.Spans.{SpansState, get, find, replace_found}
+
+module _ {S : Type 0} where
+  -- the table after an effect on the span under the number, where there are both; else the table as
+  -- it is
+  abbrev pub after_effect : (S → S) → SpansState S → Option ℕ → SpansState S
+  after_effect effect table number =
+      option_map_or (λ span. replace_found table number (effect span)) (find table number) table
+
+  -- the span under the number became one that it is in relation with, where there are both; else
+  -- the table is as it was
+  abbrev pub BecomesOne : (S → S → Type 0) → SpansState S → Option ℕ → SpansState S → Type 0
+  BecomesOne Relation old number new =
+      MatchOption (find old number) (new ≡ old)
+      (λ span. (left : S) × Relation span left × (new ≡ replace_found old number left))
+
+  -- the next number, and each span but the one under this number, are as they were
+  abbrev pub OthersStay : Option ℕ → SpansState S → SpansState S → Type 0
+  OthersStay number old new =
+      (new.next_number ≡ old.next_number)
+      × ((q : ℕ) → number ≢ Some q → get new q ≡ get old q)
+
+  pub OthersStay-prop : Coded S → (number : Option ℕ) (old new : SpansState S)
+      → IsProp (OthersStay number old new)
+  OthersStay-prop code number old new =
+      ×_prop (Coded-set coded_ℕ new.next_number old.next_number)
+      (Π_prop (λ q. →_prop (Coded-set (coded_option code) (get new q) (get old q))))
