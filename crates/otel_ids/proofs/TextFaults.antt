@@ -1,16 +1,16 @@
 -- The fault that a text has by the grammar is the one that `fault_of` gives.
-use Rattle.std.proofs.Common.{◌≡◌, ℕ, zero, suc, ◌+◌, ◌<◌, Bool, true, false, List, [], ◌∷◌, ◌++◌, length, drop, get_or, Option, Some, None, refl, sym, ap, subst, ◌∙◌, arith, inl, inr, append_assoc, take}
+use Rattle.std.proofs.Common.{◌≡◌, ℕ, suc, ◌+◌, true, false, List, [], ◌∷◌, ◌++◌, length, drop, Option, Some, None, refl, sym, ap, subst, ◌∙◌, arith, inl, inr, append_assoc, take}
 use Rattle.std.specs.Prelude.{map, replicate, ◌⊎◌}
 use Rattle.std.specs.List.{AllByRecursion, list_any, before_first, after_first, position_or_len}
 use Rattle.std.proofs.lemmas.Bool.{cases_Bool, false≢true}
 use Rattle.std.proofs.lemmas.List.{take_at, drop_at, length-append}
 use Rattle.otel_ids.specs.Text.{is_equals, is_key, is_value}
-use Rattle.otel_ids.specs.TraceState.{Pair, IsValid}
-use Rattle.otel_ids.specs.Reading.{pieces, members, key_of, value_of, without_equals, pair_of, list_fault, fault_of}
+use Rattle.otel_ids.specs.TraceState.{Pair}
+use Rattle.otel_ids.specs.Reading.{pieces, members, key_of, value_of, without_equals, pair_of, list_fault}
 use Rattle.otel_ids.specs.TraceStateError.{Fault, KeyFault, ValueFault, ListFault, pair_fault, first_of, pairs_fault}
-use Rattle.otel_ids.specs.Reading.{HasEquals, LacksEquals, begins_with_equals, IsSplit, IsValidMember, IsPairFault, IsFirst, IsFirstList, IsFirstPair, FaultIs}
+use Rattle.otel_ids.specs.Reading.{HasEquals, LacksEquals, begins_with_equals, IsSplit, IsValidMember, IsPairFault, IsFirst, IsFirstList, IsFirstPair}
 use Rattle.otel_ids.specs.Laws.{FaultsAgree}
-use Rattle.otel_ids.proofs.Faults.{valid_from_none, none_from_valid, pairs_fault-append}
+use Rattle.otel_ids.proofs.Faults.{valid_from_none, none_from_valid}
 use Rattle.otel_ids.proofs.Cuts.{list_any_some}
 use Rattle.otel_ids.proofs.Readings.{text_split, without_equals-run, list_fault-none}
 
