@@ -118,7 +118,7 @@ attaches_of-take (Detach n ∷ events) zero context e = cc
 attaches_of-take (Attach c ∷ events) (suc i) context e = let h = attaches_of-take events i context e in let k : suc (attaches_of (take i events)) < suc (attaches_of events) = omega (arith, h) in k
 attaches_of-take (Detach n ∷ events) (suc i) context e = attaches_of-take events i context e
 
-slice_get-append : {X : Type 0} (xs ys : List X) (i : ℕ) → i < length xs → slice_get (xs ++ ys) i ≡ slice_get xs i
+pub slice_get-append : {X : Type 0} (xs ys : List X) (i : ℕ) → i < length xs → slice_get (xs ++ ys) i ≡ slice_get xs i
 slice_get-append [] ys i h = absurd (omega arith)
 slice_get-append (x ∷ xs) ys zero h = refl
 slice_get-append (x ∷ xs) ys (suc i) h = slice_get-append xs ys i (omega arith)

@@ -1,5 +1,7 @@
--- The events that the lines of the input ask for, and which line is reported as faulty.
-use Rattle.std.specs.Prelude.{◌≡◌, ℕ, ◌+◌, List, ◌∷◌, ◌++◌, Option, Some, None, IsSome, codes}
+-- The events that the lines of the input ask for, and which line is reported as faulty. Not in the Rust crate.
+use Rattle.std.specs.Prelude.{◌≡◌, ℕ, ◌+◌, ◌==◌, Bool, true, not, List, ◌∷◌, ◌++◌, length, take, filter, slice_get}
+use Rattle.std.specs.Prelude.{Option, Some, None, IsSome, IfSome, codes}
+use Rattle.std.specs.List.{slice_split}
 use denote.Ref.{Bor}
 use Rattle.otel_ids.specs.TraceState.{Pair}
 use Rattle.otel_ids.specs.Reading.{fault_of, Reads as ReadsState}
@@ -7,6 +9,7 @@ use Rattle.otel_ids.specs.declared.error.TraceStateError.{TraceStateError}
 use Rattle.otel_ids.specs.declared.error.TraceStateError.TheVariants as errors
 use Rattle.opentelemetry.specs.declared.carry.event.StackEvent.{StackEvent}
 use Rattle.opentelemetry.specs.declared.carry.event.StackEvent.TheVariants.{Attach, Detach}
+use Rattle.opentelemetry.specs.Run.{attaches_of}
 use Rattle.otel_carry.specs.declared.lines.Fault.{Fault}
 use Rattle.otel_carry.specs.declared.lines.Fault.TheVariants.{UnknownCommand, BadName, BadTraceState, BadNumber}
 use Rattle.otel_carry.specs.declared.failure.Failure.{Failure}
@@ -20,26 +23,67 @@ IsAttachLine line name None = IsName name × (line ≡ codes "attach " ++ name)
 IsAttachLine line name (Some pairs) =
     IsName name × ((state : List ℕ) × (line ≡ codes "attach " ++ (name ++ (32 ∷ state))) × ReadsState state pairs)
 
--- the line asks for this event, where so many attaches stand before it (own)
+-- the line asks for this event, where so many attaches come before it
 abbrev pub AsksFor : ℕ → List ℕ → StackEvent → Type 0
 AsksFor attaches line (Attach context) =
-    (name : List ℕ) × (state : Option (List Pair)) × IsAttachLine line name state × (context ≡ context_for name state (attaches + 1))
-AsksFor attaches line (Detach number) = (digits : List ℕ) × (line ≡ codes "detach " ++ digits) × IsNumber digits number
+    (name : List ℕ) × (state : Option (List Pair)) × IsAttachLine line name state
+    × (context ≡ context_for name state (attaches + 1))
+AsksFor attaches line (Detach number) =
+    (digits : List ℕ) × (line ≡ codes "detach " ++ digits) × IsNumber digits number
 
--- the line has this fault: one of its form, or a trace state that has a fault by the W3C's rules (own)
+-- the lines of an input: what stands between its line feeds, so that `a\n` has the lines `a` and the empty one
+abbrev pub lines_of : List ℕ → List (List ℕ)
+lines_of text = slice_split (λ byte. byte == 10) text
+
+-- the line isn't empty
+abbrev pub is_asking : List ℕ → Bool
+is_asking line = not (length line == 0)
+
+-- the lines that ask for something: an empty one is passed over
+abbrev pub asking : List (List ℕ) → List (List ℕ)
+asking lines = filter is_asking lines
+
+-- The events are those that the lines ask for, one each, in order. The attaches before an event give its context's ids.
+-- Of `attach a`, the empty line, `detach 0` they are the attach of `a` and the detach of 0.
+pub record AskFor (lines : List (List ℕ)) (events : List StackEvent) : Type 0 where
+  pub one_each : length events ≡ length (asking lines)
+  pub each : (index : ℕ) (line : List ℕ) → slice_get (asking lines) index ≡ Some line
+      → IfSome (slice_get events index) (AsksFor (attaches_of (take index events)) line)
+
+-- the line has this fault: one of its form, or a trace state that has a fault by the W3C's rules
 abbrev pub IsFaulty : List ℕ → Fault → Type 0
 IsFaulty line UnknownCommand = IsFault line UnknownCommand
 IsFaulty line BadName = IsFault line BadName
 IsFaulty line BadTraceState =
-    (name : List ℕ) × (state : List ℕ) × IsName name × (line ≡ codes "attach " ++ (name ++ (32 ∷ state))) × IsSome (fault_of state)
+    (name : List ℕ) × (state : List ℕ) × IsName name
+    × (line ≡ codes "attach " ++ (name ++ (32 ∷ state))) × IsSome (fault_of state)
 IsFaulty line BadNumber = IsFault line BadNumber
 
--- the failure tells of the line of this number what is wrong with it, or that memory was wanting
+-- the failure reports what is wrong with the line of this number, or that a request for memory failed
 abbrev pub IsTold : ℕ → List ℕ → Failure → Type 0
 IsTold number line Unreadable = ⊥
 IsTold number line NotUtf8 = ⊥
 IsTold number line (Line n fault) = (n ≡ number) × IsFaulty line fault
 IsTold number line NoMemory = Unit {0}
+
+-- The first faulty line has this number, 1 for the first line of the input, empty ones counted, and this fault: the lines
+-- before it ask for events.
+pub record IsFirstFaulty (lines : List (List ℕ)) (number : ℕ) (fault : Fault) : Type 0 where
+  pub before : ℕ
+  pub number_is : number ≡ before + 1
+  pub line : List ℕ
+  pub at : slice_get lines before ≡ Some line
+  pub asks : is_asking line ≡ true
+  pub faulty : IsFaulty line fault
+  pub events : List StackEvent
+  pub asked : AskFor (take before lines) events
+
+-- the failure reports the first faulty line, or that a request for memory failed
+abbrev pub IsReported : List (List ℕ) → Failure → Type 0
+IsReported lines Unreadable = ⊥
+IsReported lines NotUtf8 = ⊥
+IsReported lines (Line number fault) = IsFirstFaulty lines number fault
+IsReported lines NoMemory = Unit {0}
 
 -- the trace state that a line gives is read, where it gives one
 abbrev pub AreRead : Option (Bor (List ℕ)) → Option (List Pair) → Type 0
@@ -48,7 +92,7 @@ AreRead None (Some pairs) = ⊥
 AreRead (Some text) None = ⊥
 AreRead (Some text) (Some pairs) = ReadsState text.now pairs
 
--- the trace state that a line gives has a fault, or memory was wanting
+-- the trace state that a line gives has a fault, or a request for memory failed
 abbrev pub IsFaultIn : Option (Bor (List ℕ)) → TraceStateError → Type 0
 IsFaultIn text (errors.Memory e) = Unit {0}
 IsFaultIn None (errors.Key t) = ⊥

@@ -1,4 +1,4 @@
--- The lines of the program's input. A line is the list of its bytes.
+-- The lines of the program's input. A line is the list of its bytes. Not in the Rust crate.
 use Rattle.std.specs.Prelude.{◌≡◌, ◌≢◌, ℕ, ◌<◌, ◌≤◌, ◌^◌, ◌==◌, List, ◌∷◌, ◌++◌, length, Some, None, codes, All}
 use Rattle.std.specs.List.{before_first}
 use Rattle.std.specs.Str.Parse.{IsNumeral, digits_value}
@@ -27,12 +27,18 @@ IsAttach text (Detach number) = ⊥
 
 -- the line asks for this
 abbrev pub Reads : List ℕ → Line → Type 0
-Reads line (Attach name state) = (rest : List ℕ) × (line ≡ codes "attach " ++ rest) × IsAttach rest (Attach name state)
-Reads line (Detach number) = (digits : List ℕ) × (line ≡ codes "detach " ++ digits) × IsNumber digits number
+Reads line (Attach name state) =
+    (rest : List ℕ) × (line ≡ codes "attach " ++ rest) × IsAttach rest (Attach name state)
+Reads line (Detach number) =
+    (digits : List ℕ) × (line ≡ codes "detach " ++ digits) × IsNumber digits number
 
 -- the line has this fault: it begins with neither word; or with `attach ` and no name; or with `detach ` and no number
 abbrev pub IsFault : List ℕ → Fault → Type 0
-IsFault line UnknownCommand = (rest : List ℕ) → (line ≢ codes "attach " ++ rest) × (line ≢ codes "detach " ++ rest)
-IsFault line BadName = (rest : List ℕ) × (line ≡ codes "attach " ++ rest) × ¬ IsName (first_word rest)
+IsFault line UnknownCommand =
+    (rest : List ℕ) → (line ≢ codes "attach " ++ rest) × (line ≢ codes "detach " ++ rest)
+IsFault line BadName =
+    (rest : List ℕ) × (line ≡ codes "attach " ++ rest) × ¬ IsName (first_word rest)
 IsFault line BadTraceState = ⊥
-IsFault line BadNumber = (rest : List ℕ) × (line ≡ codes "detach " ++ rest) × ((n : ℕ) → n < 2 ^ 64 → ¬ IsNumber rest n)
+IsFault line BadNumber =
+    (rest : List ℕ) × (line ≡ codes "detach " ++ rest)
+    × ((n : ℕ) → n < 2 ^ 64 → ¬ IsNumber rest n)

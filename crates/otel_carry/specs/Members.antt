@@ -18,11 +18,11 @@ text_in (Some (bytes bs)) = None
 text_in (Some (list ts)) = None
 text_in (Some (map_tree es)) = None
 
--- the name of a context: its entry `name`, where that is a text (own)
+-- the name of a context: its entry `name`, where that is a text
 abbrev pub name_in : ContextRecord → Option (List ℕ)
 name_in context = text_in (map.get context.entries (codes "name"))
 
--- the pairs of `NameMember`: `Context-Name` with the context's name, where it has one (own)
+-- the pairs of `NameMember`: `Context-Name` with the context's name, where it has one
 abbrev pub name_pairs : ContextRecord → Pairs
 name_pairs context = option_map_or (λ name. (codes "Context-Name", name) ∷ []) (name_in context) []
 
@@ -32,16 +32,16 @@ abbrev pub pairs_of_state : List Pair → Pairs
 pairs_of_state [] = []
 pairs_of_state (p ∷ ps) = (codes "tracestate", header (p ∷ ps)) ∷ []
 
--- the pairs of `StateMember`: those of the trace state of the context's span context (own)
+-- the pairs of `StateMember`: those of the trace state of the context's span context
 abbrev pub state_pairs : ContextRecord → Pairs
 state_pairs context = pairs_of_state (span_context context).trace_state
 
--- the span context of an attach with this trace state: it is remote, its ids are both `id`, and its one flag is `sampled` (own)
+-- the span context of an attach with this trace state: it is remote, its ids are both `id`, and its one flag is `sampled`
 abbrev pub span_context_for : List Pair → ℕ → SpanContextRecord
 span_context_for state id = record { trace_id = id; span_id = id; trace_flags = 1; is_remote = true; trace_state = state }
 
 -- The context of an attach: the empty one with the entry `name`, and where a trace state is given with the span context
--- of that state (own).
+-- of that state.
 abbrev pub context_for : List ℕ → Option (List Pair) → ℕ → ContextRecord
 context_for name state id = record {
   entries = map.insert map.empty (codes "name") (text name);

@@ -1,6 +1,6 @@
 //! The events that the lines of the input ask for.
 ghost use Rattle.std.specs.Prelude.{◌≡◌, ◌<◌, ◌-◌, ◌^◌, IfOk, IfErr};
-ghost use Rattle.otel_carry.specs.Events.{AreRead, AsksFor, IsFaultIn, IsTold};
+ghost use Rattle.otel_carry.specs.Events.{AreRead, AskFor, AsksFor, IsFaultIn, IsReported, IsTold, lines_of};
 ghost use Rattle.otel_carry.specs.Members.{context_for, span_context_for};
 
 use crate::failure::Failure;
@@ -11,9 +11,16 @@ use opentelemetry::trace::{SpanContext, TraceState, TraceStateError};
 use opentelemetry::{Context, Key, SpanId, StringValue, TraceFlags, TraceId};
 use std::alloc::{AllocError, Global};
 
-/// The events of the lines, in order, or the first faulty line. Lines are ended by `\n`, which the last may lack; an empty one
-/// is skipped, but counted.
-pub fn events_of(alloc: Global, text: &str) -> Result<Vec<StackEvent>, Failure> {
+/// The events of the lines, in order. Lines are ended by `\n`, which the last may lack; an empty one is skipped, but counted.
+///
+/// # Errors
+///
+/// `Failure::Line` for the first line that can't be carried out, with its number, 1 for the first; `Failure::NoMemory` where
+/// a request for memory fails. The events so far are dropped.
+pub fn events_of(alloc: Global, text: &str) -> Result<Vec<StackEvent>, Failure>
+    ensures events { IfOk result (λ events. AskFor (lines_of text.now) events.items) }
+    ensures failure { IfErr result (IsReported (lines_of text.now)) }
+{
     let mut events = Vec::new(alloc);
     let mut attaches = 0;
     for (index, line) in text.split('\n').enumerate() {

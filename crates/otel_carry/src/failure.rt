@@ -10,7 +10,7 @@ use std::fmt;
 /// Why there is nothing to report. It prints the one line that the program then writes.
 #[derive(Clone, Copy, Debug, PartialEq, Eq)]
 pub enum Failure {
-    /// A read failed, or no read told the end of the input.
+    /// A read failed, or no read reported the end of the input.
     Unreadable,
     /// The input isn't UTF-8.
     NotUtf8,

@@ -13,8 +13,12 @@ const ROOM: usize = 4096;
 
 /// All bytes that the input has left.
 ///
-/// It is read at most 1,048,576 times, each time with room for 4,096 bytes. It is `Unreadable` where a read fails, or where
-/// none of these told the end.
+/// It is read at most 1,048,576 times, each time with room for 4,096 bytes.
+///
+/// # Errors
+///
+/// `Unreadable` where a read fails, or where none of these reported the end; `NoMemory` where a request for memory fails. What
+/// was read is dropped.
 pub fn read_whole<R: Read + Drop>(alloc: Global, mut input: R) -> Result<Vec<u8>, Failure>
     ensures whole { IfOk result (λ bytes. IfSome (R.remaining input) (λ left. bytes.items ≡ left)) }
     ensures failure { IfErr result (λ failure. (failure ≡ Failure.Unreadable) ⊎ (failure ≡ Failure.NoMemory)) }

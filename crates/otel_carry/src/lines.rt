@@ -42,7 +42,11 @@ impl fmt::Display for Fault {
     }
 }
 
-/// What the line asks for. It takes no memory, and doesn't look into a trace state, so `BadTraceState` isn't answered here.
+/// What the line asks for. It takes no memory.
+///
+/// # Errors
+///
+/// The fault of the line's form. It doesn't look into a trace state, so `BadTraceState` is none of them.
 pub fn parse(line: &str) -> Result<Line<'_>, Fault>
     ensures line { IfOk result (Reads line.now) }
     ensures fault { IfErr result (IsFault line.now) }
