@@ -2,5 +2,6 @@
 #![tactic(auto)]
 
 mod injection;
+mod logs;
 mod members;
 mod runs;
