@@ -1,15 +1,17 @@
 /*
  * Makes requests for memory fail, for `sweep` beside this file.
  *
- * Preloaded into a program that the kit built, it stands in front of the two calls by which such a program asks the C
- * library for memory, malloc and realloc. Counted from the start of the program proper, 1 for the first request:
+ * Preloaded into a program that the kit built, it stands in front of the two calls by which such a
+ * program asks the C library for memory, malloc and realloc. Counted from the start of the program
+ * proper, 1 for the first request:
  *
  *   REFUSE_AT=N     the N-th request alone fails
  *   REFUSE_FROM=N   the N-th request fails, and each one after it
  *   REFUSE_TOLD=FD  where the first one fails, the byte 'r' is written to this file descriptor
  *
- * A request that fails gives a null pointer, as where no memory is left; what a failed realloc was to grow stays.
- * Built with `cc -O2 -shared -fPIC -o refuse.so refuse.c`, for the GNU C library, whose own names of the two calls it uses.
+ * A request that fails gives a null pointer, as where no memory is left; what a failed realloc was
+ * to grow stays. Built with `cc -O2 -shared -fPIC -o refuse.so refuse.c`, for the GNU C library,
+ * whose own names of the two calls it uses.
  */
 #include <errno.h>
 #include <stdlib.h>

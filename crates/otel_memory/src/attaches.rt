@@ -13,24 +13,73 @@ pub fn play<R: Print>(alloc: Global, lines: &Lines<'_, R>) {
     if lines.begin("stack-new") {
         new(alloc, lines);
     }
-    if lines.begin("stack-first-room") {
-        lines.end(first_room(alloc, lines));
+    for (name, call) in CALLS {
+        if lines.begin(name) {
+            lines.end(with_suppressed(alloc, lines, call));
+        }
     }
-    if lines.begin("stack-push") {
-        lines.end(push(alloc, lines));
+}
+
+/// What is asked of a new stack.
+#[derive(Clone, Copy)]
+enum Call {
+    FirstRoom,
+    Push,
+    PushAgain,
+    Attach,
+    AttachAgain,
+    Enter,
+}
+
+/// The scenarios, each of which begins with a new stack and a suppressed context.
+const CALLS: [(&str, Call); 6] = [
+    ("stack-first-room", Call::FirstRoom),
+    ("stack-push", Call::Push),
+    ("stack-push-again", Call::PushAgain),
+    ("stack-attach", Call::Attach),
+    ("stack-attach-again", Call::AttachAgain),
+    ("stack-enter-telemetry-suppressed-scope", Call::Enter),
+];
+
+fn suppressed(alloc: Global) -> Result<Context, AllocError> {
+    Context::new().with_telemetry_suppressed(alloc)
+}
+
+/// Makes that call of a new stack, where contexts of its own are needed, with a suppressed one.
+fn with_suppressed<R: Print>(
+    alloc: Global,
+    lines: &Lines<'_, R>,
+    call: Call,
+) -> Result<(), AllocError> {
+    let suppressed = suppressed(alloc)?;
+    of_new(alloc, lines, &suppressed, call)
+}
+
+fn of_new<R: Print>(
+    alloc: Global,
+    lines: &Lines<'_, R>,
+    suppressed: &Context,
+    call: Call,
+) -> Result<(), AllocError> {
+    let mut stack = ContextStack::new(alloc)?;
+    called(lines, &mut stack, suppressed, call)
+}
+
+fn called<R: Print>(
+    lines: &Lines<'_, R>,
+    stack: &mut ContextStack,
+    suppressed: &Context,
+    call: Call,
+) -> Result<(), AllocError> {
+    match call {
+        Call::PushAgain => return push_again(lines, stack, suppressed),
+        Call::AttachAgain => return attach_again(lines, stack, &Way::Given(suppressed)),
+        Call::FirstRoom => first_room(lines, stack),
+        Call::Push => push(lines, stack, suppressed),
+        Call::Attach => attach(lines, stack, &Way::Given(suppressed)),
+        Call::Enter => attach(lines, stack, &Way::Suppressed),
     }
-    if lines.begin("stack-push-again") {
-        lines.end(push_again(alloc, lines));
-    }
-    if lines.begin("stack-attach") {
-        lines.end(attach(alloc, lines));
-    }
-    if lines.begin("stack-attach-again") {
-        lines.end(attach_again(alloc, lines));
-    }
-    if lines.begin("stack-enter-telemetry-suppressed-scope") {
-        lines.end(enter(alloc, lines));
-    }
+    Ok(())
 }
 
 fn new<R: Print>(alloc: Global, lines: &Lines<'_, R>) {
@@ -41,12 +90,10 @@ fn new<R: Print>(alloc: Global, lines: &Lines<'_, R>) {
 }
 
 /// After a stack is made eight attaches take no memory.
-fn first_room<R: Print>(alloc: Global, lines: &Lines<'_, R>) -> Result<(), AllocError> {
-    let mut stack = ContextStack::new(alloc)?;
+fn first_room<R: Print>(lines: &Lines<'_, R>, stack: &mut ContextStack) {
     for _ in 0..INITIAL_ROOM {
         lines.free_of(stack.push(Context::new()));
     }
-    Ok(())
 }
 
 /// What differs from the current context: the suppressed one, or the empty one.
@@ -68,8 +115,8 @@ fn push_other(stack: &mut ContextStack, suppressed: &Context) -> Result<u16, All
     stack.push(context)
 }
 
-/// Pushes contexts, every other one suppressed, until a push fails or so many are attached. The answer is how many
-/// are, and what the last push gave.
+/// Pushes contexts, every other one suppressed, until a push fails or so many are attached.
+/// Returns how many are, and what the last push returned.
 fn filled(stack: &mut ContextStack, suppressed: &Context) -> (u16, Result<u16, AllocError>) {
     for count in 0..MANY {
         match push_other(stack, suppressed) {
@@ -80,7 +127,8 @@ fn filled(stack: &mut ContextStack, suppressed: &Context) -> (u16, Result<u16, A
     (MANY, Ok(MANY))
 }
 
-/// Takes off all attachments, the newest first. The answer is whether there were so many, every other one suppressed.
+/// Takes off all attachments, the newest first. Returns whether there were so many, every
+/// other one suppressed.
 fn unwound(stack: &mut ContextStack, count: u16) -> bool {
     for taken in 0..count {
         let position = count - taken;
@@ -91,14 +139,12 @@ fn unwound(stack: &mut ContextStack, count: u16) -> bool {
     stands(stack, 0, false)
 }
 
-/// Pushes until the stack has no room left and can't get any: what was attached before is all there then.
-fn push<R: Print>(alloc: Global, lines: &Lines<'_, R>) -> Result<(), AllocError> {
-    let suppressed = Context::new().with_telemetry_suppressed(alloc)?;
-    let mut stack = ContextStack::new(alloc)?;
-    let (count, last) = filled(&mut stack, &suppressed);
+/// Pushes until the stack has no room left and can't get any: what was attached before is all there
+/// then.
+fn push<R: Print>(lines: &Lines<'_, R>, stack: &mut ContextStack, suppressed: &Context) {
+    let (count, last) = filled(stack, suppressed);
     lines.answer_of(last);
-    lines.due(unwound(&mut stack, count));
-    Ok(())
+    lines.due(unwound(stack, count));
 }
 
 /// Takes off so many attachments, the oldest first.
@@ -111,8 +157,8 @@ fn emptied(stack: &mut ContextStack, count: u16) -> bool {
     stands(stack, 0, false)
 }
 
-/// Fills and empties the stack, and fills it again.
-fn refilled<R: Print>(
+/// A stack keeps the room that it took: filled, emptied and filled again it takes no memory again.
+fn push_again<R: Print>(
     lines: &Lines<'_, R>,
     stack: &mut ContextStack,
     suppressed: &Context,
@@ -124,13 +170,6 @@ fn refilled<R: Print>(
     lines.free_of(last);
     lines.free(&unwound(stack, count));
     Ok(())
-}
-
-/// A stack keeps the room that it took: as many pushes take no memory again.
-fn push_again<R: Print>(alloc: Global, lines: &Lines<'_, R>) -> Result<(), AllocError> {
-    let suppressed = Context::new().with_telemetry_suppressed(alloc)?;
-    let mut stack = ContextStack::new(alloc)?;
-    refilled(lines, &mut stack, &suppressed)
 }
 
 /// How a context is attached.
@@ -162,8 +201,9 @@ impl Way<'_> {
     }
 }
 
-/// Attaches that many contexts one within another, until an attach fails, and detaches them from the inside out. The
-/// answer is the newest position, or the error, and whether the stack was as it should be after each call.
+/// Attaches that many contexts one within another, until an attach fails, and detaches them from
+/// the inside out. Returns the newest position, or the error, and whether the stack was as it
+/// should be after each call.
 fn nested(stack: &mut ContextStack, way: &Way<'_>, depth: u16) -> (Result<u16, AllocError>, bool) {
     let newest = stack.newest_position();
     if depth == 0 {
@@ -182,17 +222,15 @@ fn nested(stack: &mut ContextStack, way: &Way<'_>, depth: u16) -> (Result<u16, A
     }
 }
 
-fn attach<R: Print>(alloc: Global, lines: &Lines<'_, R>) -> Result<(), AllocError> {
-    let suppressed = Context::new().with_telemetry_suppressed(alloc)?;
-    let mut stack = ContextStack::new(alloc)?;
-    let (answer, is_due) = nested(&mut stack, &Way::Given(&suppressed), MANY);
+/// Attaches until the stack has no room left and can't get any.
+fn attach<R: Print>(lines: &Lines<'_, R>, stack: &mut ContextStack, way: &Way<'_>) {
+    let (answer, is_due) = nested(stack, way, MANY);
     lines.answer_of(answer);
     lines.due(is_due);
-    Ok(())
 }
 
-/// Attaches and detaches that many, and does so again.
-fn nested_again<R: Print>(
+/// Attaches and detaches many contexts, and does so again: as many attaches take no memory again.
+fn attach_again<R: Print>(
     lines: &Lines<'_, R>,
     stack: &mut ContextStack,
     way: &Way<'_>,
@@ -202,20 +240,5 @@ fn nested_again<R: Print>(
     let (answer, is_due) = nested(stack, way, MANY);
     lines.free_of(answer);
     lines.free(&is_due);
-    Ok(())
-}
-
-/// As many attaches take no memory again.
-fn attach_again<R: Print>(alloc: Global, lines: &Lines<'_, R>) -> Result<(), AllocError> {
-    let suppressed = Context::new().with_telemetry_suppressed(alloc)?;
-    let mut stack = ContextStack::new(alloc)?;
-    nested_again(lines, &mut stack, &Way::Given(&suppressed))
-}
-
-fn enter<R: Print>(alloc: Global, lines: &Lines<'_, R>) -> Result<(), AllocError> {
-    let mut stack = ContextStack::new(alloc)?;
-    let (answer, is_due) = nested(&mut stack, &Way::Suppressed, MANY);
-    lines.answer_of(answer);
-    lines.due(is_due);
     Ok(())
 }

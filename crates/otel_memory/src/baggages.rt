@@ -51,26 +51,15 @@ fn metadata<R: Print>(alloc: Global, lines: &Lines<'_, R>) -> Result<(), AllocEr
     Ok(())
 }
 
-fn answer<R: Print>(
-    lines: &Lines<'_, R>,
-    made: &str,
-    answer: Result<KeyValueMetadata, AllocError>,
-) {
-    match answer {
-        Ok(_) => lines.answer(&made),
-        Err(error) => lines.answer(&error),
-    }
-}
-
 fn from_key_value<R: Print>(alloc: Global, lines: &Lines<'_, R>) {
     let pair = KeyValue::new(Key::from("k"), Value::I64(7));
-    answer(lines, "k=7", KeyValueMetadata::from_key_value(alloc, pair));
+    lines.answer_named("k=7", KeyValueMetadata::from_key_value(alloc, pair));
 }
 
 fn key_value_metadata<R: Print>(alloc: Global, lines: &Lines<'_, R>) -> Result<(), AllocError> {
     let text = StringValue::from(String::from_str(alloc, "v")?);
     let triple = KeyValueMetadata::new(Key::from("k"), text, BaggageMetadata::default());
-    answer(lines, "a copy", triple.clone());
+    lines.answer_named("a copy", triple.clone());
     Ok(())
 }
 
@@ -86,7 +75,8 @@ fn insert_key(held: &mut Baggage, key: &'static str, has_metadata: bool) -> Resu
     Ok(())
 }
 
-/// Inserts the keys in turn until an insert fails. The answer is how many are there then, and the error.
+/// Inserts the keys in turn until an insert fails. Returns how many are there then, and the
+/// error.
 fn inserted(held: &mut Baggage, has_metadata: bool) -> (usize, Result<usize, AllocError>) {
     for count in 0..KEYS.len() {
         if let Err(error) = insert_key(held, KEYS[count], has_metadata) {
@@ -163,30 +153,40 @@ fn from_key_values_with_metadata<R: Print>(
     Ok(())
 }
 
-/// Inserts that change no more than what is there: a replacement, and a key that isn't accepted.
-fn replaced<R: Print>(lines: &Lines<'_, R>, held: &mut Baggage) {
-    match held.insert(Key::from("k"), StringValue::from("w")) {
-        Ok(Some(old)) => lines.free(&(old.as_str() == "v")),
-        Ok(None) => lines.free(&false),
-        Err(error) => lines.free(&error),
-    }
-    match held.insert(Key::from("a b"), StringValue::from("w")) {
-        Ok(old) => lines.free(&old.is_none()),
+/// Inserts the value `w` where that takes no memory, and says whether this was the old value.
+fn replaced<R: Print>(lines: &Lines<'_, R>, held: &mut Baggage, key: &'static str, old: &str) {
+    match held.insert(Key::from(key), StringValue::from("w")) {
+        Ok(gone) => lines.free(&(text_of(&gone) == old)),
         Err(error) => lines.free(&error),
     }
 }
 
+/// Its text, or the empty one.
+fn text_of(value: &Option<StringValue>) -> &str {
+    match value {
+        Some(value) => value.as_str(),
+        None => "",
+    }
+}
+
+/// Inserts that change no more than what is there, a replacement and a key that isn't accepted,
+/// look-ups and a removal.
 fn in_place<R: Print>(alloc: Global, lines: &Lines<'_, R>) -> Result<(), AllocError> {
     let mut held = baggage(alloc, "k", "v")?;
-    replaced(lines, &mut held);
-    looked_at(lines, &mut held);
+    replaced(lines, &mut held, "k", "v");
+    replaced(lines, &mut held, "a b", "");
+    looked_at(lines, &held);
+    removed(lines, &mut held);
     Ok(())
 }
 
-fn looked_at<R: Print>(lines: &Lines<'_, R>, held: &mut Baggage) {
+fn looked_at<R: Print>(lines: &Lines<'_, R>, held: &Baggage) {
     lines.free(&held.get("k").is_some());
     lines.free(&held.get_with_metadata("j").is_none());
     lines.free(held);
+}
+
+fn removed<R: Print>(lines: &Lines<'_, R>, held: &mut Baggage) {
     lines.free(&held.remove("k").is_some());
     lines.free(&held.len());
 }

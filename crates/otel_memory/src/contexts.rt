@@ -1,6 +1,6 @@
 //! Calls on contexts.
 use crate::lines::Lines;
-use crate::shown::Parts;
+use crate::shown::Show;
 use otel_base::{AnyValue, Key, StringValue};
 use otel_context::Context;
 use otel_context::baggage::Baggage;
@@ -8,28 +8,41 @@ use otel_ids::{SpanContext, SpanId, TraceFlags, TraceId, TraceState};
 use std::alloc::{AllocError, Global};
 
 pub fn play<R: Print>(alloc: Global, lines: &Lines<'_, R>) {
-    if lines.begin("context-with-value") {
-        lines.end(with_value(alloc, lines));
-    }
-    if lines.begin("context-with-baggage") {
-        lines.end(with_baggage(alloc, lines));
-    }
-    if lines.begin("context-with-cleared-baggage") {
-        lines.end(with_cleared_baggage(alloc, lines));
-    }
-    if lines.begin("context-with-remote-span-context") {
-        lines.end(with_remote_span_context(alloc, lines));
-    }
-    if lines.begin("context-with-telemetry-suppressed") {
-        lines.end(with_telemetry_suppressed(alloc, lines));
-    }
-    if lines.begin("context-clone") {
-        lines.end(copy(alloc, lines));
-    }
-    if lines.begin("context-looks") {
-        lines.end(looks(alloc, lines));
+    for (name, call) in CALLS {
+        if lines.begin(name) {
+            lines.end(of_full(alloc, lines, call));
+        }
     }
 }
+
+/// What is asked of a context.
+#[derive(Clone, Copy)]
+enum Call {
+    WithValue,
+    WithBaggage,
+    WithClearedBaggage,
+    WithRemoteSpanContext,
+    WithTelemetrySuppressed,
+    Clone,
+    Looks,
+}
+
+/// The scenarios, each of which begins with a context that has every part.
+const CALLS: [(&str, Call); 7] = [
+    ("context-with-value", Call::WithValue),
+    ("context-with-baggage", Call::WithBaggage),
+    ("context-with-cleared-baggage", Call::WithClearedBaggage),
+    (
+        "context-with-remote-span-context",
+        Call::WithRemoteSpanContext,
+    ),
+    (
+        "context-with-telemetry-suppressed",
+        Call::WithTelemetrySuppressed,
+    ),
+    ("context-clone", Call::Clone),
+    ("context-looks", Call::Looks),
+];
 
 /// A baggage of that one pair.
 pub fn baggage(
@@ -51,11 +64,16 @@ fn span_context(alloc: Global, id: u64) -> Result<SpanContext, AllocError> {
     Ok(SpanContext::new(trace_id, SpanId::from(id), TraceFlags::SAMPLED, true, state))
 }
 
+/// A context with a baggage.
+fn with_one_pair(alloc: Global) -> Result<Context, AllocError> {
+    let baggage = baggage(alloc, "k", "v")?;
+    Context::new().with_baggage(alloc, baggage)
+}
+
 /// A context with a baggage and a remote span context.
 fn sent(alloc: Global) -> Result<Context, AllocError> {
-    let baggage = baggage(alloc, "k", "v")?;
-    let context = Context::new().with_baggage(alloc, baggage)?;
     let span_context = span_context(alloc, 1)?;
+    let context = with_one_pair(alloc)?;
     context.with_remote_span_context(alloc, span_context)
 }
 
@@ -65,83 +83,98 @@ pub fn full(alloc: Global) -> Result<Context, AllocError> {
     context.with_value(alloc, Key::from("a"), AnyValue::Int(1))
 }
 
-/// Prints the answer of a derivation.
-pub fn answer<R: Print>(lines: &Lines<'_, R>, answer: Result<Context, AllocError>) {
-    match answer {
-        Ok(context) => lines.answer(&Parts(&context)),
-        Err(error) => lines.answer(&error),
-    }
+/// Makes that call of a context that has every part.
+fn of_full<R: Print>(alloc: Global, lines: &Lines<'_, R>, call: Call) -> Result<(), AllocError> {
+    let context = full(alloc)?;
+    called(alloc, lines, &context, call)
 }
 
-fn with_value<R: Print>(alloc: Global, lines: &Lines<'_, R>) -> Result<(), AllocError> {
-    let key = Key::new(String::from_str(alloc, "b")?);
-    let context = full(alloc)?;
-    answer(lines, context.with_value(alloc, key, AnyValue::Int(2)));
-    answer(
+fn called<R: Print>(
+    alloc: Global,
+    lines: &Lines<'_, R>,
+    context: &Context,
+    call: Call,
+) -> Result<(), AllocError> {
+    match call {
+        Call::WithValue => return with_value(alloc, lines, context),
+        Call::WithBaggage => return with_baggage(alloc, lines, context),
+        Call::WithRemoteSpanContext => return with_remote_span_context(alloc, lines, context),
+        Call::WithClearedBaggage => derived(lines, context, context.with_cleared_baggage(alloc)),
+        Call::WithTelemetrySuppressed => {
+            derived(lines, context, context.with_telemetry_suppressed(alloc));
+        }
+        Call::Clone => copy(lines, context),
+        Call::Looks => looks(lines, context),
+    }
+    Ok(())
+}
+
+/// Prints the answer of a derivation, and the context that it was derived from.
+fn derived<R: Print>(lines: &Lines<'_, R>, context: &Context, answer: Result<Context, AllocError>) {
+    lines.shown("answer", answer);
+    lines.receiver(&Show(context));
+}
+
+fn with_value<R: Print>(
+    alloc: Global,
+    lines: &Lines<'_, R>,
+    context: &Context,
+) -> Result<(), AllocError> {
+    let key = String::from_str(alloc, "b")?;
+    lines.shown(
+        "answer",
+        context.with_value(alloc, Key::new(key), AnyValue::Int(2)),
+    );
+    derived(
         lines,
+        context,
         context.with_value(alloc, Key::from("a"), AnyValue::Int(3)),
     );
-    lines.receiver(&Parts(&context));
     Ok(())
 }
 
-fn with_baggage<R: Print>(alloc: Global, lines: &Lines<'_, R>) -> Result<(), AllocError> {
-    let context = full(alloc)?;
+fn with_baggage<R: Print>(
+    alloc: Global,
+    lines: &Lines<'_, R>,
+    context: &Context,
+) -> Result<(), AllocError> {
     let other = baggage(alloc, "j", "w")?;
-    answer(lines, context.with_baggage(alloc, other));
-    lines.receiver(&Parts(&context));
-    Ok(())
-}
-
-fn with_cleared_baggage<R: Print>(alloc: Global, lines: &Lines<'_, R>) -> Result<(), AllocError> {
-    let context = full(alloc)?;
-    answer(lines, context.with_cleared_baggage(alloc));
-    lines.receiver(&Parts(&context));
+    derived(lines, context, context.with_baggage(alloc, other));
     Ok(())
 }
 
 fn with_remote_span_context<R: Print>(
     alloc: Global,
     lines: &Lines<'_, R>,
+    context: &Context,
 ) -> Result<(), AllocError> {
-    let context = full(alloc)?;
     let other = span_context(alloc, 2)?;
-    answer(lines, context.with_remote_span_context(alloc, other));
-    lines.receiver(&Parts(&context));
-    Ok(())
-}
-
-fn with_telemetry_suppressed<R: Print>(
-    alloc: Global,
-    lines: &Lines<'_, R>,
-) -> Result<(), AllocError> {
-    let context = full(alloc)?;
-    answer(lines, context.with_telemetry_suppressed(alloc));
-    lines.receiver(&Parts(&context));
+    derived(
+        lines,
+        context,
+        context.with_remote_span_context(alloc, other),
+    );
     Ok(())
 }
 
 /// Clones of a context and of a span context take no memory.
-fn copy<R: Print>(alloc: Global, lines: &Lines<'_, R>) -> Result<(), AllocError> {
-    let context = full(alloc)?;
-    match context.clone() {
-        Ok(copy) => lines.free(&Parts(&copy)),
-        Err(error) => lines.free(&error),
-    }
-    match context.span_context().clone() {
-        Ok(copy) => lines.free(&(copy == *context.span_context())),
-        Err(error) => lines.free(&error),
-    }
-    lines.receiver(&Parts(&context));
-    Ok(())
+fn copy<R: Print>(lines: &Lines<'_, R>, context: &Context) {
+    lines.shown("free", context.clone());
+    span_copy(lines, context.span_context());
+    lines.receiver(&Show(context));
 }
 
-fn looks<R: Print>(alloc: Global, lines: &Lines<'_, R>) -> Result<(), AllocError> {
-    let context = full(alloc)?;
-    lines.free(&Parts(&Context::new()));
+fn span_copy<R: Print>(lines: &Lines<'_, R>, span_context: &SpanContext) {
+    match span_context.clone() {
+        Ok(copy) => lines.free(&(copy == *span_context)),
+        Err(error) => lines.free(&error),
+    }
+}
+
+fn looks<R: Print>(lines: &Lines<'_, R>, context: &Context) {
+    lines.free(&Show(&Context::new()));
     lines.free(&context.get("b").is_none());
     lines.free(&context.has_active_span());
     lines.free(&context.span_context().is_valid());
     lines.free(&context.is_telemetry_suppressed());
-    Ok(())
 }

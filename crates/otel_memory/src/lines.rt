@@ -1,4 +1,5 @@
 //! The lines that the scenarios print.
+use crate::shown::{Show, Shown};
 use std::alloc::AllocError;
 use std::cell::Cell;
 use std::fmt::Display;
@@ -26,7 +27,7 @@ impl<'a, R: Print> Lines<'a, R> {
         self.is_written.get()
     }
 
-    /// Prints the heading of a scenario, where it is wanted. The answer is whether it is.
+    /// Prints the heading of a scenario, where it is wanted. Returns whether it is.
     pub fn begin(&self, name: &str) -> bool {
         if !self.wanted.is_empty() && self.wanted != name {
             return false;
@@ -57,12 +58,29 @@ impl<'a, R: Print> Lines<'a, R> {
         }
     }
 
+    /// Prints that a call that takes memory gave what it should, or its error.
+    pub fn answer_named<T: Drop, E: Display + Drop>(&self, name: &str, answer: Result<T, E>) {
+        match answer {
+            Ok(_) => self.line("answer", &name),
+            Err(error) => self.line("answer", &error),
+        }
+    }
+
+    /// Prints the answer of a call, or its error, in a line of this kind.
+    pub fn shown<T: Shown + Drop, E: Display + Drop>(&self, kind: &str, answer: Result<T, E>) {
+        match answer {
+            Ok(answer) => self.line(kind, &Show(&answer)),
+            Err(error) => self.line(kind, &error),
+        }
+    }
+
     /// Prints what a call was lent, as it is afterwards.
     pub fn receiver<T: Display>(&self, value: &T) {
         self.line("receiver", value);
     }
 
-    /// Prints whether what a call was lent is as it should be after the call's answer: after an error, as it was before.
+    /// Prints whether what a call was lent is as it should be after the call's answer: after an
+    /// error, as it was before.
     pub fn due(&self, is_due: bool) {
         self.line("receiver", if is_due { &"as due" } else { &"not as due" });
     }

@@ -1,7 +1,8 @@
-//! Scenarios for runs in which requests for memory fail: each makes library calls on fixed values, and prints their answers
-//! and what became of what they were lent.
+//! Scenarios for runs in which requests for memory fail: each makes library calls on fixed values,
+//! and prints their answers and what became of what they were lent.
 //!
-//! The name of a scenario is read from standard input; without one all of them run. Nothing here takes memory to print.
+//! The name of a scenario is read from standard input; without one all of them run. Nothing here
+//! takes memory to print.
 #![tactic(auto)]
 
 mod attaches;

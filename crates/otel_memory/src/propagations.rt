@@ -16,10 +16,10 @@ pub fn play<R: Print>(alloc: Global, lines: &Lines<'_, R>) {
         lines.end(reserve(alloc, lines));
     }
     if lines.begin("composite-new") {
-        lines.end(new(alloc, lines));
+        lines.end(of_two(alloc, lines, Call::New));
     }
     if lines.begin("composite-inject-context") {
-        lines.end(inject_context(alloc, lines));
+        lines.end(of_two(alloc, lines, Call::InjectContext));
     }
     if lines.begin("composite-inject") {
         lines.end(inject(alloc, lines));
@@ -75,18 +75,20 @@ fn is_beginning(carrier: &HashMap<String, String>, len: usize) -> bool {
 }
 
 fn set<R: Print>(alloc: Global, lines: &Lines<'_, R>) -> Result<(), AllocError> {
-    let value = String::from_str(alloc, "1")?;
     let mut carrier = carrier(alloc)?;
-    match Injector::set(&mut carrier, "X", value) {
-        Ok(()) => {
-            lines.answer(&"set");
-            lines.due(is_beginning(&carrier, 2));
-        }
-        Err(error) => {
-            lines.answer(&error);
-            lines.due(is_beginning(&carrier, 1));
-        }
-    }
+    set_in(alloc, lines, &mut carrier)
+}
+
+fn set_in<R: Print>(
+    alloc: Global,
+    lines: &Lines<'_, R>,
+    carrier: &mut HashMap<String, String>,
+) -> Result<(), AllocError> {
+    let value = String::from_str(alloc, "1")?;
+    let answer = Injector::set(carrier, "X", value);
+    let len = if answer.is_ok() { 2 } else { 1 };
+    lines.answer_named("set", answer);
+    lines.due(is_beginning(carrier, len));
     Ok(())
 }
 
@@ -98,17 +100,8 @@ fn reserve<R: Print>(alloc: Global, lines: &Lines<'_, R>) -> Result<(), AllocErr
     Ok(())
 }
 
-fn new<R: Print>(alloc: Global, lines: &Lines<'_, R>) -> Result<(), AllocError> {
-    let mut members: Vec<Box<dyn TextMapPropagator>> = Vec::new(alloc);
-    let (key, value) = ("X", "1");
-    members.push(Box::new(alloc, Stamp { alloc, key, value })?)?;
-    let answer = TextMapCompositePropagator::new(alloc, members);
-    lines.free(&answer.is_ok());
-    Ok(())
-}
-
-/// Lets the members inject the current context of the stack, or the empty one, and prints what they gave. The carrier
-/// holds all that they set then, or after an error a beginning.
+/// Lets the members inject the current context of the stack, or the empty one, and prints what they
+/// gave. The carrier holds all that they set then, or after an error a beginning.
 fn injected<R: Print>(
     lines: &Lines<'_, R>,
     composite: &TextMapCompositePropagator,
@@ -119,39 +112,50 @@ fn injected<R: Print>(
         Some(stack) => composite.inject(stack, carrier),
         None => composite.inject_context(&Context::new(), carrier),
     };
-    match answer {
-        Ok(()) => {
-            lines.answer(&"injected");
-            lines.due(is_beginning(carrier, 3));
-        }
-        Err(error) => {
-            lines.answer(&error);
-            lines.due(is_beginning(carrier, carrier.len()));
-        }
-    }
+    let len = if answer.is_ok() { 3 } else { carrier.len() };
+    lines.answer_named("injected", answer);
+    lines.due(is_beginning(carrier, len));
 }
 
-/// Makes a composite of a member that sets `x` and one that sets `y`, and lets it inject.
-fn injected_by_two<R: Print>(
-    alloc: Global,
-    lines: &Lines<'_, R>,
-    stack: Option<&ContextStack>,
-) -> Result<(), AllocError> {
+/// What is asked of a composite.
+#[derive(Clone, Copy)]
+enum Call<'a> {
+    New,
+    InjectContext,
+    Inject(&'a ContextStack),
+}
+
+/// Makes a member that sets `x` and one that sets `y`, and that call of a composite of them.
+fn of_two<R: Print>(alloc: Global, lines: &Lines<'_, R>, call: Call<'_>) -> Result<(), AllocError> {
     let mut members: Vec<Box<dyn TextMapPropagator>> = Vec::new(alloc);
     for (key, value) in [("X", "1"), ("y", "2")] {
         members.push(Box::new(alloc, Stamp { alloc, key, value })?)?;
     }
+    match call {
+        Call::New => new(alloc, lines, members),
+        Call::InjectContext => return injected_by(alloc, lines, members, None),
+        Call::Inject(stack) => return injected_by(alloc, lines, members, Some(stack)),
+    }
+    Ok(())
+}
+
+fn new<R: Print>(alloc: Global, lines: &Lines<'_, R>, members: Vec<Box<dyn TextMapPropagator>>) {
+    lines.free(&TextMapCompositePropagator::new(alloc, members).is_ok());
+}
+
+fn injected_by<R: Print>(
+    alloc: Global,
+    lines: &Lines<'_, R>,
+    members: Vec<Box<dyn TextMapPropagator>>,
+    stack: Option<&ContextStack>,
+) -> Result<(), AllocError> {
     let composite = TextMapCompositePropagator::new(alloc, members)?;
     let mut carrier = carrier(alloc)?;
     injected(lines, &composite, stack, &mut carrier);
     Ok(())
 }
 
-fn inject_context<R: Print>(alloc: Global, lines: &Lines<'_, R>) -> Result<(), AllocError> {
-    injected_by_two(alloc, lines, None)
-}
-
 fn inject<R: Print>(alloc: Global, lines: &Lines<'_, R>) -> Result<(), AllocError> {
     let stack = stack_of_full(alloc)?;
-    injected_by_two(alloc, lines, Some(&stack))
+    of_two(alloc, lines, Call::Inject(&stack))
 }

@@ -1,6 +1,6 @@
 //! Calls on instrumentation scopes.
 use crate::lines::Lines;
-use crate::shown::Scope;
+use crate::shown::Show;
 use otel_base::{
     InstrumentationScope, InstrumentationScopeBuilder, Key, KeyValue, StringValue, Value,
 };
@@ -38,10 +38,7 @@ fn builder(attributes: Vec<KeyValue>) -> InstrumentationScopeBuilder {
 
 fn build<R: Print>(alloc: Global, lines: &Lines<'_, R>) -> Result<(), AllocError> {
     let attributes = attributes(alloc)?;
-    match builder(attributes).build(alloc) {
-        Ok(scope) => lines.answer(&Scope(&scope)),
-        Err(error) => lines.answer(&error),
-    }
+    lines.shown("answer", builder(attributes).build(alloc));
     Ok(())
 }
 
@@ -50,7 +47,7 @@ fn cloned<R: Print>(lines: &Lines<'_, R>, scope: &InstrumentationScope) {
         Ok(copy) => lines.answer(&(copy == *scope)),
         Err(error) => lines.answer(&error),
     }
-    lines.receiver(&Scope(scope));
+    lines.receiver(&Show(scope));
 }
 
 fn copy<R: Print>(alloc: Global, lines: &Lines<'_, R>) -> Result<(), AllocError> {
@@ -69,18 +66,19 @@ fn bare(alloc: Global, has_list: bool) -> Result<InstrumentationScope, AllocErro
     builder.build(alloc)
 }
 
-fn equal<R: Print>(
-    lines: &Lines<'_, R>,
-    scope: &InstrumentationScope,
-    other: &InstrumentationScope,
-) {
-    lines.free(&scope.name());
-    lines.free(&(scope == other));
-}
-
 fn without_attributes<R: Print>(alloc: Global, lines: &Lines<'_, R>) -> Result<(), AllocError> {
     let scope = bare(alloc, false)?;
+    beside_empty_list(alloc, lines, &scope)
+}
+
+/// Compares it with a scope that was given the empty list.
+fn beside_empty_list<R: Print>(
+    alloc: Global,
+    lines: &Lines<'_, R>,
+    scope: &InstrumentationScope,
+) -> Result<(), AllocError> {
     let other = bare(alloc, true)?;
-    equal(lines, &scope, &other);
+    lines.free(&scope.name());
+    lines.free(&(*scope == other));
     Ok(())
 }

@@ -3,108 +3,138 @@ use otel_base::{AnyValue, InstrumentationScope, Key};
 use otel_context::Context;
 use otel_ids::TraceState;
 use std::collections::BTreeMap;
-use std::fmt::{self, Display};
+use std::fmt::{self, Display, Formatter};
 
-/// Prints the pairs of a trace state.
+/// A value of the libraries whose type has no `Display`, or one that takes memory.
+pub trait Shown {
+    fn show<W: fmt::Write>(&self, f: &mut Formatter<W>) -> fmt::Result;
+}
+
+/// Prints such a value.
 #[derive(Drop)]
-pub struct State<'a>(pub &'a TraceState);
+pub struct Show<'a, T>(pub &'a T);
 
-impl Display for State<'_> {
-    fn fmt<W: fmt::Write>(&self, f: &mut fmt::Formatter<W>) -> fmt::Result {
+impl<T: Shown> Display for Show<'_, T> {
+    fn fmt<W: fmt::Write>(&self, f: &mut Formatter<W>) -> fmt::Result {
+        self.0.show(f)
+    }
+}
+
+/// The pairs.
+impl Shown for TraceState {
+    fn show<W: fmt::Write>(&self, f: &mut Formatter<W>) -> fmt::Result {
         f.write_str("[")?;
-        for (key, value) in self.0.iter() {
+        for (key, value) in self.iter() {
             write!(f, "{key}={value};")?;
         }
         f.write_str("]")
     }
 }
 
-/// Prints a value tree, down to what its list or map holds.
-#[derive(Drop)]
-pub struct Tree<'a>(pub &'a AnyValue);
-
-impl Display for Tree<'_> {
-    fn fmt<W: fmt::Write>(&self, f: &mut fmt::Formatter<W>) -> fmt::Result {
-        match self.0 {
+/// A value tree, down to what its list or map holds.
+impl Shown for AnyValue {
+    fn show<W: fmt::Write>(&self, f: &mut Formatter<W>) -> fmt::Result {
+        match self {
             AnyValue::ListAny(values) => write_list(f, values.as_slice()),
             AnyValue::Map(entries) => write_map(f, entries),
-            leaf => Leaf(leaf).fmt(f),
+            leaf => write_leaf(f, leaf),
         }
     }
 }
 
-fn write_list<W: fmt::Write>(f: &mut fmt::Formatter<W>, values: &[AnyValue]) -> fmt::Result {
+fn write_list<W: fmt::Write>(f: &mut Formatter<W>, values: &[AnyValue]) -> fmt::Result {
     f.write_str("[")?;
     for value in values {
-        write!(f, "{};", Leaf(value))?;
+        write_leaf(f, value)?;
+        f.write_str(";")?;
     }
     f.write_str("]")
 }
 
 fn write_map<W: fmt::Write>(
-    f: &mut fmt::Formatter<W>,
+    f: &mut Formatter<W>,
     entries: &BTreeMap<Key, AnyValue>,
 ) -> fmt::Result {
     f.write_str("{")?;
     for (key, value) in entries.iter() {
-        write!(f, "{key}={};", Leaf(value))?;
+        write_entry(f, "", key.as_str(), value)?;
+        f.write_str(";")?;
     }
     f.write_str("}")
 }
 
-/// Prints a value tree, and of a list or map how long it is.
-#[derive(Drop)]
-struct Leaf<'a>(&'a AnyValue);
+/// An entry, after that text.
+fn write_entry<W: fmt::Write>(
+    f: &mut Formatter<W>,
+    before: &str,
+    key: &str,
+    value: &AnyValue,
+) -> fmt::Result {
+    write!(f, "{before}{key}=")?;
+    write_leaf(f, value)
+}
 
-impl Display for Leaf<'_> {
-    fn fmt<W: fmt::Write>(&self, f: &mut fmt::Formatter<W>) -> fmt::Result {
-        match self.0 {
-            AnyValue::Int(number) => write!(f, "{number}"),
-            AnyValue::String(text) => write!(f, "{text}"),
-            AnyValue::Boolean(truth) => write!(f, "{truth}"),
-            AnyValue::Bytes(bytes) => write!(f, "{} bytes", bytes.len()),
-            AnyValue::ListAny(values) => write!(f, "list of {}", values.len()),
-            AnyValue::Map(entries) => write!(f, "map of {}", entries.len()),
-        }
+/// A value tree, and of a list or map how long it is.
+fn write_leaf<W: fmt::Write>(f: &mut Formatter<W>, value: &AnyValue) -> fmt::Result {
+    match value {
+        AnyValue::Int(number) => number.fmt(f),
+        AnyValue::String(text) => text.fmt(f),
+        AnyValue::Boolean(truth) => truth.fmt(f),
+        AnyValue::Bytes(bytes) => write!(f, "{} bytes", bytes.len()),
+        AnyValue::ListAny(values) => write!(f, "list of {}", values.len()),
+        AnyValue::Map(entries) => write!(f, "map of {}", entries.len()),
     }
 }
 
-/// Prints the name, the version and the attributes of a scope.
-#[derive(Drop)]
-pub struct Scope<'a>(pub &'a InstrumentationScope);
-
-impl Display for Scope<'_> {
-    fn fmt<W: fmt::Write>(&self, f: &mut fmt::Formatter<W>) -> fmt::Result {
-        let version = self.0.version().unwrap_or("no version");
-        write!(f, "{} {version} [", self.0.name())?;
-        for attribute in self.0.attributes() {
+/// The name, the version and the attributes of a scope.
+impl Shown for InstrumentationScope {
+    fn show<W: fmt::Write>(&self, f: &mut Formatter<W>) -> fmt::Result {
+        let version = self.version().unwrap_or("no version");
+        write!(f, "{} {version} [", self.name())?;
+        for attribute in self.attributes() {
             write!(f, "{}={};", attribute.key, attribute.value)?;
         }
         f.write_str("]")
     }
 }
 
-/// Prints the entries `a` and `b` of a context, its baggage, the ids of its span context, and whether it is suppressed.
-#[derive(Drop)]
-pub struct Parts<'a>(pub &'a Context);
-
-impl Display for Parts<'_> {
-    fn fmt<W: fmt::Write>(&self, f: &mut fmt::Formatter<W>) -> fmt::Result {
-        if let Some(entry) = self.0.get("a") {
-            write!(f, "a={}", Leaf(entry))?;
-        }
-        if let Some(entry) = self.0.get("b") {
-            write!(f, " b={}", Leaf(entry))?;
-        }
-        if let Some(baggage) = self.0.baggage() {
-            write!(f, " baggage {baggage}")?;
-        }
-        let span = self.0.span_context();
-        write!(f, " ids {} {}", span.trace_id(), span.span_id())?;
-        f.write_str(if self.0.is_telemetry_suppressed() {
+/// The entries `a` and `b` of a context, its baggage, the ids of its span context, and whether it
+/// is suppressed.
+impl Shown for Context {
+    fn show<W: fmt::Write>(&self, f: &mut Formatter<W>) -> fmt::Result {
+        write_held(f, "", "a", self)?;
+        write_held(f, " ", "b", self)?;
+        write_baggage(f, self)?;
+        write_span(f, self)?;
+        f.write_str(if self.is_telemetry_suppressed() {
             " suppressed"
         } else {
             ""
         })
     }
+}
+
+/// The entry of that name, where there is one.
+fn write_held<W: fmt::Write>(
+    f: &mut Formatter<W>,
+    before: &str,
+    name: &str,
+    context: &Context,
+) -> fmt::Result {
+    match context.get(name) {
+        Some(value) => write_entry(f, before, name, value),
+        None => Ok(()),
+    }
+}
+
+fn write_baggage<W: fmt::Write>(f: &mut Formatter<W>, context: &Context) -> fmt::Result {
+    match context.baggage() {
+        Some(baggage) => write!(f, " baggage {baggage}"),
+        None => Ok(()),
+    }
+}
+
+fn write_span<W: fmt::Write>(f: &mut Formatter<W>, context: &Context) -> fmt::Result {
+    let span = context.span_context();
+    write!(f, " ids {} {}", span.trace_id(), span.span_id())
 }

@@ -1,98 +1,99 @@
 //! Calls on trace states.
 use crate::lines::Lines;
-use crate::shown::State;
-use otel_ids::{TraceState, TraceStateError};
+use crate::shown::Show;
+use otel_ids::TraceState;
 use std::alloc::{AllocError, Global};
+
+const PAIRS: [(&str, &str); 2] = [("foo", ""), ("apple", "banana")];
 
 pub fn play<R: Print>(alloc: Global, lines: &Lines<'_, R>) {
     if lines.begin("trace-state-from-str") {
-        answer(lines, TraceState::from_str(alloc, " a=1 ,,\tb=2"));
+        lines.shown("answer", TraceState::from_str(alloc, " a=1 ,,\tb=2"));
     }
     if lines.begin("trace-state-from-key-value") {
-        let pairs = [("foo", ""), ("apple", "banana")];
-        answer(lines, TraceState::from_key_value(alloc, &pairs));
+        lines.shown("answer", TraceState::from_key_value(alloc, &PAIRS));
     }
-    if lines.begin("trace-state-insert") {
-        lines.end(insert(alloc, lines));
-    }
-    if lines.begin("trace-state-delete") {
-        lines.end(delete(alloc, lines));
-    }
-    if lines.begin("trace-state-header") {
-        lines.end(header(alloc, lines));
-    }
-    if lines.begin("trace-state-faults") {
-        lines.end(faults(alloc, lines));
-    }
-    if lines.begin("trace-state-looks") {
-        lines.end(looks(alloc, lines));
+    for (name, text, call) in CALLS {
+        if lines.begin(name) {
+            lines.end(of_state(alloc, lines, text, call));
+        }
     }
 }
 
-/// The trace state of that text, which is a good one.
-fn state(alloc: Global, text: &str) -> Result<TraceState, AllocError> {
+/// What is asked of a trace state.
+#[derive(Clone, Copy)]
+enum Call {
+    Insert,
+    Delete,
+    Header,
+    Faults,
+    Looks,
+}
+
+/// The scenarios that begin with the trace state of a text.
+const CALLS: [(&str, &str, Call); 5] = [
+    ("trace-state-insert", "a=1,b=2", Call::Insert),
+    ("trace-state-delete", "a=1,b=2", Call::Delete),
+    ("trace-state-header", "a=1,b=2", Call::Header),
+    ("trace-state-faults", "a=1", Call::Faults),
+    ("trace-state-looks", "a=1,b=2", Call::Looks),
+];
+
+/// Makes that call of the trace state of the text, which is a good one.
+fn of_state<R: Print>(
+    alloc: Global,
+    lines: &Lines<'_, R>,
+    text: &str,
+    call: Call,
+) -> Result<(), AllocError> {
     match TraceState::from_str(alloc, text) {
-        Ok(state) => Ok(state),
+        Ok(state) => {
+            called(alloc, lines, &state, call);
+            Ok(())
+        }
         Err(_) => Err(AllocError),
     }
 }
 
-fn answer<R: Print>(lines: &Lines<'_, R>, answer: Result<TraceState, TraceStateError>) {
-    match answer {
-        Ok(state) => lines.answer(&State(&state)),
-        Err(error) => lines.answer(&error),
+fn called<R: Print>(alloc: Global, lines: &Lines<'_, R>, state: &TraceState, call: Call) {
+    match call {
+        Call::Insert => lines.shown("answer", state.insert(alloc, "b", "3")),
+        Call::Delete => lines.shown("answer", state.delete(alloc, "a")),
+        Call::Header => header(alloc, lines, state),
+        Call::Faults => faults(alloc, lines, state),
+        Call::Looks => looks(alloc, lines, state),
     }
+    lines.receiver(&Show(state));
 }
 
-fn insert<R: Print>(alloc: Global, lines: &Lines<'_, R>) -> Result<(), AllocError> {
-    let state = state(alloc, "a=1,b=2")?;
-    answer(lines, state.insert(alloc, "b", "3"));
-    lines.receiver(&State(&state));
-    Ok(())
-}
-
-fn delete<R: Print>(alloc: Global, lines: &Lines<'_, R>) -> Result<(), AllocError> {
-    let state = state(alloc, "a=1,b=2")?;
-    answer(lines, state.delete(alloc, "a"));
-    lines.receiver(&State(&state));
-    Ok(())
-}
-
-fn header<R: Print>(alloc: Global, lines: &Lines<'_, R>) -> Result<(), AllocError> {
-    let state = state(alloc, "a=1,b=2")?;
+fn header<R: Print>(alloc: Global, lines: &Lines<'_, R>, state: &TraceState) {
     lines.answer_of(state.header(alloc));
     lines.answer_of(state.header_delimited(alloc, ":", ";"));
-    lines.receiver(&State(&state));
-    Ok(())
 }
 
-fn faults<R: Print>(alloc: Global, lines: &Lines<'_, R>) -> Result<(), AllocError> {
-    let state = state(alloc, "a=1")?;
-    answer(lines, TraceState::from_str(alloc, "a=1,b"));
-    answer(lines, state.insert(alloc, "A", "1"));
-    answer(lines, state.insert(alloc, "b", "="));
-    lines.receiver(&State(&state));
-    Ok(())
+fn faults<R: Print>(alloc: Global, lines: &Lines<'_, R>, state: &TraceState) {
+    lines.shown("answer", TraceState::from_str(alloc, "a=1,b"));
+    lines.shown("answer", state.insert(alloc, "A", "1"));
+    lines.shown("answer", state.insert(alloc, "b", "="));
 }
 
-/// A text of blanks alone, and a clone, which shares the list.
-fn without_memory<R: Print>(alloc: Global, lines: &Lines<'_, R>, state: &TraceState) {
+fn is_none(state: &TraceState) -> bool {
+    *state == TraceState::NONE
+}
+
+/// Reads a text of blanks alone, which takes no memory.
+fn blanks<R: Print>(alloc: Global, lines: &Lines<'_, R>) {
     match TraceState::from_str(alloc, " ,\t, ") {
-        Ok(empty) => lines.free(&(empty == TraceState::NONE)),
-        Err(error) => lines.free(&error),
-    }
-    match state.clone() {
-        Ok(copy) => lines.free(&State(&copy)),
+        Ok(empty) => lines.free(&is_none(&empty)),
         Err(error) => lines.free(&error),
     }
 }
 
-fn looks<R: Print>(alloc: Global, lines: &Lines<'_, R>) -> Result<(), AllocError> {
-    let state = state(alloc, "a=1,b=2")?;
+/// Look-ups, and a clone, which shares the list.
+fn looks<R: Print>(alloc: Global, lines: &Lines<'_, R>, state: &TraceState) {
     lines.free(&state.get("b").unwrap_or("none"));
     lines.free(&state.iter().len());
-    lines.free(&(state == TraceState::NONE));
-    without_memory(alloc, lines, &state);
-    lines.receiver(&State(&state));
-    Ok(())
+    lines.free(&is_none(state));
+    blanks(alloc, lines);
+    lines.shown("free", state.clone());
 }

@@ -1,6 +1,6 @@
 //! Calls on texts, values and value trees.
 use crate::lines::Lines;
-use crate::shown::Tree;
+use crate::shown::Show;
 use otel_base::{AnyValue, Array, Key, KeyValue, StringValue, Value};
 use std::alloc::{AllocError, Global};
 use std::rc::RcStr;
@@ -36,7 +36,7 @@ fn play_trees<R: Print>(alloc: Global, lines: &Lines<'_, R>) {
         lines.end(tree_map(alloc, lines));
     }
     if lines.begin("tree-bytes") {
-        answer(lines, AnyValue::bytes(alloc, &[1, 2]));
+        lines.shown("answer", AnyValue::bytes(alloc, &[1, 2]));
     }
     if lines.begin("tree-clone") {
         lines.end(tree_clone(alloc, lines));
@@ -87,51 +87,45 @@ fn text_clone_shared<R: Print>(alloc: Global, lines: &Lines<'_, R>) -> Result<()
 
 fn value_text<R: Print>(alloc: Global, lines: &Lines<'_, R>) {
     lines.answer_of(StringValue::from_value(alloc, Value::I64(7)));
-    let number = Value::I64(-1);
-    lines.answer_of(number.as_str(alloc));
-    lines.receiver(&number);
+    text_of(alloc, lines, &Value::I64(-1));
     lines.free_of(Value::from("v").as_str(alloc));
+}
+
+fn text_of<R: Print>(alloc: Global, lines: &Lines<'_, R>, value: &Value) {
+    lines.answer_of(value.as_str(alloc));
+    lines.receiver(value);
 }
 
 /// The list of the texts `a` and `b`.
 fn texts(alloc: Global) -> Result<Array, AllocError> {
-    let mut texts = Vec::new(alloc);
-    for text in ["a", "b"] {
-        texts.push(StringValue::from(text))?;
-    }
+    let texts = vec![in alloc; StringValue::from("a"), StringValue::from("b")]?;
     Ok(Array::from(texts))
 }
 
 fn value_clone<R: Print>(alloc: Global, lines: &Lines<'_, R>) -> Result<(), AllocError> {
     let texts = texts(alloc)?;
     lines.answer_of(texts.clone());
-    let value = Value::Array(texts);
-    lines.answer_of(value.clone());
-    pair_clone(lines, &KeyValue::new(Key::from("k"), value));
+    pair_clone(lines, &KeyValue::new(Key::from("k"), Value::Array(texts)));
     Ok(())
 }
 
 fn pair_clone<R: Print>(lines: &Lines<'_, R>, pair: &KeyValue) {
+    lines.answer_of(pair.value.clone());
     match pair.clone() {
         Ok(copy) => lines.answer(&copy.value),
         Err(error) => lines.answer(&error),
     }
     lines.receiver(&pair.value);
-    lines.free(&(pair.value == Value::Bool(true)));
+    lines.free(&is_true(&pair.value));
 }
 
-fn answer<R: Print>(lines: &Lines<'_, R>, answer: Result<AnyValue, AllocError>) {
-    match answer {
-        Ok(tree) => lines.answer(&Tree(&tree)),
-        Err(error) => lines.answer(&error),
-    }
+fn is_true(value: &Value) -> bool {
+    *value == Value::Bool(true)
 }
 
 fn tree_list<R: Print>(alloc: Global, lines: &Lines<'_, R>) -> Result<(), AllocError> {
-    let mut values = Vec::new(alloc);
-    values.push(AnyValue::Int(1))?;
-    values.push(AnyValue::from("b"))?;
-    answer(lines, AnyValue::list(alloc, values));
+    let values = vec![in alloc; AnyValue::Int(1), AnyValue::from("b")]?;
+    lines.shown("answer", AnyValue::list(alloc, values));
     Ok(())
 }
 
@@ -146,7 +140,7 @@ fn pairs(alloc: Global) -> Result<Vec<(Key, AnyValue)>, AllocError> {
 
 fn tree_map<R: Print>(alloc: Global, lines: &Lines<'_, R>) -> Result<(), AllocError> {
     let pairs = pairs(alloc)?;
-    answer(lines, AnyValue::map(alloc, pairs));
+    lines.shown("answer", AnyValue::map(alloc, pairs));
     Ok(())
 }
 
@@ -154,9 +148,7 @@ fn tree_map<R: Print>(alloc: Global, lines: &Lines<'_, R>) -> Result<(), AllocEr
 fn nested(alloc: Global) -> Result<AnyValue, AllocError> {
     let pairs = pairs(alloc)?;
     let map = AnyValue::map(alloc, pairs)?;
-    let mut values = Vec::new(alloc);
-    values.push(AnyValue::Int(1))?;
-    values.push(map)?;
+    let values = vec![in alloc; AnyValue::Int(1), map]?;
     AnyValue::list(alloc, values)
 }
 
@@ -171,6 +163,10 @@ fn cloned<R: Print>(lines: &Lines<'_, R>, tree: &AnyValue) {
         Ok(copy) => lines.answer(&(copy == *tree)),
         Err(error) => lines.answer(&error),
     }
-    lines.free(&(*tree == AnyValue::Int(1)));
-    lines.receiver(&Tree(tree));
+    lines.free(&is_one(tree));
+    lines.receiver(&Show(tree));
+}
+
+fn is_one(tree: &AnyValue) -> bool {
+    *tree == AnyValue::Int(1)
 }
