@@ -14,6 +14,7 @@
 #   make vectors                    the answers of the Rust crate
 #   make misuse                     what must not compile; CASE=NAME one case
 #   make memory                     the runs in which requests for memory fail
+#   make calls                      that each call that can run out of memory is in one of them
 #   make documents                  that what the documents name exists
 #   make bench                      instructions an operation, beside the Rust crate
 #
@@ -25,7 +26,7 @@ SHELL := /bin/bash
 INPUT ?= examples/first-run
 GIVEN := $(if $(filter -,$(INPUT)),,< "$(abspath $(INPUT))")
 
-.PHONY: run try test check tests edit mutants vectors misuse memory documents bench
+.PHONY: run try test check tests edit mutants vectors misuse memory calls documents bench
 
 run:
 	@cd crates/otel_carry && rt run $(GIVEN)
@@ -58,6 +59,9 @@ misuse:
 memory:
 	@for program in otel_carry otel_memory; do (cd crates/$$program && rt run < /dev/null > /dev/null) || exit; done
 	@tests/memory/sweep
+
+calls:
+	@tests/memory/calls
 
 documents:
 	@tests/documents

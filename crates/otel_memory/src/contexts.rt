@@ -56,7 +56,7 @@ pub fn baggage(
 }
 
 /// A remote span context with those ids, and a trace state.
-fn span_context(alloc: Global, id: u64) -> Result<SpanContext, AllocError> {
+pub fn span_context(alloc: Global, id: u64) -> Result<SpanContext, AllocError> {
     let Ok(state) = TraceState::from_str(alloc, "v=1") else {
         return Err(AllocError);
     };
@@ -160,15 +160,8 @@ fn with_remote_span_context<R: Print>(
 /// Clones of a context and of a span context take no memory.
 fn copy<R: Print>(lines: &Lines<'_, R>, context: &Context) {
     lines.shown("free", context.clone());
-    span_copy(lines, context.span_context());
+    lines.cloned("free", context.span_context());
     lines.receiver(&Show(context));
-}
-
-fn span_copy<R: Print>(lines: &Lines<'_, R>, span_context: &SpanContext) {
-    match span_context.clone() {
-        Ok(copy) => lines.free(&(copy == *span_context)),
-        Err(error) => lines.free(&error),
-    }
 }
 
 fn looks<R: Print>(lines: &Lines<'_, R>, context: &Context) {

@@ -74,6 +74,15 @@ impl<'a, R: Print> Lines<'a, R> {
         }
     }
 
+    /// Clones a value and prints whether the clone is equal to it, or the error, in a line of this
+    /// kind.
+    pub fn cloned<T: Clone + PartialEq + Drop>(&self, kind: &str, value: &T) {
+        match value.clone() {
+            Ok(copy) => self.line(kind, &(copy == *value)),
+            Err(error) => self.line(kind, &error),
+        }
+    }
+
     /// Prints what a call was lent, as it is afterwards.
     pub fn receiver<T: Display>(&self, value: &T) {
         self.line("receiver", value);

@@ -12,6 +12,7 @@ mod lines;
 mod propagations;
 mod scopes;
 mod shown;
+mod spans;
 mod stacks;
 mod trace_states;
 mod values;
@@ -36,6 +37,7 @@ fn main(rt: HostRuntime) -> io::Result<()> {
     attaches::play(alloc, &lines);
     stacks::play(alloc, &lines);
     propagations::play(alloc, &lines);
+    spans::play(alloc, &lines);
     if lines.is_written() {
         Ok(())
     } else {

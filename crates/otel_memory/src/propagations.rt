@@ -100,6 +100,14 @@ fn reserve<R: Print>(alloc: Global, lines: &Lines<'_, R>) -> Result<(), AllocErr
     Ok(())
 }
 
+/// Lets the members inject the empty context.
+fn inject_empty(
+    composite: &TextMapCompositePropagator,
+    carrier: &mut HashMap<String, String>,
+) -> Result<(), PropagationError> {
+    composite.inject_context(&Context::new(), carrier)
+}
+
 /// Lets the members inject the current context of the stack, or the empty one, and prints what they
 /// gave. The carrier holds all that they set then, or after an error a beginning.
 fn injected<R: Print>(
@@ -110,7 +118,7 @@ fn injected<R: Print>(
 ) {
     let answer = match stack {
         Some(stack) => composite.inject(stack, carrier),
-        None => composite.inject_context(&Context::new(), carrier),
+        None => inject_empty(composite, carrier),
     };
     let len = if answer.is_ok() { 3 } else { carrier.len() };
     lines.answer_named("injected", answer);

@@ -21,7 +21,7 @@ pub fn play<R: Print>(alloc: Global, lines: &Lines<'_, R>) {
 }
 
 /// The attributes `k=2,j=0,k=1`.
-fn attributes(alloc: Global) -> Result<Vec<KeyValue>, AllocError> {
+pub fn attributes(alloc: Global) -> Result<Vec<KeyValue>, AllocError> {
     let mut attributes = Vec::new(alloc);
     for (key, number) in [("k", 2), ("j", 0), ("k", 1)] {
         attributes.push(KeyValue::new(Key::from(key), Value::I64(number)))?;
@@ -42,18 +42,11 @@ fn build<R: Print>(alloc: Global, lines: &Lines<'_, R>) -> Result<(), AllocError
     Ok(())
 }
 
-fn cloned<R: Print>(lines: &Lines<'_, R>, scope: &InstrumentationScope) {
-    match scope.clone() {
-        Ok(copy) => lines.answer(&(copy == *scope)),
-        Err(error) => lines.answer(&error),
-    }
-    lines.receiver(&Show(scope));
-}
-
 fn copy<R: Print>(alloc: Global, lines: &Lines<'_, R>) -> Result<(), AllocError> {
     let attributes = attributes(alloc)?;
     let scope = builder(attributes).build(alloc)?;
-    cloned(lines, &scope);
+    lines.cloned("answer", &scope);
+    lines.receiver(&Show(&scope));
     Ok(())
 }
 

@@ -1,5 +1,5 @@
 //! How values of the libraries are printed without taking memory.
-use otel_base::{AnyValue, InstrumentationScope, Key};
+use otel_base::{AnyValue, InstrumentationScope, Key, KeyValue};
 use otel_context::Context;
 use otel_ids::TraceState;
 use std::collections::BTreeMap;
@@ -28,6 +28,13 @@ impl Shown for TraceState {
             write!(f, "{key}={value};")?;
         }
         f.write_str("]")
+    }
+}
+
+/// The value of an attribute.
+impl Shown for KeyValue {
+    fn show<W: fmt::Write>(&self, f: &mut Formatter<W>) -> fmt::Result {
+        self.value.fmt(f)
     }
 }
 

@@ -103,6 +103,15 @@ fn guard_of_another<R: Print>(
     other: &mut ContextStack,
 ) -> Result<(), AllocError> {
     let mut stack = ContextStack::new(alloc)?;
+    given_to(lines, &mut stack, other)
+}
+
+/// Attaches to the first stack, and gives the guard to the other one.
+fn given_to<R: Print>(
+    lines: &Lines<'_, R>,
+    stack: &mut ContextStack,
+    other: &mut ContextStack,
+) -> Result<(), AllocError> {
     let guard = stack.attach(Context::new())?;
     lines.free(&other.detach(guard).is_some());
     lines.free(&other.newest_position());

@@ -13,6 +13,10 @@ pub fn play<R: Print>(alloc: Global, lines: &Lines<'_, R>) {
     if lines.begin("trace-state-from-key-value") {
         lines.shown("answer", TraceState::from_key_value(alloc, &PAIRS));
     }
+    play_of_states(alloc, lines);
+}
+
+fn play_of_states<R: Print>(alloc: Global, lines: &Lines<'_, R>) {
     for (name, text, call) in CALLS {
         if lines.begin(name) {
             lines.end(of_state(alloc, lines, text, call));

@@ -111,10 +111,7 @@ fn value_clone<R: Print>(alloc: Global, lines: &Lines<'_, R>) -> Result<(), Allo
 
 fn pair_clone<R: Print>(lines: &Lines<'_, R>, pair: &KeyValue) {
     lines.answer_of(pair.value.clone());
-    match pair.clone() {
-        Ok(copy) => lines.answer(&copy.value),
-        Err(error) => lines.answer(&error),
-    }
+    lines.shown("answer", pair.clone());
     lines.receiver(&pair.value);
     lines.free(&is_true(&pair.value));
 }
@@ -154,17 +151,10 @@ fn nested(alloc: Global) -> Result<AnyValue, AllocError> {
 
 fn tree_clone<R: Print>(alloc: Global, lines: &Lines<'_, R>) -> Result<(), AllocError> {
     let tree = nested(alloc)?;
-    cloned(lines, &tree);
+    lines.cloned("answer", &tree);
+    lines.free(&is_one(&tree));
+    lines.receiver(&Show(&tree));
     Ok(())
-}
-
-fn cloned<R: Print>(lines: &Lines<'_, R>, tree: &AnyValue) {
-    match tree.clone() {
-        Ok(copy) => lines.answer(&(copy == *tree)),
-        Err(error) => lines.answer(&error),
-    }
-    lines.free(&is_one(tree));
-    lines.receiver(&Show(tree));
 }
 
 fn is_one(tree: &AnyValue) -> bool {
