@@ -1,11 +1,11 @@
 -- Taking out an attachment, and adding one, leaves the others.
-use Rattle.std.proofs.Common.{◌≡◌, ℕ, zero, suc, ◌+◌, ◌<◌, ◌≤◌, true, false, List, [], ◌∷◌, ◌++◌, length, map, refl, sym, ap, ◌∙◌, arith, inl, inr}
-use Rattle.std.specs.Prelude.{◌==◌, ◌≢◌, not, filter}
+use Rattle.std.proofs.Common.{◌≡◌, ℕ, ◌+◌, ◌<◌, false, [], ◌∷◌, ◌++◌, map, refl, sym, ap, ◌∙◌, arith, inl, inr}
+use Rattle.std.specs.Prelude.{◌==◌, ◌≢◌}
 use Rattle.std.proofs.lemmas.Bool.{cases_Bool, ne_eqb, eq-eqb, eqb-true}
 use Rattle.otel_context.specs.Context.{ContextRecord, empty_context}
-use Rattle.otel_context.specs.Stack.{Live, StackState, IsLawful, last_or, newest_position, context_at, detach, attach, RisesAbove, positions}
+use Rattle.otel_context.specs.Stack.{Live, last_or, newest_position, context_at, detach, RisesAbove, positions}
 use Rattle.otel_context.specs.StackLaws.{DetachRestores, AttachIsCurrent, AttachLeavesAll, RemovalLeavesOthers, RemovalKeepsOrder}
-use Rattle.otel_context.proofs.LiveLemmas.{last_or-push, length-RisesAbove}
+use Rattle.otel_context.proofs.LiveLemmas.{length-RisesAbove}
 
 detach-pushed : (q p : ℕ) (c : ContextRecord) (xs : Live) → RisesAbove q (positions xs) → last_or q (positions xs) < p → detach p (xs ++ (p, c) ∷ []) ≡ xs
 detach-pushed q p c [] r h = rw (eq-eqb p p refl) refl

@@ -1,5 +1,5 @@
 -- What holds of the live attachments of every stack, for a caller to cite.
-use Rattle.std.specs.Prelude.{◌≡◌, ◌≢◌, ◌≤◌, ◌+◌, ◌==◌, ℕ, not, filter, Some}
+use Rattle.std.specs.Prelude.{◌≡◌, ◌≢◌, ◌≤◌, ◌+◌, ◌==◌, ℕ, not, filter}
 use Rattle.otel_context.specs.Context.{ContextRecord}
 use Rattle.otel_context.specs.Stack.{Live, StackState, IsLawful, positions, newest_position}
 use Rattle.otel_context.specs.Stack.{current, context_at, detach, attach}

@@ -10,7 +10,7 @@ use std::alloc::{AllocError, Global};
 use std::marker::Model;
 use std::rc::Rc;
 
-/// Up to how many entries `get` walks. Among more it searches by halves, which compares fewer names.
+/// Up to how many entries `get` walks. It searches more by halves, which compares fewer names.
 const WALKED: usize = 8;
 
 #[derive(Drop)]
