@@ -60,7 +60,8 @@ entry delimiter p = p.key ++ (delimiter ++ p.value)
 -- [`TraceState::header_delimited`]
 abbrev pub header_delimited : List Pair → List ℕ → List ℕ → List ℕ
 header_delimited [] between list = []
-header_delimited (p ∷ ps) between list = entry between p ++ flat_map (λ q. list ++ entry between q) ps
+header_delimited (p ∷ ps) between list =
+    entry between p ++ flat_map (λ q. list ++ entry between q) ps
 
 -- the entries with = and commas: a=1,b=2 [W3C trace-context-2, "list"; `TraceState::header`]
 abbrev pub header : List Pair → List ℕ

@@ -47,8 +47,9 @@ IsMemory (errors.Value text) = ⊥
 IsMemory (errors.List text) = ⊥
 IsMemory (errors.Memory e) = Unit {0}
 
--- the call makes these pairs where there is no fault, else its error reports the fault; or a request
--- for memory failed [`TraceState::from_key_value`, `TraceState::insert`, `TraceState::delete`]
+-- the call makes these pairs where there is no fault, else its error reports the fault; or a
+-- request for memory failed [`TraceState::from_key_value`, `TraceState::insert`,
+-- `TraceState::delete`]
 abbrev pub Makes : List Pair → Option Fault → Result (List Pair) TraceStateError → Type 0
 Makes pairs fault (Ok made) = (made ≡ pairs) × (fault ≡ None)
 Makes pairs fault (Err error) = Reports error fault
