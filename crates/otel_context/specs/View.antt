@@ -1,5 +1,6 @@
 -- From code to meaning: what contracts see of the fields of a context, and the codes by which a
--- model's value may hold contexts, slots, stacks and span tables. No public contract cites a word of this file.
+-- model's value may hold contexts, slots, stacks and span tables. No public contract cites a word
+-- of this file.
 use Rattle.std.specs.Prelude.{ℕ, List, Bool, Option, Some, None, T, map, refl}
 use Rattle.std.specs.declared.rc.Rc.{Rc}
 use Rattle.std.specs.declared.alloc.Global.{Global}
