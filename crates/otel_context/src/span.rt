@@ -18,6 +18,20 @@ use std::fmt::Display;
 /// laws like it). The other calls are made of these. What the calls do once the span has ended is
 /// for the type to say.
 ///
+/// One effect with its law and its call, of a span type that keeps its name:
+///
+/// ```
+/// ghost after_name = { λ span name. record span { name = name } };
+///
+/// fn update_name(&mut self, name: StringValue) {
+///     self.name = name;
+/// }
+///
+/// ghost name_keeps = { λ span name. refl };
+/// ```
+///
+/// `RecordingSpan` of the crate `otel_recording` is a whole span type, proved.
+///
 /// Moments are nanoseconds since 1970-01-01T00:00:00Z. The Rust crate reads the clock in
 /// `add_event`, `record_error` and `end`; here the moment is handed in.
 pub trait Span: Drop {
