@@ -14,15 +14,17 @@ SurvivorsAreThose = (events : List StackEvent) (outcomes : List AttachOutcome)
     → (slice_get (left_by 0 events outcomes) number ≡ Some (Some (position, context)))
     ↔ Survives events outcomes number position context
 
--- An attach that is refused, and a detach of a number that doesn't survive, leave the stack: what is live on it, and both
--- of its counts.
+-- An attach that is refused, and a detach of a number that doesn't survive, leave the stack: what
+-- is live on it, and both of its counts.
 pub record IsNothing (events : List StackEvent) (outcomes : List AttachOutcome) : Type 0 where
   pub full : (context : ContextRecord)
       → stack_of (events ++ Attach context ∷ []) (outcomes ++ Full ∷ []) ≡ stack_of events outcomes
   pub no_memory : (context : ContextRecord)
-      → stack_of (events ++ Attach context ∷ []) (outcomes ++ NoMemory ∷ []) ≡ stack_of events outcomes
+      → stack_of (events ++ Attach context ∷ []) (outcomes ++ NoMemory ∷ [])
+      ≡ stack_of events outcomes
   pub detach : (number : ℕ)
-      → ((position : ℕ) (context : ContextRecord) → ¬ Survives events outcomes number position context)
+      → ((position : ℕ) (context : ContextRecord)
+      → ¬ Survives events outcomes number position context)
       → stack_of (events ++ Detach number ∷ []) outcomes ≡ stack_of events outcomes
 
 -- each refusal changes nothing

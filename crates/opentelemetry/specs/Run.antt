@@ -1,5 +1,6 @@
 -- What a run of attaches and detaches means, by the numbers of its attaches. Not in the Rust crate.
--- The attaches of a list of events are numbered from 0, in order. Each has an outcome, and the outcomes stand in that order.
+-- The attaches of a list of events are numbered from 0, in order. Each has an outcome, and the
+-- outcomes stand in that order.
 use Rattle.std.specs.Prelude.{◌≡◌, ◌≢◌, ◌⊎◌, ℕ, ◌+◌, ◌<◌, ◌≤◌, ◌==◌, if◌then◌else◌, Bool, true, false, List, [], ◌∷◌, length, take, filter, slice_get, Option, Some, None, IfSome}
 use Rattle.std.specs.List.{list_any, filter_map}
 use Rattle.otel_context.specs.Context.{ContextRecord, empty_context}
@@ -37,9 +38,10 @@ attachment_of (Attached position) context = Some (position, context)
 attachment_of Full context = None
 attachment_of NoMemory context = None
 
--- What is left of each attach of the events, the first of which has the number `number`: its position and context where
--- it was accepted and no event after it detaches it, else nothing.
--- Of attach a, attach b, detach 0 with the outcomes `Attached 1`, `Attached 2` it is: nothing, then (2, b).
+-- What is left of each attach of the events, the first of which has the number `number`: its
+-- position and context where it was accepted and no event after it detaches it, else nothing.
+-- Of attach a, attach b, detach 0 with the outcomes `Attached 1`, `Attached 2` it is: nothing, then
+-- (2, b).
 abbrev pub left_by : ℕ → List StackEvent → List AttachOutcome → List (Option (ℕ × ContextRecord))
 left_by number [] outcomes = []
 left_by number (Detach other ∷ events) outcomes = left_by number events outcomes
@@ -52,8 +54,8 @@ left_by number (Attach context ∷ events) (outcome ∷ outcomes) =
 abbrev pub survivors : List StackEvent → List AttachOutcome → Live
 survivors events outcomes = filter_map (λ left. left) (left_by 0 events outcomes)
 
--- The stack after the events: the survivors are live, each accepted attach is counted, and no emptied slot was stepped
--- over.
+-- The stack after the events: the survivors are live, each accepted attach is counted, and no
+-- emptied slot was stepped over.
 abbrev pub stack_of : List StackEvent → List AttachOutcome → StackState
 stack_of events outcomes = record {
   live = survivors events outcomes;
@@ -61,8 +63,8 @@ stack_of events outcomes = record {
   stepped = 0;
 }
 
--- The attach of the number `number` survives the events, at this position and with this context: it is the event at
--- `index`, its outcome is `Attached`, and no event after it detaches it.
+-- The attach of the number `number` survives the events, at this position and with this context: it
+-- is the event at `index`, its outcome is `Attached`, and no event after it detaches it.
 pub record Survives
     (events : List StackEvent) (outcomes : List AttachOutcome)
     (number position : ℕ) (context : ContextRecord) : Type 0 where
@@ -74,7 +76,8 @@ pub record Survives
 
 -- the context is that of the latest attach that survives
 pub record IsLatest
-    (events : List StackEvent) (outcomes : List AttachOutcome) (context : ContextRecord) : Type 0 where
+    (events : List StackEvent) (outcomes : List AttachOutcome)
+    (context : ContextRecord) : Type 0 where
   pub number : ℕ
   pub position : ℕ
   pub survives : Survives events outcomes number position context
@@ -83,17 +86,20 @@ pub record IsLatest
 
 -- no attach survives, and the context is the empty one
 pub record IsBase
-    (events : List StackEvent) (outcomes : List AttachOutcome) (context : ContextRecord) : Type 0 where
+    (events : List StackEvent) (outcomes : List AttachOutcome)
+    (context : ContextRecord) : Type 0 where
   pub none : (other its_position : ℕ) (its : ContextRecord)
       → ¬ Survives events outcomes other its_position its
   pub empty : context ≡ empty_context
 
--- The current context after the events: that of the latest accepted attach that is not yet detached, or the empty base.
+-- The current context after the events: that of the latest accepted attach that is not yet
+-- detached, or the empty base.
 abbrev pub IsCurrent : List StackEvent → List AttachOutcome → ContextRecord → Type 0
-IsCurrent events outcomes context = IsLatest events outcomes context ⊎ IsBase events outcomes context
+IsCurrent events outcomes context =
+    IsLatest events outcomes context ⊎ IsBase events outcomes context
 
--- The outcome of an attach where this is the newest position: `Full` exactly at the last one; `NoMemory`, that a request
--- for memory failed, only from 8 on; else the position after the newest.
+-- The outcome of an attach where this is the newest position: `Full` exactly at the last one;
+-- `NoMemory`, that a request for memory failed, only from 8 on; else the position after the newest.
 abbrev pub IsOutcome : ℕ → AttachOutcome → Type 0
 IsOutcome newest (Attached position) = (newest < last_position) × (position ≡ newest + 1)
 IsOutcome newest Full = newest ≡ last_position

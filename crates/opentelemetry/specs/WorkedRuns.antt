@@ -1,4 +1,5 @@
--- Runs that are worked by hand, for any contexts: what the words of a run give at their events (own).
+-- Runs that are worked by hand, for any contexts: what the words of a run give at their events.
+-- Not in the Rust crate.
 use Rattle.std.specs.Prelude.{◌≡◌, List, [], ◌∷◌, take}
 use Rattle.otel_context.specs.Context.{ContextRecord, empty_context}
 use Rattle.otel_context.specs.Stack.{current}
@@ -9,23 +10,28 @@ use Rattle.opentelemetry.specs.declared.carry.event.AttachOutcome.TheVariants.{A
 use Rattle.opentelemetry.specs.Run.{survivors, Legal}
 
 -- attach a, b, c; detach 1; detach 2; attach d
-abbrev pub three_and_one : ContextRecord → ContextRecord → ContextRecord → ContextRecord → List StackEvent
+abbrev pub three_and_one :
+    ContextRecord → ContextRecord → ContextRecord → ContextRecord → List StackEvent
 three_and_one a b c d = Attach a ∷ Attach b ∷ Attach c ∷ Detach 1 ∷ Detach 2 ∷ Attach d ∷ []
 
 abbrev pub their_outcomes : List AttachOutcome
 their_outcomes = Attached 1 ∷ Attached 2 ∷ Attached 3 ∷ Attached 2 ∷ []
 
--- Of `three_and_one`: c is current after the first detach, then a, then d, which has the position that b had.
+-- Of `three_and_one`: c is current after the first detach, then a, then d, which has the position
+-- that b had.
 pub record IsThreeAndOne (a b c d : ContextRecord) : Type 0 where
   pub legal : Legal (three_and_one a b c d) their_outcomes
-  pub first_detach : survivors (take 4 (three_and_one a b c d)) their_outcomes ≡ (1, a) ∷ (3, c) ∷ []
+  pub first_detach : survivors (take 4 (three_and_one a b c d)) their_outcomes
+      ≡ (1, a) ∷ (3, c) ∷ []
   pub second_detach : survivors (take 5 (three_and_one a b c d)) their_outcomes ≡ (1, a) ∷ []
   pub all : survivors (three_and_one a b c d) their_outcomes ≡ (1, a) ∷ (2, d) ∷ []
   pub current : current (survivors (three_and_one a b c d) their_outcomes) ≡ d
 
 -- attach a, b, c; detach 1; detach 2; attach d; detach 1 once more
-abbrev pub detached_again : ContextRecord → ContextRecord → ContextRecord → ContextRecord → List StackEvent
-detached_again a b c d = Attach a ∷ Attach b ∷ Attach c ∷ Detach 1 ∷ Detach 2 ∷ Attach d ∷ Detach 1 ∷ []
+abbrev pub detached_again :
+    ContextRecord → ContextRecord → ContextRecord → ContextRecord → List StackEvent
+detached_again a b c d =
+    Attach a ∷ Attach b ∷ Attach c ∷ Detach 1 ∷ Detach 2 ∷ Attach d ∷ Detach 1 ∷ []
 
 -- Of `detached_again`: the last detach changes nothing, though d has the position that b had.
 pub record IsDetachedAgain (a b c d : ContextRecord) : Type 0 where
@@ -46,11 +52,14 @@ pub record IsDetachedBefore (a : ContextRecord) : Type 0 where
 abbrev pub oldest_first : ContextRecord → ContextRecord → List StackEvent
 oldest_first a b = Attach a ∷ Attach b ∷ Detach 0 ∷ Detach 1 ∷ []
 
--- Of `oldest_first`: b stays current after the first detach, and the base is current after the second.
+-- Of `oldest_first`: b stays current after the first detach, and the base is current after the
+-- second.
 pub record IsOldestFirst (a b : ContextRecord) : Type 0 where
   pub legal : Legal (oldest_first a b) (Attached 1 ∷ Attached 2 ∷ [])
-  pub first_detach : survivors (take 3 (oldest_first a b)) (Attached 1 ∷ Attached 2 ∷ []) ≡ (2, b) ∷ []
-  pub still_current : current (survivors (take 3 (oldest_first a b)) (Attached 1 ∷ Attached 2 ∷ [])) ≡ b
+  pub first_detach : survivors (take 3 (oldest_first a b)) (Attached 1 ∷ Attached 2 ∷ [])
+      ≡ (2, b) ∷ []
+  pub still_current :
+      current (survivors (take 3 (oldest_first a b)) (Attached 1 ∷ Attached 2 ∷ [])) ≡ b
   pub all : survivors (oldest_first a b) (Attached 1 ∷ Attached 2 ∷ []) ≡ []
   pub base : current (survivors (oldest_first a b) (Attached 1 ∷ Attached 2 ∷ [])) ≡ empty_context
 

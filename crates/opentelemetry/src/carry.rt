@@ -97,15 +97,17 @@ fn send(
     composite.inject_context(context, carrier)
 }
 
-/// Carries out the events in order, from an empty stack on, and injects from the context that is then current.
+/// Carries out the events in order, from an empty stack on, and injects from the context that is
+/// then current.
 ///
-/// An attach or a detach that is refused changes nothing, and the run goes on. What the injection returns stands in the
-/// report: where it is an error, a beginning of the pairs is set in the carrier. Not in the Rust crate.
+/// An attach or a detach that is refused changes nothing, and the run goes on. What the injection
+/// returns stands in the report: where it is an error, a beginning of the pairs is set in the
+/// carrier. Not in the Rust crate.
 ///
 /// # Errors
 ///
-/// `AllocError` where the request for the memory of the stack or of the run's lists fails. The carrier stays; the events
-/// and the stack are dropped.
+/// `AllocError` where the request for the memory of the stack or of the run's lists fails. The
+/// carrier stays; the events and the stack are dropped.
 pub fn run(
     alloc: Global,
     events: Vec<StackEvent>,
@@ -128,7 +130,8 @@ pub fn run(
     ensures stepped { IfOk result (λ report. report.stack.stepped ≤ report.stack.accepted) }
     ensures stack { IfOk result (λ report.
         report.stack ≡ stack_of events.items report.outcomes.items) }
-    ensures without_members { members_of composite.now ≡ [] → IfOk result (λ report. IsOk report.injected)
+    ensures without_members { members_of composite.now ≡ []
+        → IfOk result (λ report. IsOk report.injected)
         × (text_map carrier.new.entries ≡ text_map carrier.old.entries) }
     ensures err { OnErr result (text_map carrier.new.entries ≡ text_map carrier.old.entries) }
 {

@@ -1,4 +1,5 @@
--- The events that the lines of the input ask for, and which line is reported as faulty. Not in the Rust crate.
+-- The events that the lines of the input ask for, and which line is reported as faulty. Not in the
+-- Rust crate.
 use Rattle.std.specs.Prelude.{◌≡◌, ℕ, ◌+◌, ◌==◌, Bool, true, not, List, ◌∷◌, ◌++◌, length, take, filter, slice_get}
 use Rattle.std.specs.Prelude.{Option, Some, None, IsSome, IfSome, codes}
 use Rattle.std.specs.List.{slice_split}
@@ -17,11 +18,14 @@ use Rattle.otel_carry.specs.declared.failure.Failure.TheVariants.{Unreadable, No
 use Rattle.otel_carry.specs.Lines.{IsName, IsNumber, IsFault}
 use Rattle.otel_carry.specs.Members.{context_for}
 
--- the line attaches a context of this name, and with this trace state where it gives one: `attach a v=1`
+-- the line attaches a context of this name, and with this trace state where it gives one, as
+-- `attach a v=1`
 abbrev pub IsAttachLine : List ℕ → List ℕ → Option (List Pair) → Type 0
 IsAttachLine line name None = IsName name × (line ≡ codes "attach " ++ name)
 IsAttachLine line name (Some pairs) =
-    IsName name × ((state : List ℕ) × (line ≡ codes "attach " ++ (name ++ (32 ∷ state))) × ReadsState state pairs)
+    IsName name
+    × ((state : List ℕ) × (line ≡ codes "attach " ++ (name ++ (32 ∷ state)))
+    × ReadsState state pairs)
 
 -- the line asks for this event, where so many attaches come before it
 abbrev pub AsksFor : ℕ → List ℕ → StackEvent → Type 0
@@ -31,7 +35,8 @@ AsksFor attaches line (Attach context) =
 AsksFor attaches line (Detach number) =
     (digits : List ℕ) × (line ≡ codes "detach " ++ digits) × IsNumber digits number
 
--- the lines of an input: what stands between its line feeds, so that `a\n` has the lines `a` and the empty one
+-- the lines of an input: what stands between its line feeds, so that `a\n` has the lines `a` and
+-- the empty one
 abbrev pub lines_of : List ℕ → List (List ℕ)
 lines_of text = slice_split (λ byte. byte == 10) text
 
@@ -43,8 +48,9 @@ is_asking line = not (length line == 0)
 abbrev pub asking : List (List ℕ) → List (List ℕ)
 asking lines = filter is_asking lines
 
--- The events are those that the lines ask for, one each, in order. The attaches before an event give its context's ids.
--- Of `attach a`, the empty line, `detach 0` they are the attach of `a` and the detach of 0.
+-- The events are those that the lines ask for, one each, in order. The attaches before an event
+-- give its context's ids. Of `attach a`, the empty line, `detach 0` they are the attach of `a` and
+-- the detach of 0.
 pub record AskFor (lines : List (List ℕ)) (events : List StackEvent) : Type 0 where
   pub one_each : length events ≡ length (asking lines)
   pub each : (index : ℕ) (line : List ℕ) → slice_get (asking lines) index ≡ Some line
@@ -59,15 +65,16 @@ IsFaulty line BadTraceState =
     × (line ≡ codes "attach " ++ (name ++ (32 ∷ state))) × IsSome (fault_of state)
 IsFaulty line BadNumber = IsFault line BadNumber
 
--- the failure reports what is wrong with the line of this number, or that a request for memory failed
+-- the failure reports what is wrong with the line of this number, or that a request for memory
+-- failed
 abbrev pub IsTold : ℕ → List ℕ → Failure → Type 0
 IsTold number line Unreadable = ⊥
 IsTold number line NotUtf8 = ⊥
 IsTold number line (Line n fault) = (n ≡ number) × IsFaulty line fault
 IsTold number line NoMemory = Unit {0}
 
--- The first faulty line has this number, 1 for the first line of the input, empty ones counted, and this fault: the lines
--- before it ask for events.
+-- The first faulty line has this number, 1 for the first line of the input, empty ones counted, and
+-- this fault: the lines before it ask for events.
 pub record IsFirstFaulty (lines : List (List ℕ)) (number : ℕ) (fault : Fault) : Type 0 where
   pub before : ℕ
   pub number_is : number ≡ before + 1

@@ -32,7 +32,8 @@ Reads line (Attach name state) =
 Reads line (Detach number) =
     (digits : List ℕ) × (line ≡ codes "detach " ++ digits) × IsNumber digits number
 
--- the line has this fault: it begins with neither word; or with `attach ` and no name; or with `detach ` and no number
+-- the line has this fault: it begins with neither word; or with `attach ` and no name; or with
+-- `detach ` and no number
 abbrev pub IsFault : List ℕ → Fault → Type 0
 IsFault line UnknownCommand =
     (rest : List ℕ) → (line ≢ codes "attach " ++ rest) × (line ≢ codes "detach " ++ rest)

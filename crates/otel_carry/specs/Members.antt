@@ -36,12 +36,19 @@ pairs_of_state (p ∷ ps) = (codes "tracestate", header (p ∷ ps)) ∷ []
 abbrev pub state_pairs : ContextRecord → Pairs
 state_pairs context = pairs_of_state (span_context context).trace_state
 
--- the span context of an attach with this trace state: it is remote, its ids are both `id`, and its one flag is `sampled`
+-- the span context of an attach with this trace state: it is remote, its ids are both `id`, and its
+-- one flag is `sampled`
 abbrev pub span_context_for : List Pair → ℕ → SpanContextRecord
-span_context_for state id = record { trace_id = id; span_id = id; trace_flags = 1; is_remote = true; trace_state = state }
+span_context_for state id = record {
+  trace_id = id;
+  span_id = id;
+  trace_flags = 1;
+  is_remote = true;
+  trace_state = state;
+}
 
--- The context of an attach: the empty one with the entry `name`, and where a trace state is given with the span context
--- of that state.
+-- The context of an attach: the empty one with the entry `name`, and where a trace state is given
+-- with the span context of that state.
 abbrev pub context_for : List ℕ → Option (List Pair) → ℕ → ContextRecord
 context_for name state id = record {
   entries = map.insert map.empty (codes "name") (text name);

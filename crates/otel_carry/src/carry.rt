@@ -11,8 +11,8 @@ use std::alloc::Global;
 use std::collections::HashMap;
 use std::io::{BufWriter, Read, Write};
 
-/// Reads the input whole, runs its attaches and detaches, and writes what the run reports. Returns the status that the
-/// program ends with.
+/// Reads the input whole, runs its attaches and detaches, and writes what the run reports. Returns
+/// the status that the program ends with.
 pub fn carry<R: Read + Drop, W: Write + Drop>(
     alloc: Global,
     input: R,

@@ -11,12 +11,13 @@ use opentelemetry::trace::{SpanContext, TraceState, TraceStateError};
 use opentelemetry::{Context, Key, SpanId, StringValue, TraceFlags, TraceId};
 use std::alloc::{AllocError, Global};
 
-/// The events of the lines, in order. Lines are ended by `\n`, which the last may lack; an empty one is skipped, but counted.
+/// The events of the lines, in order. Lines are ended by `\n`, which the last may lack; an empty
+/// one is skipped, but counted.
 ///
 /// # Errors
 ///
-/// `Failure::Line` for the first line that can't be carried out, with its number, 1 for the first; `Failure::NoMemory` where
-/// a request for memory fails. The events so far are dropped.
+/// `Failure::Line` for the first line that can't be carried out, with its number, 1 for the first;
+/// `Failure::NoMemory` where a request for memory fails. The events so far are dropped.
 pub fn events_of(alloc: Global, text: &str) -> Result<Vec<StackEvent>, Failure>
     ensures events { IfOk result (λ events. AskFor (lines_of text.now) events.items) }
     ensures failure { IfErr result (IsReported (lines_of text.now)) }

@@ -17,11 +17,12 @@ const ROOM: usize = 4096;
 ///
 /// # Errors
 ///
-/// `Unreadable` where a read fails, or where none of these reported the end; `NoMemory` where a request for memory fails. What
-/// was read is dropped.
+/// `Unreadable` where a read fails, or where none of these reported the end; `NoMemory` where a
+/// request for memory fails. What was read is dropped.
 pub fn read_whole<R: Read + Drop>(alloc: Global, mut input: R) -> Result<Vec<u8>, Failure>
     ensures whole { IfOk result (λ bytes. IfSome (R.remaining input) (λ left. bytes.items ≡ left)) }
-    ensures failure { IfErr result (λ failure. (failure ≡ Failure.Unreadable) ⊎ (failure ≡ Failure.NoMemory)) }
+    ensures failure { IfErr result (λ failure.
+        (failure ≡ Failure.Unreadable) ⊎ (failure ≡ Failure.NoMemory)) }
 {
     let mut bytes = Vec::new(alloc);
     let mut room = [0u8; ROOM];

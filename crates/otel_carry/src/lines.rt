@@ -7,7 +7,8 @@ use std::fmt;
 /// What a line asks for.
 #[derive(Clone, Copy)]
 pub enum Line<'a> {
-    /// `attach NAME` or `attach NAME STATE`: attach a context of this name, and with this trace state where one is given.
+    /// `attach NAME` or `attach NAME STATE`: attach a context of this name, and with this trace
+    /// state where one is given.
     Attach {
         /// One or more bytes `!` to `~`.
         name: &'a str,
@@ -46,7 +47,8 @@ impl fmt::Display for Fault {
 ///
 /// # Errors
 ///
-/// The fault of the line's form. It doesn't look into a trace state, so `BadTraceState` is none of them.
+/// The fault of the line's form. It doesn't look into a trace state, so `BadTraceState` is none of
+/// them.
 pub fn parse(line: &str) -> Result<Line<'_>, Fault>
     ensures line { IfOk result (Reads line.now) }
     ensures fault { IfErr result (IsFault line.now) }
@@ -63,7 +65,8 @@ pub fn parse(line: &str) -> Result<Line<'_>, Fault>
 /// What `attach ` is followed by.
 fn attach_of(rest: &str) -> Result<Line<'_>, Fault>
     ensures line { IfOk result (IsAttach rest.now) }
-    ensures fault { IfErr result (λ fault. (fault ≡ Fault.BadName) × ¬ IsName (first_word rest.now)) }
+    ensures fault { IfErr result (λ fault.
+        (fault ≡ Fault.BadName) × ¬ IsName (first_word rest.now)) }
 {
     let (name, state) = match rest.split_once(' ') {
         Some((name, state)) => (name, Some(state)),
@@ -85,7 +88,8 @@ fn is_name(name: &str) -> bool
 /// What `detach ` is followed by.
 fn detach_of(digits: &str) -> Result<Line<'_>, Fault>
     ensures line { IfOk result (λ line. (n : ℕ) × (line ≡ Line.Detach n) × IsNumber digits.now n) }
-    ensures fault { IfErr result (λ fault. (fault ≡ Fault.BadNumber) × ((n : ℕ) → n < 2 ^ 64 → ¬ IsNumber digits.now n)) }
+    ensures fault { IfErr result (λ fault.
+        (fault ≡ Fault.BadNumber) × ((n : ℕ) → n < 2 ^ 64 → ¬ IsNumber digits.now n)) }
 {
     // `parse` would take a sign.
     if digits.starts_with('+') {

@@ -1,4 +1,5 @@
-//! Reads attaches and detaches from standard input, runs them, and prints where the contexts came to stand.
+//! Reads attaches and detaches from standard input, runs them, and prints where the contexts came
+//! to stand.
 #![tactic(auto)]
 
 mod carry;

@@ -45,7 +45,8 @@ impl TextMapPropagator for NameMember {
     }
 }
 
-/// Sets `tracestate` to the header of the trace state of the context's span context, where that isn't empty.
+/// Sets `tracestate` to the header of the trace state of the context's span context, where that
+/// isn't empty.
 #[derive(Drop)]
 pub struct StateMember {
     /// Where the texts that are set take their memory from.

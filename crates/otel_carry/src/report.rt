@@ -5,8 +5,8 @@ use std::alloc::{AllocError, Global};
 use std::collections::HashMap;
 use std::io::{self, Write};
 
-/// Writes what became of each attach, the name of the current context, and the carrier in rising order of its keys, or
-/// that the injection was refused.
+/// Writes what became of each attach, the name of the current context, and the carrier in rising
+/// order of its keys, or that the injection was refused.
 pub fn write_report<W: Write>(
     alloc: Global,
     output: &mut W,

@@ -1,5 +1,5 @@
-//! Laws about the words that the contract of a run uses. Each function does nothing: its contract is
-//! the law.
+//! Laws about the words that the contract of a run uses. Each function does nothing: its contract
+//! is the law.
 ghost use Rattle.opentelemetry.specs.Laws.{RefusalsChangeNothing, SurvivorsAreThose};
 ghost use Rattle.opentelemetry.specs.LongRuns.{AttachesInOrder, FilledAndBegunAgain};
 ghost use Rattle.opentelemetry.specs.WorkedRuns.{DetachedAgain, DetachedBefore, OldestFirst, ThreeAndOne};
@@ -10,7 +10,8 @@ pub fn survivors_are_those()
     ensures { SurvivorsAreThose }
 {}
 
-/// A refused attach, and a detach of a number that doesn't survive, leave the stack: what is live, and both counts.
+/// A refused attach, and a detach of a number that doesn't survive, leave the stack: what is live,
+/// and both counts.
 pub fn refusals_change_nothing()
     ensures { RefusalsChangeNothing }
 {}

@@ -7,9 +7,9 @@ use std::alloc::{AllocError, Global};
 
 /// What makes log records and takes them when they are complete (the Rust crate's `Logger`).
 ///
-/// Who writes a logger names, by ghost relations, which records it may make (`may_create`) and what it may report of an
-/// event's being enabled (`may_enable`). They are relations and no functions, so that a moment may be read and a
-/// configuration may change.
+/// Who writes a logger names, by ghost relations, which records it may make (`may_create`) and what
+/// it may report of an event's being enabled (`may_enable`). They are relations and no functions,
+/// so that a moment may be read and a configuration may change.
 pub trait Logger {
     ghost use Rattle.std.specs.Prelude.{ℕ, List, Option, Bool};
     ghost use Rattle.otel_base.specs.declared.severity.Severity.{Severity};
@@ -29,18 +29,21 @@ pub trait Logger {
     fn create_log_record(&self, alloc: Global) -> Result<Self::LogRecord, AllocError>
         ensures { IfOk result (may_create self.now) };
 
-    /// Takes a record that is complete. It reads no context: who wants the active span in the record sets it by
-    /// `set_trace_context`. (The Rust crate's documentation has the logger read the thread's context.)
+    /// Takes a record that is complete. It reads no context: who wants the active span in the
+    /// record sets it by `set_trace_context`. (The Rust crate's documentation has the logger read
+    /// the thread's context.)
     fn emit(&self, record: Self::LogRecord);
 
     /// Whether a record of this severity, target and event name would be of use.
     fn event_enabled(&self, level: Severity, target: &str, name: Option<&str>) -> bool
-        ensures { may_enable self.now level target.now (option_map (λ n. n.now) name.entry) result };
+        ensures { let asked = option_map (λ n. n.now) name.entry in
+            may_enable self.now level target.now asked result };
 }
 
 /// What makes loggers (the Rust crate's `LoggerProvider`).
 ///
-/// Who writes a provider names, by the ghost relation `may_give`, which loggers it may make for a scope.
+/// Who writes a provider names, by the ghost relation `may_give`, which loggers it may make for a
+/// scope.
 pub trait LoggerProvider {
     ghost use Rattle.otel_base.specs.InstrumentationScope.{Scope};
     ghost use Rattle.opentelemetry.specs.Scope.{scope_of_name};

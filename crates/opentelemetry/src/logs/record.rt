@@ -9,14 +9,16 @@ use std::alloc::{AllocError, Global};
 
 /// One entry of a log, while it is put together (the Rust crate's `LogRecord`).
 ///
-/// Who writes a record type names, by ghost members, the effect of each writing call as a function of the record and of
-/// what the arguments mean: `after_event_name`, `after_target`, `after_timestamp`, `after_observed_timestamp`,
-/// `after_severity_text`, `after_severity_number`, `after_body`, `after_attributes`, `after_attribute`. Each call owes its
-/// effect or, after an error, the record as it was. `may_be_traced` says which records `set_trace_context` may leave: the
-/// record as it was is one of them (`may_be_untraced`), and the only one where the type doesn't say otherwise.
+/// Who writes a record type names, by ghost members, the effect of each writing call as a function
+/// of the record and of what the arguments mean: `after_event_name`, `after_target`,
+/// `after_timestamp`, `after_observed_timestamp`, `after_severity_text`, `after_severity_number`,
+/// `after_body`, `after_attributes`, `after_attribute`. Each call owes its effect or, after an
+/// error, the record as it was. `may_be_traced` says which records `set_trace_context` may leave:
+/// the record as it was is one of them (`may_be_untraced`), and the only one where the type doesn't
+/// say otherwise.
 ///
-/// Moments are nanoseconds since 1970-01-01T00:00:00Z. In the Rust crate they are values of `SystemTime`, and attributes
-/// come from an iterator.
+/// Moments are nanoseconds since 1970-01-01T00:00:00Z. In the Rust crate they are values of
+/// `SystemTime`, and attributes come from an iterator.
 pub trait LogRecord: Drop {
     ghost use Rattle.std.specs.Prelude.{ℕ, List, Option};
     ghost use Rattle.otel_base.specs.AnyValue.{Tree};
@@ -74,7 +76,8 @@ pub trait LogRecord: Drop {
     ///
     /// # Errors
     ///
-    /// `AllocError` where a request for memory fails. The record is unchanged; the attributes are dropped.
+    /// `AllocError` where a request for memory fails. The record is unchanged; the attributes are
+    /// dropped.
     fn add_attributes(
         &mut self,
         alloc: Global,
@@ -88,12 +91,14 @@ pub trait LogRecord: Drop {
     ///
     /// # Errors
     ///
-    /// `AllocError` where a request for memory fails. The record is unchanged; the attribute is dropped.
+    /// `AllocError` where a request for memory fails. The record is unchanged; the attribute is
+    /// dropped.
     fn add_attribute(&mut self, alloc: Global, key: Key, value: AnyValue) -> Result<(), AllocError>
         ensures ok { OnOk result (self.new ≡ after_attribute self.old key (tree value)) }
         ensures err { OnErr result (self.new ≡ self.old) };
 
-    /// Sets the span that was active when the event happened, where the record type keeps one. It does nothing by default.
+    /// Sets the span that was active when the event happened, where the record type keeps one. It
+    /// does nothing by default.
     fn set_trace_context(
         &mut self,
         trace_id: TraceId,
