@@ -10,4 +10,6 @@ pub mod LongRuns
 pub mod Event
 pub mod SpanBuilder
 pub mod Scope
+pub mod InSpan
+pub mod Closure
 pub mod View

@@ -1,12 +1,14 @@
 //! Spans and what they are made of: ids, trace states, span contexts, events, links, builders.
 mod attributes;
 mod event;
+mod in_span;
 mod link;
 mod span_builder;
 mod tracer;
 mod tracer_provider;
 
 pub use event::Event;
+pub use in_span::{CallClosure, Run, SpanBody, StartError};
 pub use link::Link;
 pub use otel_context::{
     Span, SpanCause, SpanKind, SpanRef, SpanRefused, Spans, Status, get_active_span,

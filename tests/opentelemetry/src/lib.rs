@@ -1,6 +1,7 @@
 //! What no clause says: worked runs, odd carriers, odd members, texts, and each call once.
 #![tactic(auto)]
 
+mod builders;
 mod injection;
 mod logs;
 mod members;

@@ -1,12 +1,14 @@
 //! What starts spans.
-ghost use Rattle.std.specs.Prelude.{◌≡◌, IfOk};
+ghost use Rattle.std.specs.Prelude.{◌≡◌, IfOk, IfErr, OnErr};
 ghost use Rattle.otel_context.specs.Stack.{current};
 ghost use Rattle.opentelemetry.specs.SpanBuilder.{from_name};
+ghost use Rattle.opentelemetry.specs.InSpan.{RanInSpan, NotStarted};
 ghost use Rattle.opentelemetry.specs.View.{builder_of};
 
+use crate::trace::in_span::{Entered, SpanBody, StartError, enter};
 use crate::trace::span_builder::SpanBuilder;
 use otel_base::StringValue;
-use otel_context::{Context, ContextStack, Span};
+use otel_context::{Context, ContextStack, Span, Spans};
 use std::alloc::{AllocError, Global};
 
 /// What starts spans (the Rust crate's `Tracer`).
@@ -89,5 +91,136 @@ pub trait Tracer {
         ensures { IfOk result (may_build self.now (builder_of builder) (current stack.now.live)) }
     {
         self.build_with_context(alloc, builder, stack.current())
+    }
+
+    /// Runs a body in a new span of a builder under a parent context.
+    ///
+    /// The span goes into the table, the parent's context with it is attached, and the body is called once, with the
+    /// stack, the table and that context. Then what is live at the attached position is removed. At the greatest
+    /// position nothing is attached, and the body runs all the same. The answer is the body's, beside the span's number;
+    /// the span stays in the table until it is taken. After the body no memory is requested.
+    ///
+    /// # Errors
+    ///
+    /// `Build` where a request for memory fails before there is a span; `Refused`, with the span, where the numbers of the
+    /// table are used up or a request for memory fails. The body isn't called. The stack is as it was, and the table
+    /// holds the same spans; after `Refused` it may have used up one number.
+    fn in_span_with_builder_and_context<F: SpanBody<Self::Span>>(
+        &self,
+        alloc: Global,
+        stack: &mut ContextStack,
+        spans: &mut Spans<Self::Span>,
+        builder: SpanBuilder,
+        parent: &Context,
+        f: F,
+    ) -> Result<(F::Out, u64), StartError<Self::Span>>
+        requires { F.can_call f }
+        ensures ran { IfOk result (λ answer. RanInSpan
+            (may_build self.now (builder_of builder) parent.now) Self.Span.context_of (F.may_leave f)
+            parent.now stack.old spans.old answer stack.new spans.new) }
+        ensures same_stack { OnErr result (stack.new ≡ stack.old) }
+        ensures not_started { IfErr result
+            (NotStarted (may_build self.now (builder_of builder) parent.now) spans.old spans.new) }
+    {
+        let span = match self.build_with_context(alloc, builder, parent) {
+            Ok(span) => span,
+            Err(error) => return Err(StartError::Build(error)),
+        };
+        let entered = match enter(alloc, stack, spans, parent, span) {
+            Ok(entered) => entered,
+            Err(refused) => return Err(StartError::Refused(refused)),
+        };
+        let Entered {
+            context,
+            number,
+            position,
+        } = entered;
+        let answer = f.call(stack, spans, context);
+        stack.pop_id(position);
+        Ok((answer, number))
+    }
+
+    /// Runs a body in a new span of that name under a parent context, as
+    /// [`Tracer::in_span_with_builder_and_context`] does.
+    ///
+    /// # Errors
+    ///
+    /// As there.
+    fn in_span_with_context<F: SpanBody<Self::Span>>(
+        &self,
+        alloc: Global,
+        stack: &mut ContextStack,
+        spans: &mut Spans<Self::Span>,
+        name: StringValue,
+        parent: &Context,
+        f: F,
+    ) -> Result<(F::Out, u64), StartError<Self::Span>>
+        requires { F.can_call f }
+        ensures ran { IfOk result (λ answer. RanInSpan
+            (may_build self.now (from_name name) parent.now) Self.Span.context_of (F.may_leave f)
+            parent.now stack.old spans.old answer stack.new spans.new) }
+        ensures same_stack { OnErr result (stack.new ≡ stack.old) }
+        ensures not_started { IfErr result
+            (NotStarted (may_build self.now (from_name name) parent.now) spans.old spans.new) }
+    {
+        let builder = self.span_builder(name);
+        self.in_span_with_builder_and_context(alloc, stack, spans, builder, parent, f)
+    }
+
+    /// Runs a body in a new span of a builder under the current context, as
+    /// [`Tracer::in_span_with_builder_and_context`] does.
+    ///
+    /// # Errors
+    ///
+    /// As there.
+    fn in_span_with_builder<F: SpanBody<Self::Span>>(
+        &self,
+        alloc: Global,
+        stack: &mut ContextStack,
+        spans: &mut Spans<Self::Span>,
+        builder: SpanBuilder,
+        f: F,
+    ) -> Result<(F::Out, u64), StartError<Self::Span>>
+        requires { F.can_call f }
+        ensures ran { IfOk result (λ answer. RanInSpan
+            (may_build self.now (builder_of builder) (current stack.old.live)) Self.Span.context_of
+            (F.may_leave f) (current stack.old.live) stack.old spans.old answer stack.new spans.new) }
+        ensures same_stack { OnErr result (stack.new ≡ stack.old) }
+        ensures not_started { IfErr result (NotStarted
+            (may_build self.now (builder_of builder) (current stack.old.live)) spans.old spans.new) }
+    {
+        let copied: Result<_, _> = stack.current().clone();
+        match copied {
+            Ok(parent) => self.in_span_with_builder_and_context(
+                alloc, stack, spans, builder, &parent, f,
+            ),
+            Err(error) => Err(StartError::Build(error)),
+        }
+    }
+
+    /// Runs a body in a new span of that name under the current context, as
+    /// [`Tracer::in_span_with_builder_and_context`] does.
+    ///
+    /// # Errors
+    ///
+    /// As there.
+    fn in_span<F: SpanBody<Self::Span>>(
+        &self,
+        alloc: Global,
+        stack: &mut ContextStack,
+        spans: &mut Spans<Self::Span>,
+        name: StringValue,
+        f: F,
+    ) -> Result<(F::Out, u64), StartError<Self::Span>>
+        requires { F.can_call f }
+        ensures ran { IfOk result (λ answer. RanInSpan
+            (may_build self.now (from_name name) (current stack.old.live)) Self.Span.context_of
+            (F.may_leave f) (current stack.old.live) stack.old spans.old answer stack.new spans.new) }
+        ensures same_stack { OnErr result (stack.new ≡ stack.old) }
+        ensures not_started { IfErr result (NotStarted
+            (may_build self.now (from_name name) (current stack.old.live)) spans.old spans.new) }
+    {
+        let builder = self.span_builder(name);
+        self.in_span_with_builder(alloc, stack, spans, builder, f)
     }
 }

@@ -1,0 +1,151 @@
+//! Work that runs in a span.
+ghost use Rattle.std.specs.Prelude.{◌≡◌, IfOk, IfErr, OnOk, OnErr};
+ghost use Rattle.otel_context.specs.Active.{AttachesAt};
+ghost use Rattle.otel_context.specs.Context.{with_span};
+ghost use Rattle.otel_context.specs.Spans.{HasSameSpans, insert, refusal};
+ghost use Rattle.opentelemetry.specs.Closure.{CallLeaves};
+
+use otel_context::{Context, ContextStack, Span, SpanCause, SpanRefused, Spans};
+use std::alloc::{AllocError, Global};
+
+/// Why no body ran in a span. Not in the Rust crate.
+///
+/// The stack is as it was, and the table holds the same spans.
+#[derive(Drop)]
+pub enum StartError<S> {
+    /// A request for memory failed before there was a span. The table is unchanged.
+    Build(AllocError),
+    /// The table took no span, or a request for memory failed; the span that was built comes back. The table may have
+    /// used up one number.
+    Refused(SpanRefused<S>),
+}
+
+/// What runs in a span. Not in the Rust crate, whose `in_span` takes a closure: [`Run`] makes one of a closure.
+///
+/// Who writes a body names, by the ghost relation `may_leave`, what its call may return and leave, by the stack, the
+/// table and the context that it is lent; and by `can_call` when it can be called, where that isn't always.
+pub trait SpanBody<S>: Drop {
+    ghost use Rattle.opentelemetry.specs.InSpan.{MayLeave};
+
+    /// What the body returns.
+    type Out;
+
+    ghost may_leave: { Self → MayLeave S Self.Out };
+
+    ghost can_call: { Self → Type 0 } = { λ _. Unit {0} };
+
+    /// Runs the body. The context is the current one, but at the greatest position, where it couldn't be attached.
+    fn call(self, stack: &mut ContextStack, spans: &mut Spans<S>, context: Context) -> Self::Out
+        requires { can_call self }
+        ensures { may_leave self stack.old spans.old context result stack.new spans.new };
+}
+
+/// A closure as a body: `Run(|stack, spans, context| ..)`. Not in the Rust crate.
+///
+/// What it may leave is what the closure promises.
+#[derive(Drop)]
+pub struct Run<F>(pub F);
+
+/// A closure over any stack and context, of which [`Run`] makes a body. Not in the Rust crate.
+pub trait CallClosure<S, K, C>: Drop {
+    ghost use Rattle.otel_context.specs.Spans.{SpansState};
+
+    /// What the closure returns.
+    type Out;
+
+    ghost leaves: { Self → K → SpansState S → C → Self.Out → K → SpansState S → Type 0 };
+
+    ghost is_callable: { Self → Type 0 };
+
+    /// Calls the closure.
+    fn call_closure(self, stack: &mut K, spans: &mut Spans<S>, context: C) -> Self::Out
+        requires { is_callable self }
+        ensures { leaves self stack.old spans.old context result stack.new spans.new };
+}
+
+impl<S, K, C, T, F: FnOnce(&mut K, &mut Spans<S>, C) -> T + Drop> CallClosure<S, K, C> for Run<F> {
+    type Out = T;
+
+    ghost leaves = { λ body stack spans context out left left_spans.
+        CallLeaves F.FnOnce body.0 stack spans context out left left_spans };
+
+    ghost is_callable = { λ body. F.IsAlwaysCallable body.0 };
+
+    fn call_closure(self, stack: &mut K, spans: &mut Spans<S>, context: C) -> T {
+        let Run(f) = self;
+        f(stack, spans, context)
+    }
+}
+
+impl<S, F: Drop> SpanBody<S> for Run<F>
+where
+    Run<F>: CallClosure<S, ContextStack, Context>,
+{
+    type Out = <Run<F> as CallClosure<S, ContextStack, Context>>::Out;
+
+    ghost may_leave = { λ body. bound-1.leaves body };
+
+    ghost can_call = { λ body. bound-1.is_callable body };
+
+    fn call(self, stack: &mut ContextStack, spans: &mut Spans<S>, context: Context) -> Self::Out {
+        self.call_closure(stack, spans, context)
+    }
+}
+
+/// What a body is lent besides the stack and the table, and where its context is attached.
+#[derive(Drop)]
+pub(crate) struct Entered {
+    pub context: Context,
+    pub number: u64,
+    pub position: u16,
+}
+
+// Attaches a copy of the context, and returns its position, or 65535 where the greatest position is live.
+fn attach_copy(stack: &mut ContextStack, context: &Context) -> Result<u16, AllocError>
+    ensures attached { IfOk result (λ position.
+        AttachesAt position context.now stack.old stack.new) }
+    ensures same { OnErr result (stack.new ≡ stack.old) }
+{
+    match context.clone() {
+        Ok(copy) => stack.push(copy),
+        Err(error) => Err(error),
+    }
+}
+
+/// Puts the span into the table, and attaches the parent's context with it.
+pub(crate) fn enter<S: Span>(
+    alloc: Global,
+    stack: &mut ContextStack,
+    spans: &mut Spans<S>,
+    parent: &Context,
+    span: S,
+) -> Result<Entered, SpanRefused<S>>
+    ensures context { IfOk result (λ e.
+        e.context ≡ with_span parent.now (S.context_of span) spans.old.next_number) }
+    ensures number { IfOk result (λ e. e.number ≡ spans.old.next_number) }
+    ensures attached { IfOk result (λ e. AttachesAt e.position e.context stack.old stack.new) }
+    ensures inserted { OnOk result (spans.new ≡ insert spans.old span) }
+    ensures same_stack { OnErr result (stack.new ≡ stack.old) }
+    ensures same_spans { OnErr result (HasSameSpans spans.old spans.new) }
+    ensures refused { IfErr result (λ refused. refused ≡ refusal spans.old span) }
+{
+    let number = spans.next_number();
+    let context = match parent.with_span(alloc, spans, span) {
+        Ok(context) => context,
+        Err(refused) => return Err(refused),
+    };
+    match attach_copy(stack, &context) {
+        Ok(position) => Ok(Entered {
+            context,
+            number,
+            position,
+        }),
+        Err(error) => match spans.take(number) {
+            Some(span) => Err(SpanRefused {
+                span,
+                cause: SpanCause::Memory(error),
+            }),
+            None => unreachable!(),
+        },
+    }
+}
