@@ -34,8 +34,8 @@ pub fn play(task: &Task<'_>, alloc: Global) -> Result<Option<u64>, AllocError> {
 #[inline(never)]
 pub fn composite(alloc: Global) -> Result<TextMapCompositePropagator, AllocError> {
     let mut members: Vec<Box<dyn TextMapPropagator>> = Vec::new(alloc);
-    members.push(Box::new(alloc, NameMember { alloc })?)?;
-    members.push(Box::new(alloc, StateMember { alloc })?)?;
+    members.push(Box::new(alloc, NameMember::new(alloc)?)?)?;
+    members.push(Box::new(alloc, StateMember::new(alloc)?)?)?;
     TextMapCompositePropagator::new(alloc, members)
 }
 

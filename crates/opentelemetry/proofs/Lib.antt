@@ -1,6 +1,8 @@
 pub mod Lists
 pub mod Maps
 pub mod Setting
+pub mod Union
+pub mod Rising
 pub mod RunLemmas
 pub mod SurvivorLemmas
 pub mod CurrentLemmas

@@ -1,8 +1,10 @@
 -- What a carrier means: a finite map from texts to texts, each the list of its bytes.
-use Rattle.std.specs.Prelude.{◌≡◌, ℕ, List, [], ◌∷◌, ◌++◌, Option, None, Some, if◌then◌else◌, string_bytes, map}
+use Rattle.std.specs.Prelude.{◌≡◌, ℕ, List, [], ◌∷◌, ◌++◌, Option, None, Some, if◌then◌else◌, string_bytes, map, is_some}
 use Rattle.std.specs.Ordering.{nat_cmp}
 use Rattle.std.specs.Cmp.Lexicographic.{slice_cmp}
-use Rattle.std.specs.Option.{option_or}
+use Rattle.std.specs.List.{list_any}
+use Rattle.std.specs.List.Sorted.{IsStrictlySortedBy}
+use Rattle.std.specs.Option.{option_map, option_or}
 use Rattle.std.specs.Str.{bytes_eq, str_to_ascii_lowercase}
 use Rattle.std.specs.FinMap as fin
 use Rattle.std.specs.declared.string.String.{String}
@@ -47,6 +49,20 @@ pub record SetsBeginning (old : TextMap) (pairs : Pairs) (new : TextMap) : Type 
   pub left : Pairs
   pub split : pairs ≡ done ++ left
   pub sets : Sets old done new
+
+-- what an extractor has under a key: the value of its lower case (the crate's `Extractor`, for ASCII
+-- letters). Of the texts `foo` = 1 and `Bar` = 2 there is 1 under `Foo`, and none under `Bar`.
+abbrev pub get : TextMap → List ℕ → Option (List ℕ)
+get m k = at m (lower k)
+
+-- all values that an extractor has under a key: the one, or none (the crate's `Extractor`)
+abbrev pub get_all : TextMap → List ℕ → Option (List (List ℕ))
+get_all m k = option_map (λ v. v ∷ []) (get m k)
+
+-- the texts are the keys of the map, as they stand, in rising order of their bytes
+pub record AreKeys (m : TextMap) (keys : List (List ℕ)) : Type 0 where
+  pub rising : IsStrictlySortedBy (slice_cmp nat_cmp) keys
+  pub each : (k : List ℕ) → is_some (at m k) ≡ list_any (bytes_eq k) keys
 
 -- one entry of a map of strings, as texts
 abbrev pub text_pair : {A : Type 0} → String A × String A → List ℕ × List ℕ

@@ -1,10 +1,11 @@
 -- What a composite means: its members, in order.
-use Rattle.std.specs.Prelude.{Bool, List}
-use Rattle.std.specs.List.{flat_map, list_any}
+use Rattle.std.specs.Prelude.{Bool, ℕ, List, [], ◌∷◌, map, filter, not, string_bytes}
+use Rattle.std.specs.List.{flat_map, fold, list_any}
+use Rattle.std.specs.Str.{bytes_eq}
 use Rattle.std.specs.declared.dyn_box.DynBox.{DynBox}
 use Rattle.std.specs.declared.alloc.Global.{Global}
 use Rattle.otel_context.specs.Context.{ContextRecord}
-use Rattle.opentelemetry.specs.Carrier.{Pairs}
+use Rattle.opentelemetry.specs.Carrier.{Pairs, TextMap}
 use Rattle.opentelemetry.specs.declared.propagation.composite.TextMapCompositePropagator.{TextMapCompositePropagator}
 
 -- its members, in order
@@ -22,3 +23,28 @@ pairs_of pairs c context = flat_map (λ m. pairs m context) (members_of c)
 abbrev pub may_refuse_of : {I : Type 0} {D : I → Type 0} → (DynBox I Global D → Bool)
     → TextMapCompositePropagator I D → Bool
 may_refuse_of may_refuse c = list_any may_refuse (members_of c)
+
+-- The context that its members extract from the texts, each starting from the context of the one
+-- before, the first from the given one (the crate's `TextMapCompositePropagator`).
+abbrev pub extracted_of : {I : Type 0} {D : I → Type 0}
+    → (DynBox I Global D → ContextRecord → TextMap → ContextRecord)
+    → TextMapCompositePropagator I D → ContextRecord → TextMap → ContextRecord
+extracted_of extracted c context texts =
+    fold (λ given m. extracted m given texts) context (members_of c)
+
+-- The texts without those that stand before, so in order of first appearance: of (`b`, `a`, `a`,
+-- `c`, `b`) these are `b`, `a`, `c`.
+abbrev pub first_appearances : List (List ℕ) → List (List ℕ)
+first_appearances [] = []
+first_appearances (x ∷ xs) = x ∷ filter (λ y. not (bytes_eq x y)) (first_appearances xs)
+
+-- the fields of its members, in order of first appearance (the crate's `TextMapCompositePropagator`,
+-- which leaves the order open)
+abbrev pub fields_of : {I : Type 0} {D : I → Type 0} → (DynBox I Global D → List (List ℕ))
+    → TextMapCompositePropagator I D → List (List ℕ)
+fields_of fields c = first_appearances (flat_map (λ m. fields m) (members_of c))
+
+-- the names of fields that it keeps, in order
+abbrev pub kept_fields : {I : Type 0} {D : I → Type 0} → TextMapCompositePropagator I D
+    → List (List ℕ)
+kept_fields c = map string_bytes c.fields.keys

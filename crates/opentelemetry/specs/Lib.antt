@@ -1,6 +1,7 @@
 pub mod Carrier
 pub mod Refusal
 pub mod Injection
+pub mod Extraction
 pub mod Composite
 pub mod Run
 pub mod Progress

@@ -1,8 +1,10 @@
-//! Propagation: the carriers that texts are put into, and the propagators that put them there.
-ghost use Rattle.std.specs.Prelude.{◌≡◌, ◌+◌, ◌∷◌, [], OnOk, OnErr, string_bytes, if◌then◌else◌};
-ghost use Rattle.opentelemetry.specs.Carrier.{CarrierState, Sets, map_state};
+//! Propagation: the carriers that texts are put into and read from, and the propagators that do so.
+ghost use Rattle.std.specs.Prelude.{◌≡◌, ◌+◌, ◌∷◌, [], OnOk, OnErr, IfOk, string_bytes, if◌then◌else◌, map};
+ghost use Rattle.std.specs.Option.{option_copied, option_map};
+ghost use Rattle.opentelemetry.specs.Carrier.{CarrierState, Sets, TextMap, AreKeys, get, get_all, map_state, text_map};
 ghost use Rattle.opentelemetry.specs.Refusal.{is_refused};
 
+use std::alloc::{AllocError, Global};
 use std::collections::HashMap;
 use std::hash::BuildHasher;
 
@@ -57,5 +59,65 @@ impl<S: BuildHasher> Injector for HashMap<String, String, S> {
 
     fn reserve(&mut self, additional: usize) {
         let _ = HashMap::reserve(self, additional);
+    }
+}
+
+/// A carrier that texts are read from, such as the headers of a request.
+///
+/// Contracts see it as a finite map of texts, `held`. (The crate's `Extractor`.)
+pub trait Extractor {
+    ghost held: { Self → TextMap };
+
+    /// The value under the key, its ASCII letters in lower case, if there is one.
+    ///
+    /// # Errors
+    ///
+    /// `AllocError` where a request for memory fails. Nothing changes.
+    fn get(&self, alloc: Global, key: &str) -> Result<Option<&str>, AllocError>
+        ensures { IfOk result (λ found. option_copied found ≡ get (held self.now) key.now) };
+
+    /// All keys as they stand, in rising order of their bytes.
+    ///
+    /// # Errors
+    ///
+    /// `AllocError` where a request for memory fails. Nothing changes.
+    fn keys(&self, alloc: Global) -> Result<Vec<&str>, AllocError>
+        ensures { IfOk result (λ keys. AreKeys (held self.now) (map (λ k. k.now) keys.items)) };
+
+    /// All values under the key, its ASCII letters in lower case: by default the one that `get`
+    /// gives.
+    ///
+    /// # Errors
+    ///
+    /// `AllocError` where a request for memory fails. Nothing changes.
+    fn get_all(&self, alloc: Global, key: &str) -> Result<Option<Vec<&str>>, AllocError>
+        ensures { IfOk result (λ found. option_map (λ values. map (λ v. v.now) values.items) found
+            ≡ get_all (held self.now) key.now) }
+    {
+        match self.get(alloc, key)? {
+            Some(value) => Ok(Some(vec![in alloc; value]?)),
+            None => Ok(None),
+        }
+    }
+}
+
+impl<S: BuildHasher> Extractor for HashMap<String, String, S> {
+    ghost held = { λ m. text_map m.entries };
+
+    fn get(&self, alloc: Global, key: &str) -> Result<Option<&str>, AllocError> {
+        let name = key.to_ascii_lowercase(alloc)?;
+        match HashMap::get(self, name.as_str()) {
+            Some(value) => Ok(Some(value.as_str())),
+            None => Ok(None),
+        }
+    }
+
+    fn keys(&self, alloc: Global) -> Result<Vec<&str>, AllocError> {
+        let mut all = Vec::new(alloc);
+        for key in HashMap::keys(self) {
+            all.push(key.as_str())?;
+        }
+        all.sort()?;
+        Ok(all)
     }
 }

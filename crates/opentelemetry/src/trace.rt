@@ -3,6 +3,7 @@ mod attributes;
 mod event;
 mod in_span;
 mod link;
+pub mod noop;
 mod span_builder;
 mod tracer;
 mod tracer_provider;

@@ -36,6 +36,14 @@ pairs_of_state (p ∷ ps) = (codes "tracestate", header (p ∷ ps)) ∷ []
 abbrev pub state_pairs : ContextRecord → Pairs
 state_pairs context = pairs_of_state (span_context context).trace_state
 
+-- the field of `NameMember`. Not in the Rust crate.
+abbrev pub name_fields : List (List ℕ)
+name_fields = codes "Context-Name" ∷ []
+
+-- the field of `StateMember` (W3C trace-context, section 3.3)
+abbrev pub state_fields : List (List ℕ)
+state_fields = codes "tracestate" ∷ []
+
 -- the span context of an attach with this trace state: it is remote, its ids are both `id`, and its
 -- one flag is `sampled`
 abbrev pub span_context_for : List Pair → ℕ → SpanContextRecord

@@ -19,8 +19,8 @@ use std::process::ExitCode;
 /// Carries out the input with a composite of the members of this program.
 fn serve(alloc: Global, input: Stdin, output: Stdout) -> Result<u8, AllocError> {
     let mut members: Vec<Box<dyn TextMapPropagator>> = Vec::new(alloc);
-    members.push(Box::new(alloc, NameMember { alloc })?)?;
-    members.push(Box::new(alloc, StateMember { alloc })?)?;
+    members.push(Box::new(alloc, NameMember::new(alloc)?)?)?;
+    members.push(Box::new(alloc, StateMember::new(alloc)?)?)?;
     let composite = TextMapCompositePropagator::new(alloc, members)?;
     Ok(carry::carry(alloc, input, output, &composite))
 }

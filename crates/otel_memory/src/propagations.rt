@@ -2,8 +2,9 @@
 use crate::lines::Lines;
 use crate::stacks::stack_of_full;
 use opentelemetry::context::{Context, ContextStack};
+use opentelemetry::propagation::text_map_propagator::FieldIter;
 use opentelemetry::propagation::{
-    Injector, PropagationError, TextMapCompositePropagator, TextMapPropagator,
+    Extractor, Injector, PropagationError, TextMapCompositePropagator, TextMapPropagator,
 };
 use std::alloc::{AllocError, Global};
 use std::collections::HashMap;
@@ -39,6 +40,10 @@ impl TextMapPropagator for Stamp {
 
     ghost pairs = { λ stamp _. (stamp.key.now, stamp.value.now) ∷ [] };
 
+    ghost extracted = { λ _ context _. context };
+
+    ghost field_names = { λ _. [] };
+
     ghost may_refuse = { λ _. false };
 
     fn inject_context(
@@ -47,6 +52,19 @@ impl TextMapPropagator for Stamp {
         injector: &mut dyn Injector,
     ) -> Result<(), PropagationError> {
         injector.set(self.key, String::from_str(self.alloc, self.value)?)
+    }
+
+    fn extract_with_context(
+        &self,
+        _alloc: Global,
+        context: &Context,
+        _extractor: &dyn Extractor,
+    ) -> Result<Context, PropagationError> {
+        Ok(context.clone()?)
+    }
+
+    fn fields(&self) -> FieldIter<'_> {
+        FieldIter::new(&[])
     }
 }
 

@@ -2,6 +2,7 @@
 #![tactic(auto)]
 
 mod builders;
+mod extraction;
 mod injection;
 mod logs;
 mod members;

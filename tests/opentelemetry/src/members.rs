@@ -4,15 +4,17 @@ ghost use Rattle.opentelemetry.specs.Carrier.{Sets};
 ghost use Rattle.opentelemetry.specs.Refusal.{is_refused};
 
 use opentelemetry::context::Context;
-use opentelemetry::propagation::{Injector, PropagationError, TextMapPropagator};
+use opentelemetry::propagation::text_map_propagator::FieldIter;
+use opentelemetry::propagation::{Extractor, Injector, PropagationError, TextMapPropagator};
 use std::alloc::{AllocError, Global};
 use std::collections::HashMap;
 use std::process::Abort;
 
-/// Sets the same pairs for each context, in order.
+/// Sets the same pairs for each context, in order. Its fields are their keys.
 #[derive(Drop)]
 pub struct Stamps {
     pub pairs: Vec<(String, String)>,
+    pub fields: Vec<String>,
 }
 
 fn set_copy(
@@ -32,10 +34,14 @@ fn set_copy(
 }
 
 impl TextMapPropagator for Stamps {
-    ghost use Rattle.std.specs.Prelude.{false, map};
+    ghost use Rattle.std.specs.Prelude.{false, map, string_bytes};
     ghost use Rattle.opentelemetry.specs.Carrier.{text_pair};
 
     ghost pairs = { λ s c. map text_pair s.pairs.items };
+
+    ghost extracted = { λ _ context _. context };
+
+    ghost field_names = { λ s. map string_bytes s.fields.items };
 
     ghost may_refuse = { λ s. false };
 
@@ -50,9 +56,22 @@ impl TextMapPropagator for Stamps {
         }
         Ok(())
     }
+
+    fn extract_with_context(
+        &self,
+        _alloc: Global,
+        context: &Context,
+        _extractor: &dyn Extractor,
+    ) -> Result<Context, PropagationError> {
+        Ok(context.clone()?)
+    }
+
+    fn fields(&self) -> FieldIter<'_> {
+        FieldIter::new(&self.fields)
+    }
 }
 
-/// A member that refuses every context, and sets nothing.
+/// A member that refuses every context and every carrier, and sets nothing.
 #[derive(Drop)]
 pub struct RefusingMember;
 
@@ -60,6 +79,10 @@ impl TextMapPropagator for RefusingMember {
     ghost use Rattle.std.specs.Prelude.{[], true};
 
     ghost pairs = { λ s c. [] };
+
+    ghost extracted = { λ _ context _. context };
+
+    ghost field_names = { λ _. [] };
 
     ghost may_refuse = { λ s. true };
 
@@ -69,6 +92,19 @@ impl TextMapPropagator for RefusingMember {
         _injector: &mut dyn Injector,
     ) -> Result<(), PropagationError> {
         Err(PropagationError::Refused)
+    }
+
+    fn extract_with_context(
+        &self,
+        _alloc: Global,
+        _context: &Context,
+        _extractor: &dyn Extractor,
+    ) -> Result<Context, PropagationError> {
+        Err(PropagationError::Refused)
+    }
+
+    fn fields(&self) -> FieldIter<'_> {
+        FieldIter::new(&[])
     }
 }
 
@@ -105,13 +141,18 @@ impl Injector for CarrierRefusingOne {
 /// A member that sets these pairs.
 pub fn stamps_of(alloc: Global, pairs: &[(&str, &str)]) -> Result<Stamps, AllocError> {
     let mut copies = Vec::new(alloc);
+    let mut fields = Vec::new(alloc);
     for (key, value) in pairs {
+        fields.push(String::from_str(alloc, key)?)?;
         copies.push((
             String::from_str(alloc, key)?,
             String::from_str(alloc, value)?,
         ))?;
     }
-    Ok(Stamps { pairs: copies })
+    Ok(Stamps {
+        pairs: copies,
+        fields,
+    })
 }
 
 /// A carrier that refuses the text after so many.

@@ -3,8 +3,9 @@ use crate::carry::carry;
 use crate::events::events_of;
 use crate::members::{NameMember, StateMember};
 use opentelemetry::carry::StackEvent;
+use opentelemetry::propagation::text_map_propagator::FieldIter;
 use opentelemetry::propagation::{
-    Injector, PropagationError, TextMapCompositePropagator, TextMapPropagator,
+    Extractor, Injector, PropagationError, TextMapCompositePropagator, TextMapPropagator,
 };
 use opentelemetry::trace::{SpanContext, TraceState};
 use opentelemetry::{Context, SpanId, TraceFlags, TraceId};
@@ -20,8 +21,8 @@ fn status_of<R: Read + Drop, W: Write + Drop>(
     output: W,
 ) -> Result<u8, AllocError> {
     let mut members: Vec<Box<dyn TextMapPropagator>> = Vec::new(alloc);
-    members.push(Box::new(alloc, NameMember { alloc })?)?;
-    members.push(Box::new(alloc, StateMember { alloc })?)?;
+    members.push(Box::new(alloc, NameMember::new(alloc)?)?)?;
+    members.push(Box::new(alloc, StateMember::new(alloc)?)?)?;
     let composite = TextMapCompositePropagator::new(alloc, members)?;
     Ok(carry(alloc, input, output, &composite))
 }
@@ -300,6 +301,10 @@ impl TextMapPropagator for RefusingMember {
 
     ghost pairs = { λ _ _. [] };
 
+    ghost extracted = { λ _ context _. context };
+
+    ghost field_names = { λ _. [] };
+
     ghost may_refuse = { λ _. true };
 
     fn inject_context(
@@ -309,13 +314,26 @@ impl TextMapPropagator for RefusingMember {
     ) -> Result<(), PropagationError> {
         Err(PropagationError::Refused)
     }
+
+    fn extract_with_context(
+        &self,
+        _alloc: Global,
+        _context: &Context,
+        _extractor: &dyn Extractor,
+    ) -> Result<Context, PropagationError> {
+        Err(PropagationError::Refused)
+    }
+
+    fn fields(&self) -> FieldIter<'_> {
+        FieldIter::new(&[])
+    }
 }
 
 #[test]
 fn reports_a_refused_injection(rt: HostRuntime) -> Result<(), Fail> {
     let alloc = rt.alloc();
     let mut members: Vec<Box<dyn TextMapPropagator>> = Vec::new(alloc);
-    members.push(Box::new(alloc, NameMember { alloc })?)?;
+    members.push(Box::new(alloc, NameMember::new(alloc)?)?)?;
     members.push(Box::new(alloc, RefusingMember)?)?;
     let composite = TextMapCompositePropagator::new(alloc, members)?;
     let mut output = Vec::new(alloc);

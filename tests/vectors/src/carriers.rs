@@ -2,7 +2,7 @@
 use crate::fault::Fault;
 use crate::row::Answer;
 use crate::token::Token;
-use opentelemetry::propagation::{Injector, PropagationError};
+use opentelemetry::propagation::{Extractor, Injector, PropagationError};
 use std::alloc::Global;
 use std::collections::HashMap;
 
@@ -10,11 +10,7 @@ pub type Carrier = HashMap<String, String>;
 
 /// The number of keys, and the keys in rising order.
 fn keys(alloc: Global, carrier: &Carrier) -> Result<Answer, Fault> {
-    let mut keys = Vec::new(alloc);
-    for key in carrier.keys() {
-        keys.push(key.as_str())?;
-    }
-    keys.sort()?;
+    let keys = Extractor::keys(carrier, alloc)?;
     let mut answer = Answer::new(alloc);
     answer.word(keys.len())?;
     for key in &keys {
@@ -44,8 +40,7 @@ pub fn act(
             answer.option(old.as_ref().map(|old| old.as_str()))?
         }
         ("get", [Token::Text(key)]) => {
-            let lowered = key.to_ascii_lowercase(alloc)?;
-            answer.option(carrier.get(&lowered).map(|value| value.as_str()))?
+            answer.option(Extractor::get(&*carrier, alloc, key)?)?
         }
         ("keys", []) => return keys(alloc, carrier),
         ("set" | "insert" | "get" | "keys", _) => return Err(Fault::Arguments),

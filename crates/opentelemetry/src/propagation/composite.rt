@@ -1,18 +1,26 @@
 //! A propagator made of propagators.
-ghost use Rattle.std.specs.Prelude.{◌≡◌, [], IsOk, IfOk};
+ghost use Rattle.std.specs.Prelude.{◌≡◌, ◌++◌, [], IsOk, IfOk, OnOk, map, string_bytes};
+ghost use Rattle.std.specs.Str.{bytes_eq};
+ghost use Rattle.indexmap.specs.IndexSet.{insert_all};
 ghost use Rattle.otel_context.specs.Stack.{current};
 ghost use Rattle.opentelemetry.specs.Composite.{members_of, pairs_of, may_refuse_of};
+ghost use Rattle.opentelemetry.specs.Composite.{extracted_of, fields_of, kept_fields};
+ghost use Rattle.opentelemetry.specs.Extraction.{Extracts};
 ghost use Rattle.opentelemetry.specs.Injection.{Injects};
 
 use crate::context::{Context, ContextStack};
-use crate::propagation::text_map_propagator::TextMapPropagator;
-use crate::propagation::{Injector, PropagationError};
+use crate::propagation::text_map_propagator::{FieldIter, TextMapPropagator};
+use crate::propagation::{Extractor, Injector, PropagationError};
+use indexmap::IndexSet;
 use std::alloc::{AllocError, Global};
 
 /// Propagators in order, put to work as one.
+///
+/// Contracts see it as the list of its members. (The crate's `TextMapCompositePropagator`.)
 #[derive(Drop)]
 pub struct TextMapCompositePropagator {
     members: Vec<Box<dyn TextMapPropagator>>,
+    fields: IndexSet<String>,
 }
 
 /// Lets one member inject.
@@ -27,17 +35,90 @@ fn inject_member(
     member.inject_context(context, injector)
 }
 
+/// Lets one member extract.
+fn extract_member(
+    member: &Box<dyn TextMapPropagator>,
+    alloc: Global,
+    context: &Context,
+    extractor: &dyn Extractor,
+) -> Result<Context, PropagationError>
+    ensures { Extracts (extracted member.now context.now (held extractor.now))
+        (may_refuse member.now) result }
+{
+    member.extract_with_context(alloc, context, extractor)
+}
+
+/// Adds the fields of one member that aren't there yet, in order.
+fn add_fields(
+    alloc: Global,
+    fields: &mut IndexSet<String>,
+    member: &Box<dyn TextMapPropagator>,
+) -> Result<(), AllocError>
+    ensures { OnOk result (map string_bytes fields.new.keys
+        ≡ insert_all bytes_eq (map string_bytes fields.old.keys) (field_names member.now)) }
+{
+    for name in member.fields() {
+        fields.insert(String::from_str(alloc, name)?)?;
+    }
+    Ok(())
+}
+
+/// The members of both, in order.
+fn joined(
+    mut members: Vec<Box<dyn TextMapPropagator>>,
+    others: Vec<Box<dyn TextMapPropagator>>,
+) -> Result<Vec<Box<dyn TextMapPropagator>>, AllocError>
+    ensures { IfOk result (λ all. all.items ≡ members.items ++ others.items) }
+{
+    for member in others {
+        members.push(member)?;
+    }
+    Ok(members)
+}
+
 impl TextMapCompositePropagator {
-    /// The composite of these members, in this order.
+    /// The composite of these members, in this order. It keeps the names of their fields.
+    ///
+    /// # Errors
+    ///
+    /// `AllocError` where a request for the memory of the names fails, so never without members. The
+    /// members are dropped.
     pub fn new(
         alloc: Global,
         members: Vec<Box<dyn TextMapPropagator>>,
     ) -> Result<TextMapCompositePropagator, AllocError>
-        ensures made { IsOk result }
+        ensures made { members.items ≡ [] → IsOk result }
         ensures members { IfOk result (λ c. members_of c ≡ members.items) }
+        ensures fields { IfOk result (λ c. kept_fields c ≡ fields_of (λ m. field_names m) c) }
     {
-        let _ = alloc;
-        Ok(TextMapCompositePropagator { members })
+        let mut fields = IndexSet::new(alloc);
+        for member in &members {
+            add_fields(alloc, &mut fields, member)?;
+        }
+        Ok(TextMapCompositePropagator { members, fields })
+    }
+
+    /// The composite of the members of both, in order: it injects, extracts and names fields as they
+    /// do. Not in the Rust crate, where a composite may be a member of another.
+    ///
+    /// # Errors
+    ///
+    /// `AllocError` where a request for memory fails. The members of both are dropped.
+    pub fn join(
+        self,
+        alloc: Global,
+        other: TextMapCompositePropagator,
+    ) -> Result<TextMapCompositePropagator, AllocError>
+        ensures members { IfOk result (λ c. members_of c ≡ members_of self ++ members_of other) }
+        ensures fields { IfOk result (λ c. kept_fields c ≡ fields_of (λ m. field_names m) c) }
+    {
+        let TextMapCompositePropagator { members, fields: _ } = self;
+        let TextMapCompositePropagator {
+            members: others,
+            fields: _,
+        } = other;
+        let members = joined(members, others)?;
+        TextMapCompositePropagator::new(alloc, members)
     }
 
     /// Lets each member inject the context, in turn, until one returns an error, and returns that.
@@ -81,5 +162,59 @@ impl TextMapCompositePropagator {
             → IsOk result × ((state injector.new).texts ≡ (state injector.old).texts) }
     {
         self.inject_context(stack.current(), injector)
+    }
+
+    /// Lets each member extract, in turn, from the context that the one before gave, the first from
+    /// the given one, until one returns an error, and returns that. Without members it is a copy of
+    /// the given context.
+    ///
+    /// # Errors
+    ///
+    /// `Memory` where a request for memory fails; `Refused` only where a member may refuse. After
+    /// either the context and the carrier are as they were.
+    pub fn extract_with_context(
+        &self,
+        alloc: Global,
+        context: &Context,
+        extractor: &dyn Extractor,
+    ) -> Result<Context, PropagationError>
+        ensures extracted { Extracts
+            (extracted_of (λ m. extracted m) self.now context.now (held extractor.now))
+            (may_refuse_of (λ m. may_refuse m) self.now) result }
+        ensures without_members { members_of self.now ≡ []
+            → IfOk result (λ given. given ≡ context.now) }
+    {
+        let mut given = context.clone()?;
+        for member in &self.members {
+            given = extract_member(member, alloc, &given, extractor)?;
+        }
+        Ok(given)
+    }
+
+    /// Lets each member extract, from the stack's current context on, as `extract_with_context` does.
+    ///
+    /// # Errors
+    ///
+    /// Those of `extract_with_context`.
+    pub fn extract(
+        &self,
+        alloc: Global,
+        stack: &ContextStack,
+        extractor: &dyn Extractor,
+    ) -> Result<Context, PropagationError>
+        ensures extracted { Extracts
+            (extracted_of (λ m. extracted m) self.now (current stack.now.live) (held extractor.now))
+            (may_refuse_of (λ m. may_refuse m) self.now) result }
+        ensures without_members { members_of self.now ≡ []
+            → IfOk result (λ given. given ≡ current stack.now.live) }
+    {
+        self.extract_with_context(alloc, stack.current(), extractor)
+    }
+
+    /// The names of the members' fields, each once, in order of first appearance.
+    pub fn fields(&self) -> FieldIter<'_>
+        ensures { result ≡ kept_fields self.now }
+    {
+        FieldIter::new(self.fields.as_slice())
     }
 }

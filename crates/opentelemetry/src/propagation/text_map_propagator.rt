@@ -1,20 +1,29 @@
-//! Propagators: what writes a context into a carrier.
+//! Propagators: what writes a context into a carrier, and reads it from there.
+ghost use Rattle.std.specs.Prelude.{◌≡◌, map, string_bytes};
 ghost use Rattle.otel_context.specs.Stack.{current};
+ghost use Rattle.opentelemetry.specs.Extraction.{Extracts};
 ghost use Rattle.opentelemetry.specs.Injection.{Injects};
 
 use crate::context::{Context, ContextStack};
-use crate::propagation::{Injector, PropagationError};
+use crate::propagation::{Extractor, Injector, PropagationError};
+use std::alloc::Global;
+use std::marker::Model;
 
-/// What writes a context into a carrier of texts.
+/// What writes a context into a carrier of texts, and reads it from there.
 ///
-/// A propagator names the pairs that it sets for a context, `pairs`, and whether it may refuse of
-/// itself, `may_refuse`. (The crate's `TextMapPropagator`.)
+/// A propagator names the pairs that it sets for a context, `pairs`, the context that it gives for a
+/// context and a map of texts, `extracted`, the names of its fields, `field_names`, and whether it
+/// may refuse of itself, `may_refuse`. (The crate's `TextMapPropagator`.)
 pub trait TextMapPropagator: Drop {
-    ghost use Rattle.std.specs.Prelude.{Bool};
+    ghost use Rattle.std.specs.Prelude.{Bool, ℕ, List};
     ghost use Rattle.otel_context.specs.Context.{ContextRecord};
-    ghost use Rattle.opentelemetry.specs.Carrier.{Pairs};
+    ghost use Rattle.opentelemetry.specs.Carrier.{Pairs, TextMap};
 
     ghost pairs: { Self → ContextRecord → Pairs };
+
+    ghost extracted: { Self → ContextRecord → TextMap → ContextRecord };
+
+    ghost field_names: { Self → List (List ℕ) };
 
     ghost may_refuse: { Self → Bool };
 
@@ -46,5 +55,80 @@ pub trait TextMapPropagator: Drop {
             (state injector.old) (state injector.new) result }
     {
         self.inject_context(stack.current(), injector)
+    }
+
+    /// The context, with what the carrier holds for this propagator.
+    ///
+    /// # Errors
+    ///
+    /// `Memory` where a request for memory fails; `Refused` only where this propagator may refuse.
+    /// After either the context and the carrier are as they were.
+    fn extract_with_context(
+        &self,
+        alloc: Global,
+        context: &Context,
+        extractor: &dyn Extractor,
+    ) -> Result<Context, PropagationError>
+        ensures { Extracts (extracted self.now context.now (held extractor.now))
+            (may_refuse self.now) result };
+
+    /// The stack's current context, with what the carrier holds for this propagator.
+    ///
+    /// # Errors
+    ///
+    /// Those of `extract_with_context`.
+    final fn extract(
+        &self,
+        alloc: Global,
+        stack: &ContextStack,
+        extractor: &dyn Extractor,
+    ) -> Result<Context, PropagationError>
+        ensures { Extracts (extracted self.now (current stack.now.live) (held extractor.now))
+            (may_refuse self.now) result }
+    {
+        self.extract_with_context(alloc, stack.current(), extractor)
+    }
+
+    /// The names of the fields of a carrier that this propagator sets and reads, in order.
+    fn fields(&self) -> FieldIter<'_>
+        ensures { result ≡ field_names self.now };
+}
+
+/// The names of a propagator's fields, in order. (The crate's `FieldIter`.)
+#[derive(Drop)]
+pub struct FieldIter<'a> {
+    rest: &'a [String],
+}
+
+impl<'a> Model for FieldIter<'a> {
+    ghost use Rattle.std.specs.Prelude.{ℕ, List, map, string_bytes};
+
+    ghost Value = { List (List ℕ) };
+
+    ghost view = { λ it. map string_bytes it.rest.now };
+}
+
+impl<'a> FieldIter<'a> {
+    /// The given names, in order.
+    pub fn new(fields: &'a [String]) -> FieldIter<'a>
+        ensures { result ≡ map string_bytes fields.now }
+    {
+        FieldIter { rest: fields }
+    }
+}
+
+impl<'a> Iterator for FieldIter<'a> {
+    ghost use Rattle.std.specs.Iterator.{YieldsFirstRef, item_count};
+
+    type Item = &'a str;
+
+    ghost next_gives = { YieldsFirstRef (λ it. it) };
+
+    ghost remaining = { item_count (λ it. it) };
+
+    fn next(&mut self) -> Option<&'a str> {
+        let (first, others) = self.rest.split_first()?;
+        self.rest = others;
+        Some(first.as_str())
     }
 }
