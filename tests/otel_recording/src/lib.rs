@@ -4,6 +4,7 @@
 mod active;
 mod calls;
 mod table;
+mod tracing;
 
 use otel_base::StringValue;
 use otel_ids::{SpanContext, SpanId, TraceFlags, TraceId, TraceState};

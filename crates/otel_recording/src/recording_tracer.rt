@@ -1,0 +1,58 @@
+//! A tracer of spans that record what they are told.
+ghost use Rattle.std.specs.Prelude.{◌≡◌};
+ghost use Rattle.otel_recording.specs.Tracer.{child_of};
+
+use crate::recording_span::RecordingSpan;
+use opentelemetry::Context;
+use opentelemetry::trace::{
+    SpanBuilder, SpanContext, SpanId, TraceFlags, TraceId, TraceState, Tracer,
+};
+use std::alloc::{AllocError, Global};
+
+/// A tracer that starts a [`RecordingSpan`] of each builder's name.
+///
+/// A span has the trace id of its parent, or the tracer's where the parent has none, and the span id
+/// after the parent's, so that ids tell a parent from its child. It is sampled.
+#[derive(Debug, Drop)]
+pub struct RecordingTracer {
+    /// The trace id of spans without a parent.
+    pub trace_id: TraceId,
+}
+
+// The span context of a span under a parent's.
+fn child_of(trace_id: TraceId, parent: &SpanContext) -> SpanContext
+    ensures { result ≡ child_of trace_id parent.now }
+{
+    let trace_id = if parent.trace_id() == TraceId::INVALID {
+        trace_id
+    } else {
+        parent.trace_id()
+    };
+    let parent_id = u64::from_be_bytes(parent.span_id().to_bytes());
+    SpanContext::new(
+        trace_id,
+        SpanId::from(parent_id.wrapping_add(1)),
+        TraceFlags::SAMPLED,
+        false,
+        TraceState::NONE,
+    )
+}
+
+impl Tracer for RecordingTracer {
+    ghost use Rattle.std.specs.Prelude.{◌≡◌};
+    ghost use Rattle.otel_recording.specs.Tracer.{started};
+
+    type Span = RecordingSpan;
+
+    ghost may_build = { λ tracer builder parent span. span ≡ started tracer.trace_id builder parent };
+
+    fn build_with_context(
+        &self,
+        alloc: Global,
+        builder: SpanBuilder,
+        parent: &Context,
+    ) -> Result<RecordingSpan, AllocError> {
+        let span_context = child_of(self.trace_id, parent.span_context());
+        Ok(RecordingSpan::new(alloc, span_context, builder.name))
+    }
+}

@@ -1,0 +1,391 @@
+//! Work that runs in a span.
+use crate::span_context;
+use opentelemetry::context::{Context, ContextStack};
+use opentelemetry::logs::AnyValue;
+use opentelemetry::trace::{
+    Run, Span, SpanBuilder, SpanCause, SpanId, Spans, StartError, TraceId, Tracer,
+};
+use opentelemetry::{Key, KeyValue, StringValue, Value};
+use otel_recording::{Effect, RecordingSpan, RecordingTracer};
+use std::alloc::{AllocError, Global};
+use std::process::Abort;
+use std::test::Fail;
+
+fn tracer() -> RecordingTracer {
+    RecordingTracer {
+        trace_id: TraceId::from(7),
+    }
+}
+
+fn named(alloc: Global, name: &'static str) -> Result<Context, AllocError> {
+    Context::new().with_value(alloc, Key::from("name"), AnyValue::from(name))
+}
+
+/// The name of the context, or the empty text.
+fn name_of(context: &Context) -> &str {
+    match context.get("name") {
+        Some(AnyValue::String(name)) => name.as_str(),
+        _ => "",
+    }
+}
+
+/// The span id of the context's span as a number.
+fn span_id_of(context: &Context) -> u64 {
+    u64::from_be_bytes(context.span_context().span_id().to_bytes())
+}
+
+fn work() -> StringValue {
+    StringValue::from("work")
+}
+
+#[test]
+fn a_span_in_a_span_has_the_next_number(rt: HostRuntime) -> Result<(), Fail> {
+    let alloc = rt.alloc();
+    let mut stack = ContextStack::new(alloc)?;
+    let mut spans = Spans::new(alloc);
+    let outside = tracer().in_span(
+        alloc,
+        &mut stack,
+        &mut spans,
+        work(),
+        Run(|stack: &mut ContextStack, spans: &mut Spans<RecordingSpan>, outer: Context| {
+            let inside = tracer().in_span(
+                alloc,
+                stack,
+                spans,
+                work(),
+                Run(|stack: &mut ContextStack, spans: &mut Spans<RecordingSpan>, inner: Context| {
+                    let _ = (stack, spans);
+                    span_id_of(&inner)
+                }),
+            );
+            match inside {
+                Ok((inner_id, number)) => (span_id_of(&outer), inner_id, number),
+                Err(_) => (0, 0, 0),
+            }
+        }),
+    );
+    match outside {
+        Ok(((outer_id, inner_id, inner_number), number)) => {
+            assert_eq!(rt; outer_id, 1);
+            assert_eq!(rt; inner_id, 2);
+            assert_eq!(rt; inner_number, 1);
+            assert_eq!(rt; number, 0);
+        }
+        Err(_) => assert!(rt; false),
+    }
+    assert_eq!(rt; stack.newest_position(), 0);
+    assert_eq!(rt; spans.len(), 2);
+    Ok(())
+}
+
+#[test]
+fn what_a_body_leaves_on_the_stack_stays(rt: HostRuntime) -> Result<(), Fail> {
+    let alloc = rt.alloc();
+    let mut stack = ContextStack::new(alloc)?;
+    let mut spans = Spans::new(alloc);
+    let left = named(alloc, "X")?;
+    let result = tracer().in_span(
+        alloc,
+        &mut stack,
+        &mut spans,
+        work(),
+        Run(|stack: &mut ContextStack, spans: &mut Spans<RecordingSpan>, context: Context| {
+            let _ = (spans, context);
+            stack.push(left).is_ok()
+        }),
+    );
+    match result {
+        Ok((is_pushed, _)) => assert!(rt; is_pushed),
+        Err(_) => assert!(rt; false),
+    }
+    assert_eq!(rt; stack.newest_position(), 2);
+    assert_eq!(rt; name_of(stack.current()), "X");
+    assert_eq!(rt; stack.push(Context::new())?, 3);
+    Ok(())
+}
+
+#[test]
+fn a_body_may_detach_its_own_context(rt: HostRuntime) -> Result<(), Fail> {
+    let alloc = rt.alloc();
+    let mut stack = ContextStack::new(alloc)?;
+    let mut spans = Spans::new(alloc);
+    stack.push(named(alloc, "base")?)?;
+    let result = tracer().in_span(
+        alloc,
+        &mut stack,
+        &mut spans,
+        work(),
+        Run(|stack: &mut ContextStack, spans: &mut Spans<RecordingSpan>, context: Context| {
+            let _ = (spans, context);
+            stack.pop_id(2).is_some()
+        }),
+    );
+    match result {
+        Ok((is_popped, _)) => assert!(rt; is_popped),
+        Err(_) => assert!(rt; false),
+    }
+    assert_eq!(rt; stack.newest_position(), 1);
+    assert_eq!(rt; name_of(stack.current()), "base");
+    Ok(())
+}
+
+#[test]
+fn a_body_may_take_its_span(rt: HostRuntime) -> Result<(), Fail> {
+    let alloc = rt.alloc();
+    let mut stack = ContextStack::new(alloc)?;
+    let mut spans = Spans::starting_at(alloc, 5);
+    let result = tracer().in_span(
+        alloc,
+        &mut stack,
+        &mut spans,
+        work(),
+        Run(|stack: &mut ContextStack, spans: &mut Spans<RecordingSpan>, context: Context| {
+            let _ = stack;
+            match context.span_number() {
+                Some(number) => spans.take(number),
+                None => None,
+            }
+        }),
+    );
+    match result {
+        Ok((Some(span), number)) => {
+            assert_eq!(rt; span.name(), "work");
+            assert_eq!(rt; number, 5);
+        }
+        _ => assert!(rt; false),
+    }
+    assert!(rt; spans.is_empty());
+    assert_eq!(rt; spans.next_number(), 6);
+    Ok(())
+}
+
+#[test]
+fn what_a_body_returns_is_handed_on(rt: HostRuntime) -> Result<(), Fail> {
+    let alloc = rt.alloc();
+    let mut stack = ContextStack::new(alloc)?;
+    let mut spans = Spans::new(alloc);
+    let result = tracer().in_span(
+        alloc,
+        &mut stack,
+        &mut spans,
+        work(),
+        Run(|stack: &mut ContextStack, spans: &mut Spans<RecordingSpan>, context: Context| {
+            let _ = (stack, spans, context);
+            let answer: Result<(), u32> = Err(42);
+            answer
+        }),
+    );
+    match result {
+        Ok((answer, number)) => {
+            assert!(rt; answer == Err(42));
+            assert_eq!(rt; number, 0);
+        }
+        Err(_) => assert!(rt; false),
+    }
+    Ok(())
+}
+
+#[test]
+fn a_parent_that_is_not_current_is_the_parent(rt: HostRuntime) -> Result<(), Fail> {
+    let alloc = rt.alloc();
+    let mut stack = ContextStack::new(alloc)?;
+    let mut spans = Spans::new(alloc);
+    stack.push(named(alloc, "current")?)?;
+    let remote = span_context(40);
+    let parent = named(alloc, "parent")?.with_remote_span_context(alloc, remote)?;
+    let result = tracer().in_span_with_context(
+        alloc,
+        &mut stack,
+        &mut spans,
+        work(),
+        &parent,
+        Run(|stack: &mut ContextStack, spans: &mut Spans<RecordingSpan>, context: Context| {
+            let _ = (spans, context);
+            let inside = stack.current();
+            (
+                name_of(inside) == "parent",
+                span_id_of(inside),
+                inside.span_context().trace_id(),
+                inside.span_number(),
+            )
+        }),
+    );
+    match result {
+        Ok(((is_parent, span_id, trace_id, number), _)) => {
+            assert!(rt; is_parent);
+            assert_eq!(rt; span_id, 41);
+            assert!(rt; trace_id == TraceId::from(40));
+            assert!(rt; number == Some(0));
+        }
+        Err(_) => assert!(rt; false),
+    }
+    assert_eq!(rt; name_of(stack.current()), "current");
+    Ok(())
+}
+
+fn fill(stack: &mut ContextStack) -> Result<(), AllocError> {
+    for _ in 0..65534 {
+        stack.push(Context::new())?;
+    }
+    Ok(())
+}
+
+#[test]
+fn at_the_greatest_position_the_body_runs_unattached(rt: HostRuntime) -> Result<(), Fail> {
+    let alloc = rt.alloc();
+    let mut stack = ContextStack::new(alloc)?;
+    let mut spans = Spans::new(alloc);
+    fill(&mut stack)?;
+    let result = tracer().in_span(
+        alloc,
+        &mut stack,
+        &mut spans,
+        work(),
+        Run(|stack: &mut ContextStack, spans: &mut Spans<RecordingSpan>, context: Context| {
+            let _ = spans;
+            (
+                context.span_number(),
+                stack.current().has_active_span(),
+                stack.newest_position(),
+            )
+        }),
+    );
+    match result {
+        Ok(((number, is_attached, newest), span)) => {
+            assert!(rt; number == Some(span));
+            assert!(rt; !is_attached);
+            assert_eq!(rt; newest, 65534);
+        }
+        Err(_) => assert!(rt; false),
+    }
+    assert_eq!(rt; stack.newest_position(), 65534);
+    assert_eq!(rt; spans.len(), 1);
+    Ok(())
+}
+
+#[test]
+fn a_table_at_its_last_number_refuses(rt: HostRuntime) -> Result<(), Fail> {
+    let alloc = rt.alloc();
+    let mut stack = ContextStack::new(alloc)?;
+    let mut spans = Spans::starting_at(alloc, u64::MAX);
+    let mut calls = 0;
+    let result = tracer().in_span(
+        alloc,
+        &mut stack,
+        &mut spans,
+        work(),
+        Run(|stack: &mut ContextStack, spans: &mut Spans<RecordingSpan>, context: Context| {
+            let _ = (stack, spans, context);
+            calls += 1;
+        }),
+    );
+    match result {
+        Err(StartError::Refused(refused)) => {
+            assert!(rt; matches!(&refused.cause, SpanCause::NumbersUsedUp));
+            assert_eq!(rt; refused.span.name(), "work");
+        }
+        _ => assert!(rt; false),
+    }
+    assert_eq!(rt; calls, 0);
+    assert_eq!(rt; stack.newest_position(), 0);
+    assert!(rt; spans.is_empty());
+    Ok(())
+}
+
+/// A tracer that has no memory for a span.
+#[derive(Drop)]
+struct RefusingTracer;
+
+impl Tracer for RefusingTracer {
+    type Span = RecordingSpan;
+
+    ghost may_build = { λ tracer builder parent span. ⊥ };
+
+    fn build_with_context(
+        &self,
+        alloc: Global,
+        builder: SpanBuilder,
+        parent: &Context,
+    ) -> Result<RecordingSpan, AllocError> {
+        let _ = (alloc, builder, parent);
+        Err(AllocError)
+    }
+}
+
+#[test]
+fn without_a_span_no_body_runs(rt: HostRuntime) -> Result<(), Fail> {
+    let alloc = rt.alloc();
+    let mut stack = ContextStack::new(alloc)?;
+    let mut spans: Spans<RecordingSpan> = Spans::new(alloc);
+    let mut calls = 0;
+    let result = RefusingTracer.in_span(
+        alloc,
+        &mut stack,
+        &mut spans,
+        work(),
+        Run(|stack: &mut ContextStack, spans: &mut Spans<RecordingSpan>, context: Context| {
+            let _ = (stack, spans, context);
+            calls += 1;
+        }),
+    );
+    assert!(rt; matches!(result, Err(StartError::Build(AllocError))));
+    assert_eq!(rt; calls, 0);
+    assert_eq!(rt; stack.newest_position(), 0);
+    assert_eq!(rt; spans.next_number(), 0);
+    Ok(())
+}
+
+#[test]
+fn a_span_is_started_under_the_current_context(rt: HostRuntime) -> Result<(), Fail> {
+    let alloc = rt.alloc();
+    let mut stack = ContextStack::new(alloc)?;
+    let remote = span_context(40);
+    stack.push(Context::new().with_remote_span_context(alloc, remote)?)?;
+    let builder = tracer().span_builder(work());
+    let started = [
+        tracer().start(alloc, &stack, work())?,
+        tracer().build(alloc, tracer().span_builder(work()), &stack)?,
+        tracer().start_with_context(alloc, work(), stack.current())?,
+        builder.start(alloc, &tracer(), &stack)?,
+        SpanBuilder::from_name(work()).start_with_context(alloc, &tracer(), stack.current())?,
+    ];
+    for span in started {
+        assert_eq!(rt; span.name(), "work");
+        assert!(rt; span.span_context().trace_id() == TraceId::from(40));
+        assert!(rt; span.span_context().span_id() == SpanId::from(41));
+    }
+    Ok(())
+}
+
+#[test]
+fn a_body_tells_its_span_what_happens(rt: HostRuntime) -> Result<(), Fail> {
+    let alloc = rt.alloc();
+    let mut stack = ContextStack::new(alloc)?;
+    let mut spans = Spans::new(alloc);
+    let result = tracer().in_span(
+        alloc,
+        &mut stack,
+        &mut spans,
+        work(),
+        Run(|stack: &mut ContextStack, spans: &mut Spans<RecordingSpan>, context: Context| {
+            let _ = stack;
+            let attribute = KeyValue::new(Key::from("k"), Value::from(true));
+            context.span(spans).set_attribute(alloc, attribute)
+        }),
+    );
+    match result {
+        Ok((told, number)) => {
+            assert!(rt; told.is_ok());
+            match spans.get(number) {
+                Some(span) => {
+                    assert_eq!(rt; span.effects().len(), 1);
+                    assert!(rt; matches!(&span.effects()[0], Effect::Attribute(_)));
+                }
+                None => assert!(rt; false),
+            }
+        }
+        Err(_) => assert!(rt; false),
+    }
+    Ok(())
+}
