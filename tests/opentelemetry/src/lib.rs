@@ -6,4 +6,6 @@ mod extraction;
 mod injection;
 mod logs;
 mod members;
+mod noop;
+mod paths;
 mod runs;

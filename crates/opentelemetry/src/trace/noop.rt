@@ -1,8 +1,204 @@
 //! Types that do nothing, for where no tracing is wanted.
+ghost use Rattle.std.specs.Prelude.{◌≡◌, IsOk};
+
 use crate::context::Context;
 use crate::propagation::text_map_propagator::{FieldIter, TextMapPropagator};
 use crate::propagation::{Extractor, Injector, PropagationError};
-use std::alloc::Global;
+use crate::trace::span_builder::SpanBuilder;
+use crate::trace::tracer::Tracer;
+use crate::trace::tracer_provider::TracerProvider;
+use otel_base::{InstrumentationScope, KeyValue, StringValue};
+use otel_context::{Span, Status};
+use otel_ids::SpanContext;
+use std::alloc::{AllocError, Global};
+use std::marker::Model;
+
+/// A provider of tracers whose spans do nothing (the Rust crate's `NoopTracerProvider`).
+#[derive(Clone, Debug, Default, Drop)]
+pub struct NoopTracerProvider;
+
+impl NoopTracerProvider {
+    /// A provider of tracers whose spans do nothing.
+    pub fn new() -> NoopTracerProvider {
+        NoopTracerProvider
+    }
+}
+
+impl TracerProvider for NoopTracerProvider {
+    ghost use Rattle.std.specs.Prelude.{IsOk};
+
+    type Tracer = NoopTracer;
+
+    ghost may_give = { λ _ _ _. Unit {0} };
+
+    /// A tracer whose spans do nothing, whatever the scope. It takes no memory.
+    fn tracer_with_scope(
+        &self,
+        _alloc: Global,
+        _scope: InstrumentationScope,
+    ) -> Result<NoopTracer, AllocError>
+        ensures { IsOk result }
+    {
+        Ok(NoopTracer)
+    }
+}
+
+/// A tracer whose spans do nothing (the Rust crate's `NoopTracer`).
+#[derive(Clone, Debug, Default, Drop)]
+pub struct NoopTracer;
+
+impl NoopTracer {
+    /// A tracer whose spans do nothing.
+    pub fn new() -> NoopTracer {
+        NoopTracer
+    }
+}
+
+impl Tracer for NoopTracer {
+    ghost use Rattle.std.specs.Prelude.{◌≡◌};
+    ghost use Rattle.otel_context.specs.Context.{span_context};
+
+    type Span = NoopSpan;
+
+    ghost may_build = { λ _ _ parent span. span ≡ span_context parent };
+
+    /// A span with the parent's span context, valid or not, so that what calls carry goes on.
+    ///
+    /// # Errors
+    ///
+    /// The count of those that share the pairs of the trace state is at its limit.
+    fn build_with_context(
+        &self,
+        _alloc: Global,
+        _builder: SpanBuilder,
+        parent: &Context,
+    ) -> Result<NoopSpan, AllocError> {
+        Ok(NoopSpan {
+            span_context: parent.span_context().clone()?,
+        })
+    }
+}
+
+/// A span that never records and ignores all it is told (the Rust crate's `NoopSpan`).
+///
+/// Contracts see its span context.
+#[derive(Debug, Drop)]
+pub struct NoopSpan {
+    span_context: SpanContext,
+}
+
+impl Model for NoopSpan {
+    ghost use Rattle.otel_ids.specs.SpanContext.{SpanContextRecord};
+    ghost use Rattle.otel_ids.specs.View.{span_context_code};
+
+    ghost Value = { SpanContextRecord };
+
+    ghost coded = { span_context_code };
+
+    ghost view = { λ s. s.span_context };
+
+    ghost inverse = { λ c. record { span_context = c } };
+}
+
+impl NoopSpan {
+    /// The span of no trace, with the span context [`SpanContext::NONE`].
+    pub const DEFAULT: NoopSpan = NoopSpan {
+        span_context: SpanContext::NONE,
+    };
+}
+
+impl Clone for NoopSpan {
+    ghost is_clone = { λ s copy. copy ≡ s };
+
+    /// A span of the same span context.
+    ///
+    /// # Errors
+    ///
+    /// The count of those that share the pairs of the trace state is at its limit.
+    fn clone(&self) -> Result<NoopSpan, AllocError> {
+        Ok(NoopSpan {
+            span_context: self.span_context.clone()?,
+        })
+    }
+}
+
+impl Span for NoopSpan {
+    ghost use Rattle.std.specs.Prelude.{◌≡◌, false, refl, IsOk};
+
+    ghost context_of = { λ s. s };
+
+    ghost records = { λ _. false };
+
+    ghost after_event = { λ s _ _ _. s };
+
+    ghost after_attribute = { λ s _. s };
+
+    ghost after_link = { λ s _ _. s };
+
+    ghost after_status = { λ s _. s };
+
+    ghost after_name = { λ s _. s };
+
+    ghost after_end = { λ s _. s };
+
+    fn add_event_with_timestamp(
+        &mut self,
+        _alloc: Global,
+        _name: StringValue,
+        _timestamp: u64,
+        _attributes: Vec<KeyValue>,
+    ) -> Result<(), AllocError>
+        ensures ok { IsOk result }
+        ensures same { self.new ≡ self.old }
+    {
+        Ok(())
+    }
+
+    fn set_attribute(&mut self, _alloc: Global, _attribute: KeyValue) -> Result<(), AllocError>
+        ensures ok { IsOk result }
+        ensures same { self.new ≡ self.old }
+    {
+        Ok(())
+    }
+
+    fn add_link(
+        &mut self,
+        _alloc: Global,
+        _span_context: SpanContext,
+        _attributes: Vec<KeyValue>,
+    ) -> Result<(), AllocError>
+        ensures ok { IsOk result }
+        ensures same { self.new ≡ self.old }
+    {
+        Ok(())
+    }
+
+    fn set_status(&mut self, _status: Status) {}
+
+    fn update_name(&mut self, _name: StringValue) {}
+
+    fn end_with_timestamp(&mut self, _timestamp: u64) {}
+
+    fn span_context(&self) -> &SpanContext {
+        &self.span_context
+    }
+
+    fn is_recording(&self) -> bool {
+        false
+    }
+
+    ghost event_keeps = { λ _ _ _ _. refl };
+
+    ghost attribute_keeps = { λ _ _. refl };
+
+    ghost link_keeps = { λ _ _ _. refl };
+
+    ghost status_keeps = { λ _ _. refl };
+
+    ghost name_keeps = { λ _ _. refl };
+
+    ghost end_keeps = { λ _ _. refl };
+}
 
 /// A propagator that sets nothing and reads nothing. (The crate's `NoopTextMapPropagator`.)
 #[derive(Clone, Copy, Debug, Default, Drop)]
