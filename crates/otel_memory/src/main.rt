@@ -15,6 +15,7 @@ mod shown;
 mod spans;
 mod stacks;
 mod trace_states;
+mod tracing;
 mod values;
 
 use lines::Lines;
@@ -38,6 +39,7 @@ fn main(rt: HostRuntime) -> io::Result<()> {
     stacks::play(alloc, &lines);
     propagations::play(alloc, &lines);
     spans::play(alloc, &lines);
+    tracing::play(alloc, &lines);
     if lines.is_written() {
         Ok(())
     } else {

@@ -80,7 +80,7 @@ fn builder_clone<R: Print>(alloc: Global, lines: &Lines<'_, R>) -> Result<(), Al
 }
 
 /// The error of a failed request; numbers never run out here.
-fn error_of(cause: SpanCause) -> Result<u64, AllocError> {
+pub fn error_of(cause: SpanCause) -> Result<u64, AllocError> {
     match cause {
         SpanCause::Memory(error) => Err(error),
         SpanCause::NumbersUsedUp => Ok(0),
