@@ -25,6 +25,12 @@ pub fn play<R: Print>(alloc: Global, lines: &Lines<'_, R>) {
     if lines.begin("composite-inject") {
         lines.end(inject(alloc, lines));
     }
+    if lines.begin("composite-join") {
+        lines.end(of_two(alloc, lines, Call::Join));
+    }
+    if lines.begin("composite-extract") {
+        lines.end(of_two(alloc, lines, Call::Extract));
+    }
 }
 
 /// Sets one text, whatever the context.
@@ -56,10 +62,11 @@ impl TextMapPropagator for Stamp {
 
     fn extract_with_context(
         &self,
-        _alloc: Global,
+        alloc: Global,
         context: &Context,
-        _extractor: &dyn Extractor,
+        extractor: &dyn Extractor,
     ) -> Result<Context, PropagationError> {
+        extractor.get(alloc, self.key)?;
         Ok(context.clone()?)
     }
 
@@ -149,6 +156,8 @@ enum Call<'a> {
     New,
     InjectContext,
     Inject(&'a ContextStack),
+    Join,
+    Extract,
 }
 
 /// Makes a member that sets `x` and one that sets `y`, and that call of a composite of them.
@@ -161,6 +170,8 @@ fn of_two<R: Print>(alloc: Global, lines: &Lines<'_, R>, call: Call<'_>) -> Resu
         Call::New => new(alloc, lines, members),
         Call::InjectContext => return injected_by(alloc, lines, members, None),
         Call::Inject(stack) => return injected_by(alloc, lines, members, Some(stack)),
+        Call::Join => return join(alloc, lines, members),
+        Call::Extract => return extract(alloc, lines, members),
     }
     Ok(())
 }
@@ -184,4 +195,30 @@ fn injected_by<R: Print>(
 fn inject<R: Print>(alloc: Global, lines: &Lines<'_, R>) -> Result<(), AllocError> {
     let stack = stack_of_full(alloc)?;
     of_two(alloc, lines, Call::Inject(&stack))
+}
+
+/// Joins a composite without members, which has no room for one, with one of these.
+fn join<R: Print>(
+    alloc: Global,
+    lines: &Lines<'_, R>,
+    members: Vec<Box<dyn TextMapPropagator>>,
+) -> Result<(), AllocError> {
+    let first = TextMapCompositePropagator::new(alloc, Vec::new(alloc))?;
+    let second = TextMapCompositePropagator::new(alloc, members)?;
+    lines.answer_named("joined", first.join(alloc, second));
+    Ok(())
+}
+
+/// Each member asks the carrier for its key, which takes memory.
+fn extract<R: Print>(
+    alloc: Global,
+    lines: &Lines<'_, R>,
+    members: Vec<Box<dyn TextMapPropagator>>,
+) -> Result<(), AllocError> {
+    let composite = TextMapCompositePropagator::new(alloc, members)?;
+    let carrier = carrier(alloc)?;
+    let answer = composite.extract_with_context(alloc, &Context::new(), &carrier);
+    lines.answer_named("extracted", answer);
+    lines.due(is_beginning(&carrier, 1));
+    Ok(())
 }
