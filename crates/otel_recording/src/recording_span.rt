@@ -21,7 +21,7 @@ pub enum Effect {
 /// A span that keeps the list of what it was told, whether it records or not.
 ///
 /// It records until it ends, or until its first attribute where [`RecordingSpan::stop_at_attribute`]
-/// was called. It can be told to let a call fail as if memory ran out.
+/// was called. It can be told to let a call fail as if a request for memory failed.
 #[derive(Drop)]
 pub struct RecordingSpan {
     context: SpanContext,
@@ -85,7 +85,7 @@ impl RecordingSpan {
         self.recording = false;
     }
 
-    /// Lets each event, attribute and link after the next `taken` fail as if memory ran out.
+    /// Lets each event, attribute and link after the next `taken` fail as if a request for memory failed.
     pub fn fail_after(&mut self, taken: u64)
         ensures { self.new ≡ self.old }
     {
