@@ -21,7 +21,8 @@ pub record CallLeaves {F Out Stack Spans Context : Type 0}
   pub spans_lent : MutBor Spans
   pub stack_left : MutBor Stack
   pub spans_left : MutBor Spans
-  pub called : g.post f (stack_lent, (spans_lent, (context, tt))) (out, (stack_left, (spans_left, tt)))
+  pub called :
+      g.post f (stack_lent, (spans_lent, (context, tt))) (out, (stack_left, (spans_left, tt)))
   pub on_stack : stack_lent.now ≡ stack
   pub on_spans : spans_lent.now ≡ spans
   pub leaves_stack : stack_left.now ≡ left

@@ -69,7 +69,10 @@ parts_of_event a b e = (
   ap (λ (r : EventRecord). r.name) e,
   (
     ap (λ (r : EventRecord). r.timestamp) e,
-    (ap (λ (r : EventRecord). r.attributes) e, ap (λ (r : EventRecord). r.dropped_attributes_count) e),
+    (
+      ap (λ (r : EventRecord). r.attributes) e,
+      ap (λ (r : EventRecord). r.dropped_attributes_count) e,
+    ),
   ),
 )
 

@@ -12,13 +12,15 @@ use Rattle.opentelemetry.specs.declared.trace.in_span.StartError.TheVariants.{Bu
 -- what a call of a body may leave: by the stack, the table and the context that it is lent, what it
 -- returns, and the stack and the table that it leaves
 abbrev pub MayLeave : Type 0 → Type 0 → Type 1
-MayLeave S Out = StackState → SpansState S → ContextRecord → Out → StackState → SpansState S → Type 0
+MayLeave S Out =
+    StackState → SpansState S → ContextRecord → Out → StackState → SpansState S → Type 0
 
 module _ {S : Type 0} where
   -- a body ran once in a span, of the given parent, and its context was detached
   -- [the Rust crate's `Tracer::in_span_with_builder_and_context`]
   pub record RanInSpan {Out : Type 0} (MayBuild : S → Type 0) (context_of : S → SpanContextRecord)
-      (may_leave : MayLeave S Out) (parent : ContextRecord) (old : StackState) (spans : SpansState S)
+      (may_leave : MayLeave S Out) (parent : ContextRecord)
+      (old : StackState) (spans : SpansState S)
       (answer : Out × ℕ) (new : StackState) (new_spans : SpansState S) : Type 0 where
     -- the span is one that the tracer may give
     pub span : S

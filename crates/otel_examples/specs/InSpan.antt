@@ -17,8 +17,8 @@ module _ {S : Type 0} (after_attribute : S → Attribute → S) where
   told table number = after_effect (λ span. after_attribute span method) table number
 
   -- the attribute was set on the context's span, and a child span was then put into the table
-  pub record HasChild (old : SpansState S) (context : ContextRecord) (child : ℕ) (new : SpansState S)
-      : Type 0 where
+  pub record HasChild (old : SpansState S) (context : ContextRecord) (child : ℕ)
+      (new : SpansState S) : Type 0 where
     pub span : S
     pub number : child ≡ (told old (span_number context)).next_number
     pub table : new ≡ insert (told old (span_number context)) span

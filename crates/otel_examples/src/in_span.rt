@@ -16,7 +16,8 @@ impl<S> SpanBody<S> for Query {
 
     type Out = ();
 
-    ghost may_leave = { λ _ stack spans _ _ left left_spans. (left ≡ stack) × (left_spans ≡ spans) };
+    ghost may_leave = { λ _ stack spans _ _ left left_spans.
+        (left ≡ stack) × (left_spans ≡ spans) };
 
     fn call(self, _stack: &mut ContextStack, _spans: &mut Spans<S>, _context: Context) {}
 }

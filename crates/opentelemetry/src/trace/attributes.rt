@@ -8,14 +8,16 @@ use std::alloc::AllocError;
 
 // Whether both have the same attributes in the same order.
 pub fn same_attributes(left: &Vec<KeyValue>, right: &Vec<KeyValue>) -> bool
-    ensures { result ≡ attributes_eq (map attribute_of left.now.items) (map attribute_of right.now.items) }
+    ensures { result ≡ attributes_eq
+        (map attribute_of left.now.items) (map attribute_of right.now.items) }
 {
     *left == *right
 }
 
 // The same attributes in the same order.
 pub fn copy_attributes(attributes: &Vec<KeyValue>) -> Result<Vec<KeyValue>, AllocError>
-    ensures { IfOk result (λ copy. map attribute_of copy.items ≡ map attribute_of attributes.now.items) }
+    ensures { IfOk result (λ copy.
+        map attribute_of copy.items ≡ map attribute_of attributes.now.items) }
 {
     Ok(attributes.clone()?)
 }

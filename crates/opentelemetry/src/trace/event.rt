@@ -82,7 +82,8 @@ impl Clone for Event {
 impl PartialEq for Event {
     ghost eq = { λ a b. event_eq (event_of a) (event_of b) };
 
-    ghost laws = { on_per event_of (partial_equiv_from_equiv (equiv_from_decides event_eq event_eq-Decides)) };
+    ghost laws = { on_per event_of (partial_equiv_from_equiv
+        (equiv_from_decides event_eq event_eq-Decides)) };
 
     /// Whether both have the same four parts, the attributes in the same order.
     fn eq(&self, other: &Event) -> bool

@@ -77,7 +77,8 @@ impl Clone for Link {
 impl PartialEq for Link {
     ghost eq = { λ a b. link_eq (link_of a) (link_of b) };
 
-    ghost laws = { on_per link_of (partial_equiv_from_equiv (equiv_from_decides link_eq link_eq-Decides)) };
+    ghost laws = { on_per link_of (partial_equiv_from_equiv
+        (equiv_from_decides link_eq link_eq-Decides)) };
 
     /// Whether both have the same three parts, the attributes in the same order.
     fn eq(&self, other: &Link) -> bool

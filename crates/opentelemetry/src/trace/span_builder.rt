@@ -81,7 +81,9 @@ impl SpanBuilder {
 
     /// Sets the events, in place of those that were set before.
     pub fn with_events(self, events: Vec<Event>) -> SpanBuilder
-        ensures { builder_of result ≡ record (builder_of self) { events = Some (map event_of events.items) } }
+        ensures { builder_of result ≡ record (builder_of self) {
+          events = Some (map event_of events.items);
+        } }
     {
         SpanBuilder {
             events: Some(events),

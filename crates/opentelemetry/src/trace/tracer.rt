@@ -116,8 +116,8 @@ pub trait Tracer {
     ) -> Result<(F::Out, u64), StartError<Self::Span>>
         requires { F.can_call f }
         ensures ran { IfOk result (λ answer. RanInSpan
-            (may_build self.now (builder_of builder) parent.now) Self.Span.context_of (F.may_leave f)
-            parent.now stack.old spans.old answer stack.new spans.new) }
+            (may_build self.now (builder_of builder) parent.now) Self.Span.context_of
+            (F.may_leave f) parent.now stack.old spans.old answer stack.new spans.new) }
         ensures same_stack { OnErr result (stack.new ≡ stack.old) }
         ensures not_started { IfErr result
             (NotStarted (may_build self.now (builder_of builder) parent.now) spans.old spans.new) }
@@ -184,10 +184,12 @@ pub trait Tracer {
         requires { F.can_call f }
         ensures ran { IfOk result (λ answer. RanInSpan
             (may_build self.now (builder_of builder) (current stack.old.live)) Self.Span.context_of
-            (F.may_leave f) (current stack.old.live) stack.old spans.old answer stack.new spans.new) }
+            (F.may_leave f) (current stack.old.live) stack.old spans.old
+            answer stack.new spans.new) }
         ensures same_stack { OnErr result (stack.new ≡ stack.old) }
         ensures not_started { IfErr result (NotStarted
-            (may_build self.now (builder_of builder) (current stack.old.live)) spans.old spans.new) }
+            (may_build self.now (builder_of builder) (current stack.old.live))
+            spans.old spans.new) }
     {
         let copied: Result<_, _> = stack.current().clone();
         match copied {
@@ -215,7 +217,8 @@ pub trait Tracer {
         requires { F.can_call f }
         ensures ran { IfOk result (λ answer. RanInSpan
             (may_build self.now (from_name name) (current stack.old.live)) Self.Span.context_of
-            (F.may_leave f) (current stack.old.live) stack.old spans.old answer stack.new spans.new) }
+            (F.may_leave f) (current stack.old.live) stack.old spans.old
+            answer stack.new spans.new) }
         ensures same_stack { OnErr result (stack.new ≡ stack.old) }
         ensures not_started { IfErr result (NotStarted
             (may_build self.now (from_name name) (current stack.old.live)) spans.old spans.new) }
