@@ -38,44 +38,77 @@ fn work() -> StringValue {
     StringValue::from("work")
 }
 
+/// Runs a body in a span, and returns the span's id and number.
+fn innermost(
+    alloc: Global,
+    stack: &mut ContextStack,
+    spans: &mut Spans<RecordingSpan>,
+) -> (u64, u64) {
+    let result = tracer().in_span(
+        alloc,
+        stack,
+        spans,
+        work(),
+        Run(|stack: &mut ContextStack, spans: &mut Spans<RecordingSpan>, context: Context| {
+            let _ = (stack, spans);
+            span_id_of(&context)
+        }),
+    );
+    match result {
+        Ok((id, number)) => (id, number),
+        Err(_) => (0, 0),
+    }
+}
+
+/// The same, with a span inside.
+fn middle(
+    alloc: Global,
+    stack: &mut ContextStack,
+    spans: &mut Spans<RecordingSpan>,
+) -> (u64, u64, u64, u64) {
+    let result = tracer().in_span(
+        alloc,
+        stack,
+        spans,
+        work(),
+        Run(|stack: &mut ContextStack, spans: &mut Spans<RecordingSpan>, context: Context| {
+            let (inner_id, inner_number) = innermost(alloc, stack, spans);
+            (span_id_of(&context), inner_id, inner_number)
+        }),
+    );
+    match result {
+        Ok(((id, inner_id, inner_number), number)) => (id, number, inner_id, inner_number),
+        Err(_) => (0, 0, 0, 0),
+    }
+}
+
 #[test]
-fn a_span_in_a_span_has_the_next_number(rt: HostRuntime) -> Result<(), Fail> {
+fn spans_three_deep_are_children_of_each_other(rt: HostRuntime) -> Result<(), Fail> {
     let alloc = rt.alloc();
     let mut stack = ContextStack::new(alloc)?;
     let mut spans = Spans::new(alloc);
-    let outside = tracer().in_span(
+    let result = tracer().in_span(
         alloc,
         &mut stack,
         &mut spans,
         work(),
-        Run(|stack: &mut ContextStack, spans: &mut Spans<RecordingSpan>, outer: Context| {
-            let inside = tracer().in_span(
-                alloc,
-                stack,
-                spans,
-                work(),
-                Run(|stack: &mut ContextStack, spans: &mut Spans<RecordingSpan>, inner: Context| {
-                    let _ = (stack, spans);
-                    span_id_of(&inner)
-                }),
-            );
-            match inside {
-                Ok((inner_id, number)) => (span_id_of(&outer), inner_id, number),
-                Err(_) => (0, 0, 0),
-            }
+        Run(|stack: &mut ContextStack, spans: &mut Spans<RecordingSpan>, context: Context| {
+            (span_id_of(&context), middle(alloc, stack, spans))
         }),
     );
-    match outside {
-        Ok(((outer_id, inner_id, inner_number), number)) => {
+    match result {
+        Ok(((outer_id, (id, number, inner_id, inner_number)), outer_number)) => {
             assert_eq!(rt; outer_id, 1);
-            assert_eq!(rt; inner_id, 2);
-            assert_eq!(rt; inner_number, 1);
-            assert_eq!(rt; number, 0);
+            assert_eq!(rt; outer_number, 0);
+            assert_eq!(rt; id, 2);
+            assert_eq!(rt; number, 1);
+            assert_eq!(rt; inner_id, 3);
+            assert_eq!(rt; inner_number, 2);
         }
         Err(_) => assert!(rt; false),
     }
     assert_eq!(rt; stack.newest_position(), 0);
-    assert_eq!(rt; spans.len(), 2);
+    assert_eq!(rt; spans.len(), 3);
     Ok(())
 }
 
