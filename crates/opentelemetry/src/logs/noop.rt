@@ -48,7 +48,7 @@ impl Logger for NoopLogger {
 
     ghost may_enable = { λ _ _ _ _ enabled. enabled ≡ false };
 
-    /// A record that ignores all it is told. It takes no memory.
+    /// A record that ignores all that is set. It takes no memory.
     fn create_log_record(&self, _alloc: Global) -> Result<NoopLogRecord, AllocError>
         ensures { IsOk result }
     {
@@ -63,7 +63,7 @@ impl Logger for NoopLogger {
     }
 }
 
-/// A log record that ignores all it is told (the Rust crate's `NoopLogRecord`).
+/// A log record that ignores all that is set (the Rust crate's `NoopLogRecord`).
 #[derive(Clone, Debug, Default, Drop)]
 pub struct NoopLogRecord;
 

@@ -1,4 +1,4 @@
-//! What a log record is told.
+//! What is set on a log record.
 ghost use Rattle.std.specs.Prelude.{◌≡◌, OnOk, OnErr};
 ghost use Rattle.otel_base.specs.View.{tree, pairs_view};
 

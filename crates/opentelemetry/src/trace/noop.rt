@@ -79,7 +79,7 @@ impl Tracer for NoopTracer {
     }
 }
 
-/// A span that never records and ignores all it is told (the Rust crate's `NoopSpan`).
+/// A span that never records and ignores all that is set (the Rust crate's `NoopSpan`).
 ///
 /// Contracts see its span context.
 #[derive(Debug, Drop)]
