@@ -1,0 +1,2 @@
+//! The propagators of the headers `traceparent`, `tracestate` and `baggage`.
+#![tactic(auto)]
