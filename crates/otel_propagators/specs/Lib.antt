@@ -1,1 +1,3 @@
 pub mod TraceParent
+pub mod BaggageReading
+pub mod BaggagePropagator

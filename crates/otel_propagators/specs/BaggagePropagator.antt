@@ -1,0 +1,31 @@
+-- What the propagator of the header `baggage` sets in a carrier, and takes out of one.
+use Rattle.std.specs.Prelude.{ℕ, List, [], ◌∷◌, codes}
+use Rattle.std.specs.Option.{option_map_or}
+use Rattle.otel_context.specs.BaggageHeader.{header}
+use Rattle.otel_context.specs.BaggageMember.{Member}
+use Rattle.otel_context.specs.Context.{ContextRecord, with_baggage}
+use Rattle.opentelemetry.specs.Carrier.{Pairs, TextMap, get}
+use Rattle.otel_propagators.specs.BaggageReading.{read_baggage}
+
+-- the name of the header (W3C baggage, "Header Name")
+abbrev pub baggage_key : List ℕ
+baggage_key = codes "baggage"
+
+-- the fields of `BaggagePropagator`
+abbrev pub baggage_fields : List (List ℕ)
+baggage_fields = baggage_key ∷ []
+
+-- the members of a context's baggage: none, where it has no baggage
+abbrev pub members : ContextRecord → List Member
+members context = option_map_or (λ ms. ms) context.baggage []
+
+-- The pair that is set: `baggage` with the header of the context's baggage. The header of no
+-- members is the empty text, and it is set too.
+abbrev pub baggage_pairs : ContextRecord → Pairs
+baggage_pairs context = (baggage_key, header (members context)) ∷ []
+
+-- The context that is extracted: the given one with the baggage that the value of `baggage` is read
+-- as, also where that has no members; without such a value, the given one.
+abbrev pub baggage_extracted : ContextRecord → TextMap → ContextRecord
+baggage_extracted context texts =
+    option_map_or (λ text. with_baggage context (read_baggage text)) (get texts baggage_key) context
