@@ -1,3 +1,4 @@
+pub mod TraceContext
 pub mod TraceParent
 pub mod BaggageReading
 pub mod BaggagePropagator

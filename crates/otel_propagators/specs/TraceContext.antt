@@ -1,0 +1,84 @@
+-- What the propagator of trace contexts sets for a context, and which context it extracts
+-- [W3C trace-context-2, "traceparent Header" and "tracestate Header"].
+use Rattle.std.specs.Prelude.{ℕ, ◌==◌, Bool, true, ◌&&◌, not, List, [], ◌∷◌, map}
+use Rattle.std.specs.Prelude.{Option, Some, None, if◌then◌else◌, codes}
+use Rattle.std.specs.Option.{option_and_then, option_map_or}
+use Rattle.otel_ids.specs.TraceState.{Pair, header}
+use Rattle.otel_ids.specs.TraceStateError.{Fault}
+use Rattle.otel_ids.specs.Reading.{fault_of, members, pieces, pair_of}
+use Rattle.otel_ids.specs.SpanContext.{SpanContextRecord}
+use Rattle.otel_context.specs.Context.{ContextRecord, span_context, with_remote_span_context}
+use Rattle.opentelemetry.specs.Carrier.{Pairs, TextMap, at}
+use Rattle.otel_propagators.specs.TraceParent.{Parent, parent_with, parent_text, parent_of}
+
+-- [W3C trace-context-2, "Header name"]
+abbrev pub traceparent_key : List ℕ
+traceparent_key = codes "traceparent"
+
+abbrev pub tracestate_key : List ℕ
+tracestate_key = codes "tracestate"
+
+-- the fields, in the order in which they are set
+abbrev pub trace_fields : List (List ℕ)
+trace_fields = traceparent_key ∷ tracestate_key ∷ []
+
+-- ---- injection
+
+-- what `traceparent` says of a span context: all eight bits of its flags
+abbrev pub parent : SpanContextRecord → Parent
+parent context = parent_with context.trace_id context.span_id context.trace_flags
+
+-- whether neither id is 0
+abbrev pub is_valid : SpanContextRecord → Bool
+is_valid context = not (context.trace_id == 0) && not (context.span_id == 0)
+
+-- the pairs of a span context: `traceparent`, and then `tracestate` with the header of its trace
+-- state, also where that is empty; none where the span context isn't valid
+abbrev pub span_context_pairs : SpanContextRecord → Pairs
+span_context_pairs context =
+    if is_valid context
+    then (traceparent_key, parent_text (parent context))
+    ∷ (tracestate_key, header context.trace_state) ∷ []
+    else []
+
+-- the pairs of a context: those of its span context
+abbrev pub trace_pairs : ContextRecord → Pairs
+trace_pairs context = span_context_pairs (span_context context)
+
+-- ---- extraction
+
+abbrev pub reading_by : Option Fault → List ℕ → Option (List Pair)
+reading_by None text = Some (map pair_of (members (pieces text)))
+reading_by (Some fault) text = None
+
+abbrev pub reading : List ℕ → Option (List Pair)
+reading text = reading_by (fault_of text) text
+
+-- the trace state that the value of `tracestate` reads as, and the empty one where the value is
+-- absent or has no reading: a faulty `tracestate` takes nothing from the `traceparent` beside it
+-- [W3C trace-context-2, "Versioning of traceparent" and "list": a parser that fails discards the
+-- `tracestate` alone]
+abbrev pub state_of : Option (List ℕ) → List Pair
+state_of value = option_map_or (λ pairs. pairs) (option_and_then reading value) []
+
+-- the remote span context of these ids and flags, with that trace state
+abbrev pub remote : Parent → List Pair → SpanContextRecord
+remote p state = record {
+  trace_id = p.trace_id;
+  span_id = p.span_id;
+  trace_flags = p.flags;
+  is_remote = true;
+  trace_state = state;
+}
+
+-- the context with the remote span context of the values of `traceparent` and `tracestate`, and the
+-- context itself where `traceparent` is absent or isn't of the form
+abbrev pub extracted_by : ContextRecord → Option (List ℕ) → Option (List ℕ) → ContextRecord
+extracted_by context traceparent tracestate =
+    option_map_or (λ p. with_remote_span_context context (remote p (state_of tracestate)))
+    (option_and_then parent_of traceparent) context
+
+-- the context that is extracted of a context and a carrier's texts
+abbrev pub trace_extracted : ContextRecord → TextMap → ContextRecord
+trace_extracted context texts =
+    extracted_by context (at texts traceparent_key) (at texts tracestate_key)
