@@ -8,7 +8,7 @@ use Rattle.std.specs.Prelude.{position, option_map, if◌then◌else◌}
 use Rattle.std.specs.List.{IsDistinct, AllByRecursion, list_any}
 use Rattle.std.specs.Map.{keys_of, lookup, remove_entry}
 use Rattle.std.specs.Option.{option_map_or}
-use Rattle.std.specs.Str.{bytes_eq}
+use Rattle.std.specs.Str.{bytes_eq, is_utf8}
 use Rattle.std.proofs.lemmas.Option.{slice_get-map, get_or_from_slice_get}
 use Rattle.std.proofs.lemmas.Bool.{cases_Bool, and_parts, cond-true, cond-false, or_left, leb-true}
 use Rattle.std.proofs.lemmas.Bool.{ltb-true}
@@ -235,7 +235,7 @@ key_held (o ∷ ms) key old valid h =
 
 -- ---- what is accepted is a baggage again
 
-module _ (ms : List Member) (m : Member) (held : IsBaggage ms) (cut : IsTrimmed m.metadata) (distinct : AreDistinct (put ms m)) (ok : accepts ms m ≡ true) where
+module _ (ms : List Member) (m : Member) (held : IsBaggage ms) (text : is_utf8 m.value ≡ true) (cut : IsTrimmed m.metadata) (distinct : AreDistinct (put ms m)) (ok : accepts ms m ≡ true) where
   abbrev may_stand : Bool
   may_stand = is_key m.key && nat_lt (length ms) max_key_value_pairs
 
@@ -256,7 +256,7 @@ module _ (ms : List Member) (m : Member) (held : IsBaggage ms) (cut : IsTrimmed 
       record {
         few = k.1;
         distinct = distinct;
-        valid = valid_put ms m held.distinct held.valid (k.0, cut);
+        valid = valid_put ms m held.distinct held.valid (k.0, text, cut);
         light = leb-true (weight (put ms m)) max_len_of_all_pairs parts.0;
       }
 
@@ -377,16 +377,16 @@ pub record Inserted (old new : List Member) (m : Member) (n : ℕ) : Type 0 wher
   pub accepted : accepts old m ≡ true
   pub list : new ≡ insert old m
 
-pub inserted : (es fs : List Entry) (e : Entry) (n : ℕ) → IsBaggage (entry_members es) → IsTrimmed e.1.1 → IsDistinct bytes_eq (keys_of fs) → fs ≡ insert_entry bytes_eq es e.0 e.1
+pub inserted : (es fs : List Entry) (e : Entry) (n : ℕ) → IsBaggage (entry_members es) → is_utf8 e.1.0 ≡ true → IsTrimmed e.1.1 → IsDistinct bytes_eq (keys_of fs) → fs ≡ insert_entry bytes_eq es e.0 e.1
     → weight_after (entry_members es) (entry_member e) ≡ Some n → Inserted (entry_members es) (entry_members fs) (entry_member e) n
-inserted es fs e n held cut distinct is h =
+inserted es fs e n held text cut distinct is h =
     let ms = entry_members es in
     let m = entry_member e in
     let r = after_some ms m n h in
     let i : entry_members fs ≡ put ms m = ap entry_members is ∙ put_is es e (subst (IsDistinct bytes_eq) (keys_are es) held.distinct) in
     let apart : AreDistinct (put ms m) = subst AreDistinct i (subst (IsDistinct bytes_eq) (sym (keys_are fs)) distinct) in
     record {
-      baggage = subst IsBaggage (sym i) (put_baggage ms m held cut apart r.0);
+      baggage = subst IsBaggage (sym i) (put_baggage ms m held text cut apart r.0);
       sum = r.1 ∙ ap weight (sym i);
       accepted = r.0;
       list = i ∙ sym (cond-true (accepts ms m) (put ms m) ms r.0);

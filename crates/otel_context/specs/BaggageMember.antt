@@ -1,7 +1,7 @@
 -- What a baggage is a list of: a key with its value and its metadata.
 use Rattle.std.specs.Prelude.{◌≡◌, ℕ, ◌+◌, Bool, true, List, length, refl}
 use Rattle.std.specs.Coded.{Coded, code_by, coded×, coded_ℕ, coded_list}
-use Rattle.std.specs.Str.{bytes_eq}
+use Rattle.std.specs.Str.{bytes_eq, is_utf8}
 use Rattle.otel_context.specs.BaggageText.{is_key, IsTrimmed}
 
 -- A key, its value and its metadata, three texts (W3C baggage, `list-member`; the Rust crate's
@@ -23,9 +23,11 @@ has_key k m = bytes_eq k m.key
 abbrev pub weight_of : Member → ℕ
 weight_of m = length m.key + (length m.value + length m.metadata)
 
--- The key is valid, and the metadata has no white space at its ends.
+-- The key is valid, the value is UTF-8, as each text in Rust is, and the metadata has no white
+-- space at its ends.
 abbrev pub IsValidMember : Member → Type 0
-IsValidMember m = (is_key m.key ≡ true) × IsTrimmed m.metadata
+IsValidMember m =
+    (is_key m.key ≡ true) × (is_utf8 m.value ≡ true) × IsTrimmed m.metadata
 
 -- A code of members, by which a model's value may hold them (own).
 abbrev pub member_code : Coded Member

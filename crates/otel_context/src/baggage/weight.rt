@@ -1,6 +1,7 @@
 //! How many bytes a baggage has, and whether a member is accepted.
 ghost use Rattle.std.specs.Prelude.{◌≡◌, ◌+◌, ◌≤◌, length, ◌&&◌, nat_le, nat_lt, Some, None};
-ghost use Rattle.std.specs.Prelude.{if◌then◌else◌};
+ghost use Rattle.std.specs.Prelude.{if◌then◌else◌, true};
+ghost use Rattle.std.specs.Str.{is_utf8};
 ghost use Rattle.otel_context.specs.Baggage.{IsBaggage, max_key_value_pairs, max_len_of_all_pairs};
 ghost use Rattle.otel_context.specs.Baggage.{weight};
 ghost use Rattle.otel_context.specs.BaggageMember.{member_of, weight_of};
@@ -83,9 +84,11 @@ pub(super) fn weight_after(
     requires sum { total ≡ weight (entry_members held.now.entries) }
     ensures weight { let m = member_of key.now value.now metadata.now in
         result ≡ weight_after (entry_members held.now.entries) m }
+    ensures utf8 { is_utf8 value.now ≡ true }
     ensures trimmed { IsTrimmed metadata.now }
 {
-    let text = metadata.as_str();
+    let text = value.as_str();
+    let properties = metadata.as_str();
     let others = weight_of_others(held, total, key)?;
-    weight_with(others, key.as_str(), value.as_str(), text)
+    weight_with(others, key.as_str(), text, properties)
 }

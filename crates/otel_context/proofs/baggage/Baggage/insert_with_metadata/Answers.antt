@@ -8,7 +8,7 @@ use Rattle.otel_context.proofs.baggage.Baggage.insert_with_metadata.Goals as goa
 
 pub invariant_of-self-2 : goal.invariant_of-self-2
 invariant_of-self-2 c =
-    let out = inserted c.self.inside.inner.entries c.insert.new.self.entries (c.args.key, (c.args.value, c.args.metadata)) c.in-Some.total c.self.invariant.0 c.weight_after.ensures.trimmed c.insert.ensures.unique c.in_ok-old.ensures.entries (sym c.weight_after.ensures.weight ∙ c.in-Some.is) in
+    let out = inserted c.self.inside.inner.entries c.insert.new.self.entries (c.args.key, (c.args.value, c.args.metadata)) c.in-Some.total c.self.invariant.0 c.weight_after.ensures.utf8 c.weight_after.ensures.trimmed c.insert.ensures.unique c.in_ok-old.ensures.entries (sym c.weight_after.ensures.weight ∙ c.in-Some.is) in
     (out.baggage, out.sum)
 
 pub returns-in_err-old : goal.returns-in_err-old
@@ -18,7 +18,7 @@ returns-in_err-old c =
 
 pub returns : goal.returns
 returns c =
-    let out = inserted c.self.inside.inner.entries c.insert.new.self.entries (c.args.key, (c.args.value, c.args.metadata)) c.in-Some.total c.self.invariant.0 c.weight_after.ensures.trimmed c.insert.ensures.unique c.in_ok-old.ensures.entries (sym c.weight_after.ensures.weight ∙ c.in-Some.is) in
+    let out = inserted c.self.inside.inner.entries c.insert.new.self.entries (c.args.key, (c.args.value, c.args.metadata)) c.in-Some.total c.self.invariant.0 c.weight_after.ensures.utf8 c.weight_after.ensures.trimmed c.insert.ensures.unique c.in_ok-old.ensures.entries (sym c.weight_after.ensures.weight ∙ c.in-Some.is) in
     let ms = entry_members c.self.inside.inner.entries in
     let m = member_of c.args.key c.args.value c.args.metadata in
     record {
