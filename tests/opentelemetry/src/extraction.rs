@@ -1,16 +1,15 @@
-//! Extraction, fields and joined composites.
-use crate::members::{RefusingMember, assert_held, stamps_of};
+//! Extraction and fields.
+use crate::members::{
+    EntryCopier, RefusingMember, assert_fields, assert_held, entry, map_of, stamps_of, with_text,
+};
 use opentelemetry::context::{Context, ContextStack};
-use opentelemetry::logs::AnyValue;
 use opentelemetry::propagation::text_map_propagator::FieldIter;
 use opentelemetry::propagation::{
     Extractor, Injector, PropagationError, TextMapCompositePropagator, TextMapPropagator,
 };
 use opentelemetry::trace::noop::NoopTextMapPropagator;
-use opentelemetry::{Key, StringValue};
 use std::alloc::{AllocError, Global};
 use std::collections::HashMap;
-use std::process::Abort;
 use std::test::Fail;
 
 /// Extracts an entry: the carrier's text under a key, where there is one.
@@ -61,52 +60,6 @@ impl TextMapPropagator for TextReader {
     }
 }
 
-/// Extracts a copy of one entry under another name, where it is a text.
-#[derive(Drop)]
-struct EntryCopier {
-    from: &'static str,
-    to: &'static str,
-}
-
-impl TextMapPropagator for EntryCopier {
-    ghost use Rattle.std.specs.Prelude.{[], false};
-    ghost use Rattle.std.specs.Option.{option_map_or};
-    ghost use Rattle.otel_context.specs.Context.{get, with_value};
-
-    ghost pairs = { λ _ _. [] };
-
-    ghost extracted = { λ m context _.
-        option_map_or (λ t. with_value context m.to.now t) (get context m.from.now) context };
-
-    ghost field_names = { λ _. [] };
-
-    ghost may_refuse = { λ _. false };
-
-    fn inject_context(
-        &self,
-        _context: &Context,
-        _injector: &mut dyn Injector,
-    ) -> Result<(), PropagationError> {
-        Ok(())
-    }
-
-    fn extract_with_context(
-        &self,
-        alloc: Global,
-        context: &Context,
-        _extractor: &dyn Extractor,
-    ) -> Result<Context, PropagationError> {
-        match context.get(self.from) {
-            Some(value) => Ok(context.with_value(alloc, Key::from(self.to), value.clone()?)?),
-            None => Ok(context.clone()?),
-        }
-    }
-
-    fn fields(&self) -> FieldIter<'_> {
-        FieldIter::new(&[])
-    }
-}
-
 /// A carrier of two values under each key.
 #[derive(Drop)]
 struct Doubled {
@@ -132,54 +85,6 @@ impl Extractor for Doubled {
             None => Ok(None),
         }
     }
-}
-
-fn with_text(
-    alloc: Global,
-    context: &Context,
-    entry: &'static str,
-    text: &str,
-) -> Result<Context, AllocError> {
-    let text = StringValue::from(String::from_str(alloc, text)?);
-    context.with_value(alloc, Key::from(entry), AnyValue::String(text))
-}
-
-/// The text of an entry, or `none`.
-fn entry<'a>(context: &'a Context, name: &str) -> &'a str {
-    match context.get(name) {
-        Some(AnyValue::String(text)) => text.as_str(),
-        _ => "none",
-    }
-}
-
-/// A map of these texts, put in directly.
-fn map_of(alloc: Global, pairs: &[(&str, &str)]) -> Result<HashMap<String, String>, AllocError> {
-    let mut texts: HashMap<String, String> = HashMap::new(alloc);
-    for (key, value) in pairs {
-        texts.insert(
-            String::from_str(alloc, key)?,
-            String::from_str(alloc, value)?,
-        )?;
-    }
-    Ok(texts)
-}
-
-/// The composite of one member that sets these pairs.
-fn composite_of(
-    alloc: Global,
-    pairs: &[(&str, &str)],
-) -> Result<TextMapCompositePropagator, AllocError> {
-    let mut members: Vec<Box<dyn TextMapPropagator>> = Vec::new(alloc);
-    members.push(Box::new(alloc, stamps_of(alloc, pairs)?)?)?;
-    TextMapCompositePropagator::new(alloc, members)
-}
-
-fn assert_fields(rt: &impl Abort, composite: &TextMapCompositePropagator, wanted: &[&str]) {
-    let mut fields = composite.fields();
-    for name in wanted {
-        assert_eq!(rt; fields.next(), Some(*name));
-    }
-    assert_eq!(rt; fields.next(), None);
 }
 
 #[test]
@@ -341,38 +246,6 @@ fn fields_stand_once_in_order_of_first_appearance(rt: HostRuntime) -> Result<(),
     members.push(Box::new(alloc, stamps_of(alloc, &[("b", "")])?)?)?;
     let composite = TextMapCompositePropagator::new(alloc, members)?;
     assert_fields(&rt, &composite, &["b", "a", "c"]);
-    Ok(())
-}
-
-const FIRST: &[(&str, &str)] = &[("b", "1"), ("a", "1")];
-
-const SECOND: &[(&str, &str)] = &[("a", "2"), ("c", "2")];
-
-const THIRD: &[(&str, &str)] = &[("c", "3"), ("b", "3")];
-
-#[test]
-fn joins_have_the_members_of_both_in_order(rt: HostRuntime) -> Result<(), Fail> {
-    let alloc = rt.alloc();
-    let left = composite_of(alloc, FIRST)?
-        .join(alloc, composite_of(alloc, SECOND)?)?
-        .join(alloc, composite_of(alloc, THIRD)?)?;
-    let inner = composite_of(alloc, SECOND)?.join(alloc, composite_of(alloc, THIRD)?)?;
-    let right = composite_of(alloc, FIRST)?.join(alloc, inner)?;
-    for composite in [left, right] {
-        let mut texts = map_of(alloc, &[])?;
-        assert!(rt;
-            composite
-                .inject_context(&Context::new(), &mut texts)
-                .is_ok()
-        );
-        assert_held(&rt, &texts, &[("a", "2"), ("b", "3"), ("c", "3")]);
-        assert_fields(&rt, &composite, &["b", "a", "c"]);
-    }
-    let turned = composite_of(alloc, THIRD)?.join(alloc, composite_of(alloc, FIRST)?)?;
-    let mut texts = map_of(alloc, &[])?;
-    assert!(rt; turned.inject_context(&Context::new(), &mut texts).is_ok());
-    assert_held(&rt, &texts, &[("a", "1"), ("b", "1"), ("c", "3")]);
-    assert_fields(&rt, &turned, &["c", "b", "a"]);
     Ok(())
 }
 

@@ -4,6 +4,7 @@
 mod builders;
 mod extraction;
 mod injection;
+mod joins;
 mod logs;
 mod members;
 mod noop;

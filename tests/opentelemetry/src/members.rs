@@ -4,8 +4,12 @@ ghost use Rattle.opentelemetry.specs.Carrier.{Sets};
 ghost use Rattle.opentelemetry.specs.Refusal.{is_refused};
 
 use opentelemetry::context::Context;
+use opentelemetry::logs::AnyValue;
 use opentelemetry::propagation::text_map_propagator::FieldIter;
-use opentelemetry::propagation::{Extractor, Injector, PropagationError, TextMapPropagator};
+use opentelemetry::propagation::{
+    Extractor, Injector, PropagationError, TextMapCompositePropagator, TextMapPropagator,
+};
+use opentelemetry::{Key, StringValue};
 use std::alloc::{AllocError, Global};
 use std::collections::HashMap;
 use std::process::Abort;
@@ -108,6 +112,52 @@ impl TextMapPropagator for RefusingMember {
     }
 }
 
+/// Extracts a copy of one entry under another name, where it is a text.
+#[derive(Drop)]
+pub struct EntryCopier {
+    pub from: &'static str,
+    pub to: &'static str,
+}
+
+impl TextMapPropagator for EntryCopier {
+    ghost use Rattle.std.specs.Prelude.{[], false};
+    ghost use Rattle.std.specs.Option.{option_map_or};
+    ghost use Rattle.otel_context.specs.Context.{get, with_value};
+
+    ghost pairs = { λ _ _. [] };
+
+    ghost extracted = { λ m context _.
+        option_map_or (λ t. with_value context m.to.now t) (get context m.from.now) context };
+
+    ghost field_names = { λ _. [] };
+
+    ghost may_refuse = { λ _. false };
+
+    fn inject_context(
+        &self,
+        _context: &Context,
+        _injector: &mut dyn Injector,
+    ) -> Result<(), PropagationError> {
+        Ok(())
+    }
+
+    fn extract_with_context(
+        &self,
+        alloc: Global,
+        context: &Context,
+        _extractor: &dyn Extractor,
+    ) -> Result<Context, PropagationError> {
+        match context.get(self.from) {
+            Some(value) => Ok(context.with_value(alloc, Key::from(self.to), value.clone()?)?),
+            None => Ok(context.clone()?),
+        }
+    }
+
+    fn fields(&self) -> FieldIter<'_> {
+        FieldIter::new(&[])
+    }
+}
+
 /// A carrier that refuses one text, after so many others. Its `reserve` does nothing.
 #[derive(Drop)]
 pub struct CarrierRefusingOne {
@@ -189,4 +239,54 @@ pub fn assert_held(rt: &impl Abort, texts: &HashMap<String, String>, pairs: &[(&
     for (key, value) in pairs {
         assert_eq!(rt; held(texts, key), *value, "{key}");
     }
+}
+
+/// The context with a text as an entry.
+pub fn with_text(
+    alloc: Global,
+    context: &Context,
+    entry: &'static str,
+    text: &str,
+) -> Result<Context, AllocError> {
+    let text = StringValue::from(String::from_str(alloc, text)?);
+    context.with_value(alloc, Key::from(entry), AnyValue::String(text))
+}
+
+/// The text of an entry, or `none`.
+pub fn entry<'a>(context: &'a Context, name: &str) -> &'a str {
+    match context.get(name) {
+        Some(AnyValue::String(text)) => text.as_str(),
+        _ => "none",
+    }
+}
+
+/// A map of these texts, put in directly.
+pub fn map_of(alloc: Global, pairs: &[(&str, &str)]) -> Result<HashMap<String, String>, AllocError> {
+    let mut texts: HashMap<String, String> = HashMap::new(alloc);
+    for (key, value) in pairs {
+        texts.insert(
+            String::from_str(alloc, key)?,
+            String::from_str(alloc, value)?,
+        )?;
+    }
+    Ok(texts)
+}
+
+/// The composite of one member that sets these pairs.
+pub fn composite_of(
+    alloc: Global,
+    pairs: &[(&str, &str)],
+) -> Result<TextMapCompositePropagator, AllocError> {
+    let mut members: Vec<Box<dyn TextMapPropagator>> = Vec::new(alloc);
+    members.push(Box::new(alloc, stamps_of(alloc, pairs)?)?)?;
+    TextMapCompositePropagator::new(alloc, members)
+}
+
+/// Asserts the names of a composite's fields, in order.
+pub fn assert_fields(rt: &impl Abort, composite: &TextMapCompositePropagator, wanted: &[&str]) {
+    let mut fields = composite.fields();
+    for name in wanted {
+        assert_eq!(rt; fields.next(), Some(*name));
+    }
+    assert_eq!(rt; fields.next(), None);
 }

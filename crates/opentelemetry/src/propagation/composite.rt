@@ -185,8 +185,10 @@ impl TextMapCompositePropagator {
             → IfOk result (λ given. given ≡ context.now) }
     {
         let mut given = context.clone()?;
-        for member in &self.members {
+        let mut rest = self.members.as_slice();
+        while let Some((member, others)) = rest.split_first() {
             given = extract_member(member, alloc, &given, extractor)?;
+            rest = others;
         }
         Ok(given)
     }
