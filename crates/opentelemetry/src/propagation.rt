@@ -91,7 +91,8 @@ pub trait Extractor {
     ///
     /// `AllocError` where a request for memory fails. Nothing changes.
     fn get_all(&self, alloc: Global, key: &str) -> Result<Option<Vec<&str>>, AllocError>
-        ensures { IfOk result (λ found. option_map (λ values. map (λ v. v.now) values.items) found
+        ensures { IfOk result (λ found.
+            option_map (λ values. map (λ v. v.now) values.items) found
             ≡ get_all (held self.now) key.now) }
     {
         match self.get(alloc, key)? {

@@ -5,7 +5,7 @@ use Rattle.std.specs.Ordering.{nat_cmp, eq_by_cmp}
 use Rattle.std.specs.Cmp.{nat_cmp_total}
 use Rattle.std.specs.FinMap as map
 use Rattle.otel_context.specs.Spans.{SpansState, get, find, replace, replace_found}
-use Rattle.otel_context.specs.SpanTold.{after_effect, BecomesOne, OthersStay}
+use Rattle.otel_context.specs.SpanCalls.{after_effect, BecomesOne, OthersStay}
 use Rattle.otel_context.proofs.SpansLemmas.{equal_of}
 
 module _ {S : Type 0} where
@@ -26,20 +26,20 @@ module _ {S : Type 0} where
   replace_found-same t None s there = refl
 
   -- what was written is an effect on what was found
-  pub told : (effect : S → S) (t : SpansState S) (number : Option ℕ) (s w : S) (after : SpansState S)
+  pub changed : (effect : S → S) (t : SpansState S) (number : Option ℕ) (s w : S) (after : SpansState S)
       → Some s ≡ find t number → after ≡ replace_found t number w → w ≡ effect s → after ≡ after_effect effect t number
-  told effect t number s w after there written is = rw (← there) (written ∙ ap (replace_found t number) is)
+  changed effect t number s w after there written is = rw (← there) (written ∙ ap (replace_found t number) is)
 
   -- the same of a call that may report an error
-  pub told-ok : {A E : Type 0} (r : Result A E) (effect : S → S) (t : SpansState S) (number : Option ℕ) (s w : S) (after : SpansState S)
+  pub changed-ok : {A E : Type 0} (r : Result A E) (effect : S → S) (t : SpansState S) (number : Option ℕ) (s w : S) (after : SpansState S)
       → Some s ≡ find t number → after ≡ replace_found t number w → OnOk r (w ≡ effect s) → OnOk r (after ≡ after_effect effect t number)
-  told-ok (Ok x) effect t number s w after there written is = told effect t number s w after there written is
-  told-ok (Err e) effect t number s w after there written is = tt
+  changed-ok (Ok x) effect t number s w after there written is = changed effect t number s w after there written is
+  changed-ok (Err e) effect t number s w after there written is = tt
 
-  pub told-err : {A E : Type 0} (r : Result A E) (t : SpansState S) (number : Option ℕ) (s w : S) (after : SpansState S)
+  pub changed-err : {A E : Type 0} (r : Result A E) (t : SpansState S) (number : Option ℕ) (s w : S) (after : SpansState S)
       → Some s ≡ find t number → after ≡ replace_found t number w → OnErr r (w ≡ s) → OnErr r (after ≡ t)
-  told-err (Ok x) t number s w after there written is = tt
-  told-err (Err e) t number s w after there written is = written ∙ ap (replace_found t number) is ∙ replace_found-same t number s (sym there)
+  changed-err (Ok x) t number s w after there written is = tt
+  changed-err (Err e) t number s w after there written is = written ∙ ap (replace_found t number) is ∙ replace_found-same t number s (sym there)
 
   becomes : (R : S → S → Type 0) (t : SpansState S) (number : Option ℕ) (s w : S) (after : SpansState S)
       → Some s ≡ find t number → after ≡ replace_found t number w → R s w → BecomesOne R t number after

@@ -7,7 +7,7 @@ use Rattle.otel_context.specs.declared.span_ref.SpanRef.{SpanRef}
 use Rattle.otel_context.specs.Context.{ContextRecord, span_context, span_number}
 use Rattle.otel_context.specs.SpanRef as reference
 use Rattle.otel_context.specs.SpanRef.{IsSameReference, table_of, number_of}
-use Rattle.otel_context.specs.SpanTold.{OthersStay}
+use Rattle.otel_context.specs.SpanCalls.{OthersStay}
 use Rattle.otel_context.specs.Spans.{SpansState}
 use Rattle.otel_context.specs.Stack.{StackState, Attaches}
 

@@ -22,6 +22,6 @@ header_example : header (member_of (codes "k") (codes "a b") (codes "m=1")
     ∷ member_of (codes "l") (codes "2") [] ∷ []) ≡ codes "k=a%20b;m=1,l=2"
 header_example = refl
 
--- The most bytes of a header, 3 * 8192 - 1 (own).
+-- The most bytes of a header, 3 * 8192 - 1. Not in the Rust crate.
 abbrev pub max_len_of_header : ℕ
 max_len_of_header = 24575

@@ -9,13 +9,15 @@ use Rattle.otel_context.specs.BaggageHeader.{header, max_len_of_header}
 abbrev pub HasNoComma : Member → Type 0
 HasNoComma m = list_all (λ b. not (b == 44)) m.metadata ≡ true
 
--- Baggages of equal headers have equal members, where no metadata holds a comma (own).
+-- Baggages of equal headers have equal members, where no metadata holds a comma. Not in
+-- the Rust crate.
 -- That is needed: `a` with the value `1` and the metadata `x,b=2` has the header `a=1;x,b=2`,
 -- and so has `a` with `1` and `x`, followed by `b` with `2`.
 abbrev pub HeaderDetermines : Type 0
 HeaderDetermines = (xs ys : List Member) → IsBaggage xs → IsBaggage ys
     → All HasNoComma xs → All HasNoComma ys → header xs ≡ header ys → xs ≡ ys
 
--- No header is longer than that (own): `k` with a value of 8191 spaces has as many bytes.
+-- No header is longer than that: `k` with a value of 8191 spaces has as many bytes. Not in the Rust
+-- crate.
 abbrev pub HeaderIsShort : Type 0
 HeaderIsShort = (ms : List Member) → IsBaggage ms → length (header ms) ≤ max_len_of_header

@@ -29,7 +29,7 @@ abbrev pub IsValidMember : Member → Type 0
 IsValidMember m =
     (is_key m.key ≡ true) × (is_utf8 m.value ≡ true) × IsTrimmed m.metadata
 
--- A code of members, by which a model's value may hold them (own).
+-- A code of members, by which a model's value may hold them. Not in the Rust crate.
 abbrev pub member_code : Coded Member
 member_code =
     code_by (List ℕ × (List ℕ × List ℕ))

@@ -2,7 +2,7 @@
 use Rattle.std.specs.Prelude.{◌≡◌, ℕ, Option}
 use Rattle.otel_ids.specs.SpanContext.{SpanContextRecord}
 use Rattle.otel_context.specs.Spans.{SpansState, find}
-use Rattle.otel_context.specs.SpanTold as told
+use Rattle.otel_context.specs.SpanCalls as calls
 use Rattle.otel_context.specs.declared.span_ref.SpanRef.{SpanRef}
 
 module _ {S : Type 0} where
@@ -24,12 +24,12 @@ module _ {S : Type 0} where
 
   -- the table after an effect on the span, where the table has it
   abbrev pub table_after : (S → S) → SpanRef S → SpansState S
-  table_after effect reference = told.after_effect effect (table_of reference) (number_of reference)
+  table_after effect reference = calls.after_effect effect (table_of reference) (number_of reference)
 
   -- the span became one that it is in relation with, where the table has it; else the table is as
   -- it was
   abbrev pub Becomes : (S → S → Type 0) → SpanRef S → SpanRef S → Type 0
-  Becomes Relation old new = told.BecomesOne Relation (table_of old) (number_of old) (table_of new)
+  Becomes Relation old new = calls.BecomesOne Relation (table_of old) (number_of old) (table_of new)
 
   -- a reference into the same table, with the same number and span context
   pub record IsSameReference (old new : SpanRef S) : Type 0 where

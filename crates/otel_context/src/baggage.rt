@@ -213,7 +213,8 @@ impl Baggage {
     ///
     /// `AllocError` at the first request for memory that fails. All that was inserted is dropped.
     pub fn from_key_values(alloc: Global, attributes: Vec<KeyValue>) -> Result<Baggage, AllocError>
-        ensures { IfOk result (λ b. b ≡ from_members (map_list from_key_value attributes.items)) }
+        ensures { IfOk result (λ b.
+            b ≡ from_members (map_list from_key_value attributes.items)) }
     {
         let mut baggage = Baggage::new(alloc);
         for attribute in attributes {

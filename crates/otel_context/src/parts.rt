@@ -129,7 +129,8 @@ impl Parts {
 
     /// The span context of the active span.
     pub fn span_context(&self) -> Option<&SpanContext>
-        ensures { option_map (λ s. s.now) result ≡ option_map (λ span. span.context) self.now.span }
+        ensures { option_map (λ s. s.now) result
+            ≡ option_map (λ span. span.context) self.now.span }
     {
         match &self.span {
             Some(span) => Some(&span.as_ref().context),

@@ -1,4 +1,4 @@
-//! What a span is told while it runs.
+//! What a span records while it runs.
 ghost use Rattle.std.specs.Prelude.{◌≡◌, OnOk, OnErr};
 ghost use Rattle.otel_base.specs.View.{attribute_of};
 
@@ -8,7 +8,7 @@ use otel_ids::SpanContext;
 use std::alloc::{AllocError, Global};
 use std::fmt::Display;
 
-/// A piece of work in a trace: what happens to it is told to its span while it runs.
+/// A piece of work in a trace, which records what happens to it while it runs.
 ///
 /// Who writes a span type names, by ghost members, the effect of each writing call as a function of
 /// the span and of what the arguments mean: `after_event` of name, time and attributes,
@@ -114,7 +114,7 @@ pub trait Span: Drop {
     fn span_context(&self) -> &SpanContext
         ensures { result.now ≡ context_of self.now };
 
-    /// Whether the span still takes what it is told.
+    /// Whether the span still records what the calls give it.
     fn is_recording(&self) -> bool
         ensures { result ≡ records self.now };
 

@@ -2,7 +2,7 @@
 ghost use Rattle.std.specs.Prelude.{◌≡◌, false, None, IsOk, OnOk, OnErr};
 ghost use Rattle.std.specs.Option.{option_map_or};
 ghost use Rattle.otel_base.specs.View.{attribute_of};
-ghost use Rattle.otel_context.specs.SpanTold.{OthersStay, OthersStay-prop};
+ghost use Rattle.otel_context.specs.SpanCalls.{OthersStay, OthersStay-prop};
 
 use crate::span::Span;
 use crate::spans::Spans;
@@ -210,7 +210,7 @@ impl<'a, S: Span> SpanRef<'a, S> {
     /// Sets how it went.
     pub fn set_status(&mut self, status: Status)
         ensures same { IsSameReference self.old self.new }
-        ensures told { table_of self.new ≡ table_after (λ s. S.after_status s status) self.old }
+        ensures table { table_of self.new ≡ table_after (λ s. S.after_status s status) self.old }
     {
         let spans = &mut *self.spans;
         match spans.find_mut(self.number) {
@@ -222,7 +222,7 @@ impl<'a, S: Span> SpanRef<'a, S> {
     /// Gives the span another name.
     pub fn update_name(&mut self, name: StringValue)
         ensures same { IsSameReference self.old self.new }
-        ensures told { table_of self.new ≡ table_after (λ s. S.after_name s name) self.old }
+        ensures table { table_of self.new ≡ table_after (λ s. S.after_name s name) self.old }
     {
         let spans = &mut *self.spans;
         match spans.find_mut(self.number) {
@@ -234,7 +234,7 @@ impl<'a, S: Span> SpanRef<'a, S> {
     /// Ends the span at that moment, in nanoseconds since 1970.
     pub fn end_with_timestamp(&mut self, timestamp: u64)
         ensures same { IsSameReference self.old self.new }
-        ensures told { table_of self.new ≡ table_after (λ s. S.after_end s timestamp) self.old }
+        ensures table { table_of self.new ≡ table_after (λ s. S.after_end s timestamp) self.old }
     {
         let spans = &mut *self.spans;
         match spans.find_mut(self.number) {
@@ -246,7 +246,7 @@ impl<'a, S: Span> SpanRef<'a, S> {
     /// Ends the span now, the moment being handed in.
     pub fn end(&mut self, now: u64)
         ensures same { IsSameReference self.old self.new }
-        ensures told { table_of self.new ≡ table_after (λ s. S.after_end s now) self.old }
+        ensures table { table_of self.new ≡ table_after (λ s. S.after_end s now) self.old }
     {
         let spans = &mut *self.spans;
         match spans.find_mut(self.number) {

@@ -4,7 +4,7 @@ use Rattle.otel_base.specs.KeyValue.{Attribute}
 use Rattle.otel_base.specs.Value.{text}
 use Rattle.otel_context.specs.Context.{ContextRecord, span_number}
 use Rattle.otel_context.specs.Spans.{SpansState, insert}
-use Rattle.otel_context.specs.SpanTold.{after_effect}
+use Rattle.otel_context.specs.SpanCalls.{after_effect}
 
 -- the attribute that the caller sets: `http.request.method` is `GET`
 -- (OpenTelemetry semantic conventions, "HTTP")
@@ -13,20 +13,20 @@ method = (codes "http.request.method", text (codes "GET"))
 
 module _ {S : Type 0} (after_attribute : S → Attribute → S) where
   -- the table once the attribute is set on the span under the number
-  abbrev pub told : SpansState S → Option ℕ → SpansState S
-  told table number = after_effect (λ span. after_attribute span method) table number
+  abbrev pub set : SpansState S → Option ℕ → SpansState S
+  set table number = after_effect (λ span. after_attribute span method) table number
 
   -- the attribute was set on the context's span, and a child span was then put into the table
   pub record HasChild (old : SpansState S) (context : ContextRecord) (child : ℕ)
       (new : SpansState S) : Type 0 where
     pub span : S
-    pub number : child ≡ (told old (span_number context)).next_number
-    pub table : new ≡ insert (told old (span_number context)) span
+    pub number : child ≡ (set old (span_number context)).next_number
+    pub table : new ≡ insert (set old (span_number context)) span
 
   -- a span was put into the table, the attribute set on it, and then a child span put in
   pub record HasBoth (old : SpansState S) (parent child : ℕ) (new : SpansState S) : Type 0 where
     pub parent_span : S
     pub child_span : S
     pub parent_number : parent ≡ old.next_number
-    pub child_number : child ≡ (told (insert old parent_span) (Some parent)).next_number
-    pub table : new ≡ insert (told (insert old parent_span) (Some parent)) child_span
+    pub child_number : child ≡ (set (insert old parent_span) (Some parent)).next_number
+    pub table : new ≡ insert (set (insert old parent_span) (Some parent)) child_span

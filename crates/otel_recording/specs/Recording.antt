@@ -1,4 +1,4 @@
--- What a recording span was told, and what each call adds.
+-- What a recording span keeps, and what each call adds.
 use Rattle.std.specs.Prelude.{ℕ, Bool, true, false, ◌&&◌, not, List, [], ◌∷◌, ◌++◌}
 use Rattle.std.specs.Prelude.{Option, Some, None}
 use Rattle.otel_base.specs.KeyValue.{Attribute}
@@ -10,30 +10,30 @@ use Rattle.otel_context.specs.declared.status.Status.TheVariants.{Unset}
 use Rattle.otel_recording.specs.declared.recording_span.Effect.{Effect}
 use Rattle.otel_recording.specs.declared.recording_span.Effect.TheVariants as E
 
--- an event, an attribute or a link that the span was told
-pub data Told : Type 0 where
-  event : List ℕ → ℕ → List Attribute → Told
-  attribute : Attribute → Told
-  link : SpanContextRecord → List Attribute → Told
+-- an event, an attribute or a link that the span keeps
+pub data Kept : Type 0 where
+  event : List ℕ → ℕ → List Attribute → Kept
+  attribute : Attribute → Kept
+  link : SpanContextRecord → List Attribute → Kept
 
 -- what an effect means
-abbrev pub told : Effect → Told
-told (E.Event name timestamp attributes) = event name timestamp (attributes_of attributes)
-told (E.Attribute set) = attribute (attribute_of set)
-told (E.Link context attributes) = link context (attributes_of attributes)
+abbrev pub kept : Effect → Kept
+kept (E.Event name timestamp attributes) = event name timestamp (attributes_of attributes)
+kept (E.Attribute set) = attribute (attribute_of set)
+kept (E.Link context attributes) = link context (attributes_of attributes)
 
--- a recording span: its span context, its name, what it was told in order, its status, the moment of
+-- a recording span: its span context, its name, what it keeps in order, its status, the moment of
 -- its end, whether it records, and whether its next attribute stops it
 pub record Recorded : Type 0 where
   pub context : SpanContextRecord
   pub name : List ℕ
-  pub effects : List Told
+  pub effects : List Kept
   pub status : Status
   pub ended : Option ℕ
   pub recording : Bool
   pub stops_at_attribute : Bool
 
--- a span that was told nothing
+-- a span that keeps nothing yet
 abbrev pub new : SpanContextRecord → List ℕ → Recorded
 new context name = record {
   context = context;
@@ -45,8 +45,8 @@ new context name = record {
   stops_at_attribute = false;
 }
 
--- the same span, told one thing more
-abbrev pub with_effect : Recorded → Told → Recorded
+-- the same span, which keeps one thing more
+abbrev pub with_effect : Recorded → Kept → Recorded
 with_effect span effect = record span { effects = span.effects ++ effect ∷ [] }
 
 -- the same span with an event

@@ -1,4 +1,5 @@
-//! A span that records what it is told and a tracer of such spans, for tests and examples of what is built on spans.
+//! A span that keeps the list of what the calls give it and a tracer of such spans, for tests and
+//! examples of what is built on spans.
 #![tactic(auto)]
 
 mod recording_span;

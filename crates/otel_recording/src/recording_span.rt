@@ -1,4 +1,4 @@
-//! A span that keeps the list of what it was told.
+//! A span that keeps the list of what the calls give it.
 ghost use Rattle.std.specs.Prelude.{◌≡◌, OnOk, OnErr, map, refl, true, false};
 
 use otel_base::{KeyValue, StringValue};
@@ -7,7 +7,7 @@ use otel_ids::SpanContext;
 use std::alloc::{AllocError, Global};
 use std::marker::Model;
 
-/// One thing that a span was told.
+/// One thing that a span keeps.
 #[derive(Debug, Drop)]
 pub enum Effect {
     /// An event: its name, its moment in nanoseconds since 1970, its attributes.
@@ -18,10 +18,10 @@ pub enum Effect {
     Link(SpanContext, Vec<KeyValue>),
 }
 
-/// A span that keeps the list of what it was told, whether it records or not.
+/// A span that keeps the list of what the calls give it, whether it records or not.
 ///
 /// It records until it ends, or until its first attribute where [`RecordingSpan::stop_at_attribute`]
-/// was called. It can be told to let a call fail as if a request for memory failed.
+/// was called. It can be set to let a call fail as if a request for memory failed.
 #[derive(Drop)]
 pub struct RecordingSpan {
     context: SpanContext,
@@ -37,14 +37,14 @@ pub struct RecordingSpan {
 
 impl Model for RecordingSpan {
     ghost use Rattle.std.specs.Prelude.{map};
-    ghost use Rattle.otel_recording.specs.Recording.{Recorded, told};
+    ghost use Rattle.otel_recording.specs.Recording.{Recorded, kept};
 
     ghost Value = { Recorded };
 
     ghost view = { λ s. record {
       context = s.context;
       name = s.name;
-      effects = map told s.effects.items;
+      effects = map kept s.effects.items;
       status = s.status;
       ended = s.ended;
       recording = s.recording;
@@ -53,9 +53,9 @@ impl Model for RecordingSpan {
 }
 
 impl RecordingSpan {
-    ghost use Rattle.otel_recording.specs.Recording.{new, told, with_effect};
+    ghost use Rattle.otel_recording.specs.Recording.{new, kept, with_effect};
 
-    /// A span that was told nothing. Takes no memory.
+    /// A span that keeps nothing yet. Takes no memory.
     pub fn new(alloc: Global, context: SpanContext, name: StringValue) -> RecordingSpan
         ensures { result ≡ new context name }
     {
@@ -92,9 +92,9 @@ impl RecordingSpan {
         self.room = taken;
     }
 
-    /// What it was told, in order.
+    /// What it keeps, in order.
     pub fn effects(&self) -> &[Effect]
-        ensures { map told result.now ≡ self.now.effects }
+        ensures { map kept result.now ≡ self.now.effects }
     {
         self.effects.as_slice()
     }
@@ -122,7 +122,7 @@ impl RecordingSpan {
 
     // Keeps one thing more, where there is room.
     fn keep(&mut self, effect: Effect) -> Result<(), AllocError>
-        ensures ok { OnOk result (self.new ≡ with_effect self.old (told effect)) }
+        ensures ok { OnOk result (self.new ≡ with_effect self.old (kept effect)) }
         ensures err { OnErr result (self.new ≡ self.old) }
     {
         if self.room == 0 {

@@ -1,4 +1,4 @@
-//! A tracer of spans that record what they are told.
+//! A tracer of recording spans.
 ghost use Rattle.std.specs.Prelude.{◌≡◌};
 ghost use Rattle.otel_recording.specs.Tracer.{child_of};
 

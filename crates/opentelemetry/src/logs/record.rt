@@ -110,6 +110,6 @@ pub trait LogRecord: Drop {
         let _ = (trace_id, span_id, trace_flags);
     }
 
-    ghost may_be_untraced: { (told : Self) (trace_id span_id : ℕ) (trace_flags : Option ℕ)
-        → may_be_traced told trace_id span_id trace_flags told };
+    ghost may_be_untraced: { (log : Self) (trace_id span_id : ℕ) (trace_flags : Option ℕ)
+        → may_be_traced log trace_id span_id trace_flags log };
 }

@@ -1,10 +1,10 @@
-use Rattle.otel_context.proofs.SpanRefLemmas.{OthersStay-replaced, told}
+use Rattle.otel_context.proofs.SpanRefLemmas.{OthersStay-replaced, changed}
 use Rattle.otel_context.proofs.span_ref.SpanRef.end.Goals as goal
 
-pub returns-in-Some-clause-told : goal.returns-in-Some-clause-told
-returns-in-Some-clause-told g c =
+pub returns-in-Some-clause-table : goal.returns-in-Some-clause-table
+returns-in-Some-clause-table g c =
     let written = rw c.in-Some.is at (c.find_mut.follows.holds c.end.new.self) in
-    told _ c.args.self.now.spans.now c.args.self.now.number _ _ _ c.in-Some.ensures.value written c.end.ensures
+    changed _ c.args.self.now.spans.now c.args.self.now.number _ _ _ c.in-Some.ensures.value written c.end.ensures
 
 pub invariant_of-self : goal.invariant_of-self
 invariant_of-self g c =

@@ -1,4 +1,4 @@
--- What is told to the span that a context names, and the spans that it leaves alone.
+-- What a call changes of the span that a context names, and the spans that it leaves alone.
 use Rattle.std.specs.Prelude.{◌≡◌, ◌≢◌, ℕ, Option, Some, MatchOption}
 use Rattle.std.specs.Option.{option_map_or}
 use Rattle.std.specs.Coded.{Coded, Coded-set, coded_ℕ, coded_option, ×_prop, Π_prop, →_prop}
