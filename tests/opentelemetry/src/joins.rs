@@ -111,7 +111,10 @@ fn two_halves_extract_in_each_order(rt: HostRuntime) -> Result<(), Fail> {
         (TO_C, TO_B, ["1", "none", "none"], ["y", "z", "x"]),
         (TO_D, TO_B, ["1", "none", "none"], ["z", "x", "y"]),
     ] {
-        let joined = composite_of_half(alloc, first)?.join(alloc, composite_of_half(alloc, second)?)?;
+        let joined = composite_of_half(alloc, first)?.join(
+            alloc,
+            composite_of_half(alloc, second)?,
+        )?;
         assert_extracts(&rt, alloc, &joined, entries, &fields)?;
     }
     Ok(())
@@ -134,7 +137,10 @@ fn joins_of_joins_extract_in_each_order(rt: HostRuntime) -> Result<(), Fail> {
             .join(alloc, composite_of_half(alloc, second)?)?
             .join(alloc, composite_of_half(alloc, third)?)?;
         assert_extracts(&rt, alloc, &left, entries, &fields)?;
-        let inner = composite_of_half(alloc, second)?.join(alloc, composite_of_half(alloc, third)?)?;
+        let inner = composite_of_half(alloc, second)?.join(
+            alloc,
+            composite_of_half(alloc, third)?,
+        )?;
         let right = composite_of_half(alloc, first)?.join(alloc, inner)?;
         assert_extracts(&rt, alloc, &right, entries, &fields)?;
     }

@@ -261,7 +261,10 @@ pub fn entry<'a>(context: &'a Context, name: &str) -> &'a str {
 }
 
 /// A map of these texts, put in directly.
-pub fn map_of(alloc: Global, pairs: &[(&str, &str)]) -> Result<HashMap<String, String>, AllocError> {
+pub fn map_of(
+    alloc: Global,
+    pairs: &[(&str, &str)],
+) -> Result<HashMap<String, String>, AllocError> {
     let mut texts: HashMap<String, String> = HashMap::new(alloc);
     for (key, value) in pairs {
         texts.insert(
