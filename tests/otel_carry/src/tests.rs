@@ -1,4 +1,7 @@
 //! What the program writes, and its status, for inputs and outputs in memory.
+mod limits;
+mod odd;
+
 use crate::carry::carry;
 use crate::events::events_of;
 use crate::members::{NameMember, StateMember};

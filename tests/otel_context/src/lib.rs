@@ -3,3 +3,5 @@
 
 mod baggages;
 mod contexts;
+mod limits_of_baggages;
+mod odd_guards;

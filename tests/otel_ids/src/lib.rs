@@ -1,6 +1,7 @@
 //! What no clause says: rows of outside documents, printed texts, limits and odd inputs.
 #![tactic(auto)]
 
+mod limits;
 mod reading;
 mod span_context;
 mod trace_context;

@@ -3,6 +3,8 @@
 
 mod active;
 mod calls;
+mod limits;
+mod odd;
 mod table;
 mod tracing;
 
