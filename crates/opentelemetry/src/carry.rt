@@ -23,6 +23,8 @@ pub use event::{AttachOutcome, StackEvent};
 const FULL: u16 = 65535;
 
 /// What a run leaves.
+///
+/// See [`run`].
 #[derive(Drop)]
 pub struct RunReport {
     /// The stack after the events.
@@ -102,7 +104,7 @@ fn send(
 ///
 /// An attach or a detach that is refused changes nothing, and the run goes on. What the injection
 /// returns stands in the report: where it is an error, a beginning of the pairs is set in the
-/// carrier. Not in the Rust crate.
+/// carrier. The program `otel_carry` is a caller. Not in the Rust crate.
 ///
 /// # Errors
 ///

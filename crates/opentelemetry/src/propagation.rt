@@ -20,6 +20,8 @@ pub use text_map_propagator::TextMapPropagator;
 ///
 /// Contracts see it as its `state`: a finite map of texts, and a count of its own refusals, which
 /// no running program holds. (The crate's `Injector`.)
+///
+/// See `otel_examples::headers` for a carrier of one's own.
 pub trait Injector {
     ghost state: { Self → CarrierState };
 
@@ -65,6 +67,8 @@ impl<S: BuildHasher> Injector for HashMap<String, String, S> {
 /// A carrier that texts are read from, such as the headers of a request.
 ///
 /// Contracts see it as a finite map of texts, `held`. (The crate's `Extractor`.)
+///
+/// See `otel_examples::headers` for a carrier of one's own.
 pub trait Extractor {
     ghost held: { Self → TextMap };
 

@@ -17,6 +17,9 @@ use std::default::Emptied;
 ///
 /// Trees are equal where they have the same shape and content; values of different cases are never
 /// equal, and maps are equal where they hold equal trees under the same keys.
+///
+/// `AnyValue::from("text")` and `AnyValue::from(1)` are trees; a list and a map take memory.
+/// See `otel_examples::log_bridge`, where one is the body of a record.
 #[derive(Debug, Drop)]
 pub enum AnyValue {
     /// An integer.

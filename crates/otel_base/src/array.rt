@@ -16,6 +16,8 @@ use std::fmt;
 /// A list of values of one type (the Rust crate's `Array`, without its floats).
 ///
 /// Arrays of different types are never equal, empty ones included.
+///
+/// See [`Value`](crate::Value).
 #[derive(Debug, Drop)]
 pub enum Array {
     /// A list of booleans.

@@ -16,6 +16,12 @@ use std::rc::RcStr;
 /// It means its text, the list of its UTF-8 bytes, whether that is owned, static or shared.
 /// Equality, order (by the bytes), hash and `Display` look at the text alone, so ordered and hashed
 /// maps may be keyed by it.
+///
+/// A text of the program is `Key::from("tenant")`. A text made at run time has to be owned:
+///
+/// ```
+/// let key = Key::from(String::from_str(alloc, name)?);
+/// ```
 #[derive(Eq, PartialOrd, Ord, Hash, Debug, Drop)]
 pub struct Key {
     text: Text,
@@ -99,6 +105,8 @@ impl From<&'static str> for Key {
     ghost from_gives = { λ s k. k ≡ s.now };
 
     /// The key of a static text.
+    ///
+    /// A text made at run time goes in as `Key::from(String::from_str(alloc, name)?)`.
     fn from(value: &'static str) -> Key {
         let text = Text::from(value);
         Key { text }

@@ -13,6 +13,10 @@ use std::alloc::AllocError;
 use std::hash::{Hash, Hasher};
 
 /// An attribute: a key and its value (the Rust crate's `KeyValue`).
+///
+/// ```
+/// let attribute = KeyValue::new(Key::from("k"), Value::from(1));
+/// ```
 #[derive(Debug, Drop)]
 pub struct KeyValue {
     /// The name of the attribute.

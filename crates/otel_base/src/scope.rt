@@ -27,6 +27,12 @@ use std::slice::Iter;
 /// Two scopes are equal where their names, versions and schema URLs agree and, for every key, the
 /// list of the values under that key, in given order, agrees. Equality and hash take no memory and
 /// are linear in the attributes.
+///
+/// ```
+/// let scope = InstrumentationScope::builder(StringValue::from("lib"))
+///     .with_version(StringValue::from("1.0"))
+///     .build(alloc)?;
+/// ```
 #[derive(Debug, Drop)]
 pub struct InstrumentationScope {
     name: StringValue,
@@ -207,6 +213,8 @@ impl Hash for InstrumentationScope {
 
 /// The parts of an instrumentation scope while they are given (the Rust crate's
 /// `InstrumentationScopeBuilder`).
+///
+/// See [`InstrumentationScope`].
 #[derive(Debug, Drop)]
 pub struct InstrumentationScopeBuilder {
     name: StringValue,

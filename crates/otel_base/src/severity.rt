@@ -11,6 +11,10 @@ use std::cmp::Ordering;
 /// A normalized severity of the OpenTelemetry logs data model, least grave first.
 ///
 /// Severities are ordered by their numbers.
+///
+/// ```
+/// record.set_severity_number(Severity::Warn);
+/// ```
 #[derive(Clone, Copy, Debug)]
 pub enum Severity {
     /// `TRACE`

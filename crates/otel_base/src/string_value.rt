@@ -18,6 +18,12 @@ use std::rc::RcStr;
 ///
 /// It means its text, the list of its UTF-8 bytes, whether that is owned, static or shared.
 /// Equality, order (by the bytes), hash and `Display` look at the text alone.
+///
+/// A text of the program is `StringValue::from("acme")`. A text made at run time has to be owned:
+///
+/// ```
+/// let text = StringValue::from(String::from_str(alloc, name)?);
+/// ```
 #[derive(Eq, PartialOrd, Hash, Debug, Drop)]
 pub struct StringValue {
     text: Text,
@@ -107,6 +113,8 @@ impl From<&'static str> for StringValue {
     ghost from_gives = { λ s k. k ≡ s.now };
 
     /// The value of a static text.
+    ///
+    /// A text made at run time goes in as `StringValue::from(String::from_str(alloc, name)?)`.
     fn from(value: &'static str) -> StringValue {
         StringValue {
             text: Text::from(value),

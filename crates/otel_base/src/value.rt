@@ -19,6 +19,10 @@ use std::rc::RcStr;
 /// The value of an attribute (the Rust crate's `Value`, without its floats).
 ///
 /// Values of different types are never equal.
+///
+/// ```
+/// let value = Value::Array(Array::from(vec![in alloc; true, false]?));
+/// ```
 #[derive(Debug, Drop)]
 pub enum Value {
     /// A boolean.

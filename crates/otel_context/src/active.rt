@@ -15,7 +15,7 @@ use crate::stack::ContextStack;
 /// guard of its position and the number of the span.
 ///
 /// At position 65534 the span goes into the table all the same, nothing is attached, and the guard
-/// isn't attached.
+/// isn't attached. The guard is spent as one of [`ContextStack::attach`].
 ///
 /// # Errors
 ///
@@ -55,6 +55,10 @@ pub fn mark_span_as_active<S: Span>(
 ///
 /// No other span of the table changes. What `f` does to the span is said by the calls of
 /// [`SpanRef`].
+///
+/// ```
+/// get_active_span(&stack, &mut spans, |span| span.end(NOW));
+/// ```
 pub fn get_active_span<T, S: Span, F: FnOnce(&mut SpanRef<'_, S>) -> T>(
     stack: &ContextStack,
     spans: &mut Spans<S>,

@@ -40,6 +40,12 @@ use std::marker::Model;
 /// value, in which each byte but A-Z, a-z, 0-9 and `.` `-` `_` `~` is written as `%` and two
 /// hexadecimal digits, then `;` and the metadata where there is some; the members are joined by
 /// `,`. Metadata is printed as it is.
+///
+/// ```
+/// let mut baggage = Baggage::new(alloc);
+/// baggage.insert(Key::from("tenant"), StringValue::from("acme"))?;
+/// baggage.insert(Key::from("region"), StringValue::from("eu west"))?;
+/// ```
 #[derive(Debug, Drop)]
 pub struct Baggage {
     inner: IndexMap<Key, (StringValue, BaggageMetadata)>,
@@ -289,6 +295,10 @@ impl<'a> IntoIterator for &'a Baggage {
 
 /// The members of a [`Baggage`], in order, each once. A contract sees it as the list of those that
 /// are left.
+///
+/// ```
+/// for (key, (value, metadata)) in &baggage {
+/// ```
 #[derive(Debug, Drop)]
 pub struct Iter<'a> {
     entries: map::Iter<'a, Key, (StringValue, BaggageMetadata)>,

@@ -6,6 +6,10 @@ ghost use Rattle.std.specs.Fn.{FnOnceReturnsAt};
 ///
 /// It stands for the method `map_current` of the Rust crate's `Context`: a caller brings the trait
 /// in, and writes `stack.map_current(|context| ..)`.
+///
+/// ```
+/// let has_span = stack.map_current(|context| context.has_active_span());
+/// ```
 pub trait HasCurrent {
     /// The type of the current value.
     type Current;

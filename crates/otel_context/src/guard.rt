@@ -11,6 +11,16 @@ pub(crate) const NO_POSITION: u16 = u16::MAX;
 ///
 /// A guard can't be dropped: a program that lets one go unspent doesn't compile. It may meet
 /// another stack than the one that gave it; there it names what is live at its position.
+///
+/// The work in between is a function of its own, and `?` on what it returned comes after the
+/// detach:
+///
+/// ```
+/// let guard = stack.attach(context)?;
+/// let amount = current_amount(stack);
+/// stack.detach(guard);
+/// let amount = amount?;
+/// ```
 pub struct ContextGuard {
     position: u16,
 }

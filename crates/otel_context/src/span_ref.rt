@@ -18,6 +18,8 @@ use std::snapshot::Snapshot;
 /// Each call acts on the span of the context's number alone. Where the context has no number, as of
 /// a remote span, or the span was taken out of the table, a call does nothing and returns `Ok`, and
 /// takes no memory.
+///
+/// See `otel_examples::in_span`, where an attribute is set on the span of a context.
 pub struct SpanRef<'a, S> {
     pub(crate) context: &'a SpanContext,
     pub(crate) number: Option<u64>,

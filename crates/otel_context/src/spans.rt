@@ -9,6 +9,8 @@ use std::collections::BTreeMap;
 use std::marker::Model;
 
 /// Why a table took no span. Not in the Rust crate.
+///
+/// See [`SpanRefused`].
 #[derive(Debug, Drop)]
 pub enum SpanCause {
     /// Each number, from 0 to 18446744073709551614, was given out or passed over.
@@ -18,6 +20,8 @@ pub enum SpanCause {
 }
 
 /// A span that wasn't taken, and why. Not in the Rust crate.
+///
+/// See `otel_examples::service`, where the span goes back to the caller.
 #[derive(Drop)]
 pub struct SpanRefused<S> {
     /// The span that was handed in.
@@ -55,6 +59,12 @@ impl<S> SpanRefused<S> {
 ///
 /// Each span that is put in gets the next number, and no number is given out twice, even after its
 /// span was taken. Contracts see a finite map from numbers to spans, and the next number.
+///
+/// ```
+/// let mut spans = Spans::new(alloc);
+/// ```
+///
+/// See `otel_examples::service`.
 #[derive(Drop)]
 pub struct Spans<S> {
     table: BTreeMap<u64, S>,

@@ -11,6 +11,13 @@ use std::alloc::AllocError;
 use std::cmp::Ordering;
 
 /// Which side of a call a span describes. (OpenTelemetry trace API, "SpanKind".)
+///
+/// ```
+/// let built = tracer
+///     .span_builder(StringValue::from("work"))
+///     .with_kind(SpanKind::Client)
+///     .start(alloc, &tracer, &stack)?;
+/// ```
 #[derive(Clone, Copy, Debug, PartialEq, Eq)]
 pub enum SpanKind {
     /// A request that waits for its response.
@@ -29,6 +36,10 @@ pub enum SpanKind {
 ///
 /// `Unset` is below an error, and an error below `Ok`. Two errors compare by their descriptions,
 /// byte by byte.
+///
+/// ```
+/// span.set_status(Status::error(StringValue::from("why")));
+/// ```
 #[derive(Debug, Drop)]
 pub enum Status {
     /// Nothing was said.

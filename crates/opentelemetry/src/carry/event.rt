@@ -2,6 +2,8 @@
 use crate::context::Context;
 
 /// One event of a run.
+///
+/// See [`run`](crate::carry::run).
 #[derive(Drop)]
 pub enum StackEvent {
     /// Attach the context.
@@ -11,6 +13,8 @@ pub enum StackEvent {
 }
 
 /// What became of an attach.
+///
+/// See [`run`](crate::carry::run).
 #[derive(Clone, Copy, Debug, PartialEq, Eq)]
 pub enum AttachOutcome {
     /// The context is attached at this position, from 1 to 65534.

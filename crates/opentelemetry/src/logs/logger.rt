@@ -10,6 +10,8 @@ use std::alloc::{AllocError, Global};
 /// Who writes a logger names, by ghost relations, which records it may make (`may_create`) and what
 /// it may report of an event's being enabled (`may_enable`). They are relations and no functions,
 /// so that a moment may be read and a configuration may change.
+///
+/// See `otel_examples::log_bridge`.
 pub trait Logger {
     ghost use Rattle.std.specs.Prelude.{ℕ, List, Option, Bool};
     ghost use Rattle.otel_base.specs.declared.severity.Severity.{Severity};
@@ -44,6 +46,10 @@ pub trait Logger {
 ///
 /// Who writes a provider names, by the ghost relation `may_give`, which loggers it may make for a
 /// scope.
+///
+/// ```
+/// let logger = provider.logger(alloc, StringValue::from("lib"))?;
+/// ```
 pub trait LoggerProvider {
     ghost use Rattle.otel_base.specs.InstrumentationScope.{Scope};
     ghost use Rattle.opentelemetry.specs.Scope.{scope_of_name};

@@ -6,6 +6,8 @@ use otel_base::{InstrumentationScope, Key, StringValue};
 use std::alloc::{AllocError, Global};
 
 /// A provider of loggers that do nothing (the Rust crate's `NoopLoggerProvider`).
+///
+/// See [`LoggerProvider`].
 #[derive(Clone, Debug, Default, Drop)]
 pub struct NoopLoggerProvider;
 
@@ -36,6 +38,8 @@ impl LoggerProvider for NoopLoggerProvider {
 }
 
 /// A logger that drops each record (the Rust crate's `NoopLogger`).
+///
+/// See [`LoggerProvider`].
 #[derive(Clone, Debug, Drop)]
 pub struct NoopLogger;
 
@@ -64,6 +68,8 @@ impl Logger for NoopLogger {
 }
 
 /// A log record that ignores all that is set (the Rust crate's `NoopLogRecord`).
+///
+/// See [`LogRecord`].
 #[derive(Clone, Debug, Default, Drop)]
 pub struct NoopLogRecord;
 

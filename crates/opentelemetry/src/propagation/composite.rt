@@ -17,6 +17,12 @@ use std::alloc::{AllocError, Global};
 /// Propagators in order, put to work as one.
 ///
 /// Contracts see it as the list of its members. (The crate's `TextMapCompositePropagator`.)
+///
+/// ```
+/// let mut members: Vec<Box<dyn TextMapPropagator>> = Vec::new(alloc);
+/// members.push(Box::new(alloc, NoopTextMapPropagator::new())?)?;
+/// let composite = TextMapCompositePropagator::new(alloc, members)?;
+/// ```
 #[derive(Drop)]
 pub struct TextMapCompositePropagator {
     members: Vec<Box<dyn TextMapPropagator>>,

@@ -6,6 +6,8 @@ use std::alloc::{AllocError, AllocFailed};
 use thiserror::Error;
 
 /// Why a carrier or a propagator gave up. Not in the Rust crate, whose calls return no error.
+///
+/// See `otel_examples::service`.
 #[derive(Clone, Copy, Debug, PartialEq, Eq, Drop, Error)]
 pub enum PropagationError {
     /// A request for memory failed.

@@ -14,6 +14,8 @@ use std::marker::Model;
 /// A propagator names the pairs that it sets for a context, `pairs`, the context that it gives for a
 /// context and a map of texts, `extracted`, the names of its fields, `field_names`, and whether it
 /// may refuse of itself, `may_refuse`. (The crate's `TextMapPropagator`.)
+///
+/// See `otel_examples::request_id` for one of one's own, `otel_examples::service` for a caller.
 pub trait TextMapPropagator: Drop {
     ghost use Rattle.std.specs.Prelude.{Bool, ℕ, List};
     ghost use Rattle.otel_context.specs.Context.{ContextRecord};
@@ -95,6 +97,8 @@ pub trait TextMapPropagator: Drop {
 }
 
 /// The names of a propagator's fields, in order. (The crate's `FieldIter`.)
+///
+/// See `otel_examples::request_id`.
 #[derive(Drop)]
 pub struct FieldIter<'a> {
     rest: &'a [String],

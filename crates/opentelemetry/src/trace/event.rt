@@ -13,6 +13,10 @@ use std::alloc::{AllocError, Global};
 /// Something that happened at one moment of a span, with attributes (the Rust crate's `Event`).
 ///
 /// Contracts see the record of its four parts, the attributes as a list.
+///
+/// ```
+/// let event = Event::with_name(alloc, StringValue::from("e"), NOW);
+/// ```
 #[derive(Debug, Drop)]
 pub struct Event {
     /// What happened.

@@ -11,6 +11,8 @@ use std::alloc::{AllocError, Global};
 /// Why no body ran in a span. Not in the Rust crate.
 ///
 /// The stack is as it was, and the table holds the same spans.
+///
+/// See `otel_examples::in_span`.
 #[derive(Drop)]
 pub enum StartError<S> {
     /// A request for memory failed before there was a span. The table is unchanged.
@@ -24,6 +26,8 @@ pub enum StartError<S> {
 ///
 /// Who writes a body names, by the ghost relation `may_leave`, what its call may return and leave, by the stack, the
 /// table and the context that it is lent; and by `can_call` when it can be called, where that isn't always.
+///
+/// See `otel_examples::in_span` for two bodies of one's own.
 pub trait SpanBody<S>: Drop {
     ghost use Rattle.opentelemetry.specs.InSpan.{MayLeave};
 
@@ -43,10 +47,18 @@ pub trait SpanBody<S>: Drop {
 /// A closure as a body: `Run(|stack, spans, context| ..)`. Not in the Rust crate.
 ///
 /// What it may leave is what the closure promises.
+///
+/// ```
+/// Run(|stack: &mut ContextStack, _spans: &mut Spans<NoopSpan>, _context: Context| {
+///     stack.newest_position()
+/// })
+/// ```
 #[derive(Drop)]
 pub struct Run<F>(pub F);
 
 /// A closure over any stack and context, of which [`Run`] makes a body. Not in the Rust crate.
+///
+/// Who runs a closure in a span writes [`Run`], and names this trait nowhere.
 pub trait CallClosure<S, K, C>: Drop {
     ghost use Rattle.otel_context.specs.Spans.{SpansState};
 

@@ -14,6 +14,10 @@ use std::alloc::{AllocError, Global};
 /// A span that another one has to do with, without being its parent (the Rust crate's `Link`).
 ///
 /// Contracts see the record of its three parts, the attributes as a list.
+///
+/// ```
+/// let link = Link::with_context(alloc, remote());
+/// ```
 #[derive(Debug, Drop)]
 pub struct Link {
     /// The span context of the other span.

@@ -14,6 +14,8 @@ use std::alloc::{AllocError, Global};
 use std::marker::Model;
 
 /// A provider of tracers whose spans do nothing (the Rust crate's `NoopTracerProvider`).
+///
+/// See [`TracerProvider`].
 #[derive(Clone, Debug, Default, Drop)]
 pub struct NoopTracerProvider;
 
@@ -44,6 +46,8 @@ impl TracerProvider for NoopTracerProvider {
 }
 
 /// A tracer whose spans do nothing (the Rust crate's `NoopTracer`).
+///
+/// See [`TracerProvider`].
 #[derive(Clone, Debug, Default, Drop)]
 pub struct NoopTracer;
 
@@ -82,6 +86,8 @@ impl Tracer for NoopTracer {
 /// A span that never records and ignores all that is set (the Rust crate's `NoopSpan`).
 ///
 /// Contracts see its span context.
+///
+/// See [`Run`](crate::trace::Run).
 #[derive(Debug, Drop)]
 pub struct NoopSpan {
     span_context: SpanContext,
@@ -201,6 +207,8 @@ impl Span for NoopSpan {
 }
 
 /// A propagator that sets nothing and reads nothing. (The crate's `NoopTextMapPropagator`.)
+///
+/// See [`TextMapCompositePropagator`](crate::propagation::TextMapCompositePropagator).
 #[derive(Clone, Copy, Debug, Default, Drop)]
 pub struct NoopTextMapPropagator;
 

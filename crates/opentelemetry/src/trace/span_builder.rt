@@ -16,6 +16,8 @@ use std::alloc::{AllocError, Global};
 /// What a span starts with (the Rust crate's `SpanBuilder`).
 ///
 /// A field that is `None` is left to the tracer. Contracts see the record of the six parts.
+///
+/// See [`SpanKind`](otel_context::SpanKind).
 #[derive(Debug, Drop)]
 pub struct SpanBuilder {
     /// Which side of a call the span describes.

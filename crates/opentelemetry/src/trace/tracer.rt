@@ -16,6 +16,9 @@ use std::alloc::{AllocError, Global};
 /// Who writes a tracer names, by the ghost relation `may_build`, which spans it may make of a builder under a parent
 /// context. It is a relation and no function, so that ids may be random. The other calls are made of
 /// `build_with_context`.
+///
+/// See `otel_examples::in_span` and `otel_examples::service`. `RecordingTracer` of the crate
+/// `otel_recording` is a tracer.
 pub trait Tracer {
     ghost use Rattle.otel_context.specs.Context.{ContextRecord};
     ghost use Rattle.opentelemetry.specs.SpanBuilder.{BuilderRecord};

@@ -8,6 +8,10 @@ use std::alloc::{AllocError, Global};
 /// What makes tracers (the Rust crate's `TracerProvider`).
 ///
 /// Who writes a provider names, by the ghost relation `may_give`, which tracers it may make for a scope.
+///
+/// ```
+/// let tracer = provider.tracer(alloc, StringValue::from("lib"))?;
+/// ```
 pub trait TracerProvider {
     ghost use Rattle.otel_base.specs.InstrumentationScope.{Scope};
     ghost use Rattle.opentelemetry.specs.Scope.{scope_of_name};

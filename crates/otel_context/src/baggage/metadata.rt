@@ -18,6 +18,10 @@ use std::marker::Model;
 /// W3C baggage writes them as names or pairs that semicolons divide, as in `ttl=30;private`.
 /// Texts are compared and ordered by their bytes. The default is the empty text, which stands for
 /// no properties.
+///
+/// ```
+/// let metadata = BaggageMetadata::new(alloc, " ttl=30 ")?;
+/// ```
 #[derive(PartialEq, Eq, PartialOrd, Debug, Drop)]
 pub struct BaggageMetadata {
     text: StringValue,
@@ -100,6 +104,10 @@ impl fmt::Display for BaggageMetadata {
 /// [`Baggage::from_key_values_with_metadata`](super::Baggage) takes them.
 ///
 /// The key isn't checked before it is inserted into a baggage.
+///
+/// ```
+/// let member = KeyValueMetadata::new(Key::from("k"), StringValue::from("v"), metadata);
+/// ```
 #[derive(PartialEq, Debug, Drop)]
 pub struct KeyValueMetadata {
     pub(super) key: Key,
