@@ -1,1 +1,4 @@
 pub mod InSpan
+pub mod LogBridge
+pub mod RequestId
+pub mod Service

@@ -1,6 +1,9 @@
 //! The callers at work.
 #![tactic(auto)]
 
+mod callers;
+mod mover;
+
 use opentelemetry::context::ContextStack;
 use opentelemetry::trace::Spans;
 use opentelemetry::trace::noop::NoopTracer;

@@ -1,0 +1,45 @@
+//! A baggage that is filled, read back and printed.
+ghost use Rattle.std.specs.Prelude.{◌≡◌, ◌∷◌, [], IfOk, codes, string_bytes, option_map};
+ghost use Rattle.otel_context.specs.Baggage.{get};
+ghost use Rattle.otel_context.specs.BaggageMember.{member_of};
+
+use opentelemetry::baggage::Baggage;
+use opentelemetry::{Key, StringValue};
+use std::alloc::{AllocError, Global};
+
+/// A baggage of a tenant and a region.
+///
+/// # Errors
+///
+/// `AllocError` where a request for memory fails.
+pub fn of_tenant(alloc: Global) -> Result<Baggage, AllocError>
+    ensures { IfOk result (λ baggage. baggage
+        ≡ member_of (codes "tenant") (codes "acme") []
+        ∷ member_of (codes "region") (codes "eu west") [] ∷ []) }
+{
+    let mut baggage = Baggage::new(alloc);
+    baggage.insert(Key::from("tenant"), StringValue::from("acme"))?;
+    baggage.insert(Key::from("region"), StringValue::from("eu west"))?;
+    Ok(baggage)
+}
+
+/// The region of a baggage, where it has one.
+pub fn region(baggage: &Baggage) -> Option<&str>
+    ensures { option_map (λ region. region.now) result ≡ get baggage.now (codes "region") }
+{
+    let region = baggage.get("region")?;
+    Some(region.as_str())
+}
+
+/// The baggage of a tenant as the value of a `baggage` header.
+///
+/// # Errors
+///
+/// `AllocError` where a request for memory fails.
+pub fn tenant_header(alloc: Global) -> Result<String, AllocError>
+    ensures { IfOk result (λ header.
+        string_bytes header ≡ codes "tenant=acme,region=eu%20west") }
+{
+    let baggage = of_tenant(alloc)?;
+    format!(in alloc; "{baggage}")
+}

@@ -1,0 +1,49 @@
+//! A bridge from a log to a logger: each record names the span under which it was made.
+ghost use Rattle.std.specs.Prelude.{IfOk, codes, string_bytes};
+ghost use Rattle.otel_base.specs.AnyValue.{text};
+ghost use Rattle.otel_context.specs.Context.{span_context};
+ghost use Rattle.otel_context.specs.Stack.{current};
+ghost use Rattle.otel_examples.specs.LogBridge.{IsStamped};
+
+use opentelemetry::StringValue;
+use opentelemetry::context::ContextStack;
+use opentelemetry::logs::{AnyValue, LogRecord, Logger};
+use std::alloc::{AllocError, Global};
+
+/// A record of a message, with the trace id, span id and flags of the current context's span where
+/// that is valid.
+///
+/// # Errors
+///
+/// `AllocError` where a request for memory fails. The message is dropped.
+pub fn stamped_record<L: Logger>(
+    alloc: Global,
+    logger: &L,
+    stack: &ContextStack,
+    message: String,
+) -> Result<L::LogRecord, AllocError>
+    ensures { IfOk result (IsStamped (L.may_create logger.now) L.LogRecord.after_body
+        L.LogRecord.may_be_traced (span_context (current stack.now.live))
+        (text (string_bytes message))) }
+{
+    let mut record = logger.create_log_record(alloc)?;
+    record.set_body(AnyValue::from(message));
+    let span = stack.current().span_context();
+    if span.is_valid() {
+        let flags = Some(span.trace_flags());
+        record.set_trace_context(span.trace_id(), span.span_id(), flags);
+    }
+    Ok(record)
+}
+
+/// Hands a message to a logger, where a record of this target would be of use.
+pub fn log<L: Logger>(
+    alloc: Global,
+    logger: &L,
+    stack: &ContextStack,
+    message: String,
+) -> Result<(), AllocError> {
+    let record = stamped_record(alloc, logger, stack, message)?;
+    logger.emit(record);
+    Ok(())
+}

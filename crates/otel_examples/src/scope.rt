@@ -1,0 +1,58 @@
+//! Work under a context of its own: attach, work, detach, also where the work fails.
+ghost use Rattle.std.specs.Prelude.{◌≡◌, ◌<◌, ◌+◌, IfOk, IsOk, codes};
+ghost use Rattle.otel_base.specs.AnyValue.{integer};
+ghost use Rattle.otel_context.specs.Context.{get};
+ghost use Rattle.otel_context.specs.Stack.{current, newest_position, last_position};
+
+use opentelemetry::Context;
+use opentelemetry::context::ContextStack;
+use opentelemetry::logs::AnyValue;
+use otel_context::laws::stack_calls;
+use std::alloc::AllocError;
+use thiserror::Error;
+
+/// Why there is no amount.
+#[derive(Debug, Drop, Error)]
+pub enum AmountError {
+    /// The current context has no integer under `amount`.
+    #[error("no amount")]
+    Missing,
+    /// A request for memory failed.
+    #[error("no memory")]
+    Memory(#[from] AllocError),
+}
+
+/// The integer under `amount` in the current context.
+///
+/// # Errors
+///
+/// `Missing` where there is none.
+pub fn current_amount(stack: &ContextStack) -> Result<i64, AmountError>
+    ensures { IfOk result (λ amount.
+        get (current stack.now.live) (codes "amount") ≡ Some (integer amount)) }
+{
+    match stack.current().get("amount") {
+        Some(AnyValue::Int(amount)) => Ok(*amount),
+        _ => Err(AmountError::Missing),
+    }
+}
+
+/// Reads the amount under a context, whose attachment is removed again also where there is none.
+///
+/// # Errors
+///
+/// `Missing` where the context has no integer under `amount`; `Memory` where a request for memory
+/// fails. What is live on the stack is the same after either.
+pub fn amount_under(stack: &mut ContextStack, context: Context) -> Result<i64, AmountError>
+    ensures amount { newest_position stack.old.live < last_position → IfOk result (λ amount.
+        get context (codes "amount") ≡ Some (integer amount)) }
+    ensures restored { stack.new.live ≡ stack.old.live }
+{
+    stack_calls();
+    stack.newest_position();
+    let guard = stack.attach(context)?;
+    let amount = current_amount(stack);
+    stack.detach(guard);
+    let amount = amount?;
+    Ok(amount)
+}

@@ -1,0 +1,64 @@
+//! A service between two others: what a request's headers carry goes on in those that are sent.
+ghost use Rattle.std.specs.Prelude.{◌≡◌, IfOk, codes};
+ghost use Rattle.otel_context.specs.Stack.{current};
+ghost use Rattle.opentelemetry.specs.SpanBuilder.{from_name};
+ghost use Rattle.otel_examples.specs.Service.{Forwards};
+
+use opentelemetry::StringValue;
+use opentelemetry::context::ContextStack;
+use opentelemetry::propagation::{Extractor, Injector, PropagationError, TextMapPropagator};
+use opentelemetry::trace::{SpanRefused, Spans, Tracer};
+use std::alloc::{AllocError, Global};
+
+/// Why a request wasn't forwarded.
+#[derive(Drop)]
+pub enum ForwardError<S> {
+    /// Headers weren't read or set.
+    Headers(PropagationError),
+    /// No span was started: a request for memory failed.
+    Start(AllocError),
+    /// The table took no span, which comes back.
+    Refused(SpanRefused<S>),
+}
+
+/// Forwards a request: starts a span under the one that the received headers name, and sets the
+/// headers to be sent for it. Returns the number of the span in the table.
+///
+/// # Errors
+///
+/// As [`ForwardError`] says. After `Headers` the table may have the span, and a beginning of the
+/// headers may be set; after the others neither the table nor the headers to be sent change.
+pub fn forward<T: Tracer, P: TextMapPropagator>(
+    alloc: Global,
+    tracer: &T,
+    propagator: &P,
+    stack: &ContextStack,
+    spans: &mut Spans<T::Span>,
+    received: &dyn Extractor,
+    sent: &mut dyn Injector,
+) -> Result<u64, ForwardError<T::Span>>
+    ensures { IfOk result (λ number. Forwards
+        (P.extracted propagator.now (current stack.now.live) (held received.now))
+        (T.may_build tracer.now (from_name (codes "forward"))) T.Span.context_of
+        (P.pairs propagator.now) spans.old (state sent.old).texts number spans.new
+        (state sent.new).texts) }
+{
+    let parent = match propagator.extract(alloc, stack, received) {
+        Ok(parent) => parent,
+        Err(error) => return Err(ForwardError::Headers(error)),
+    };
+    let name = StringValue::from("forward");
+    let span = match tracer.start_with_context(alloc, name, &parent) {
+        Ok(span) => span,
+        Err(error) => return Err(ForwardError::Start(error)),
+    };
+    let number = spans.next_number();
+    let context = match parent.with_span(alloc, spans, span) {
+        Ok(context) => context,
+        Err(refused) => return Err(ForwardError::Refused(refused)),
+    };
+    match propagator.inject_context(&context, sent) {
+        Ok(()) => Ok(number),
+        Err(error) => Err(ForwardError::Headers(error)),
+    }
+}
