@@ -1,3 +1,4 @@
+pub mod Digits
 pub mod TraceContext
 pub mod TraceParent
 pub mod BaggageReading

@@ -1,11 +1,10 @@
 -- What the propagator of trace contexts sets for a context, and which context it extracts
 -- [W3C trace-context-2, "traceparent Header" and "tracestate Header"].
-use Rattle.std.specs.Prelude.{ℕ, ◌==◌, Bool, true, ◌&&◌, not, List, [], ◌∷◌, map}
-use Rattle.std.specs.Prelude.{Option, Some, None, if◌then◌else◌, codes}
+use Rattle.std.specs.Prelude.{ℕ, ◌==◌, Bool, true, ◌&&◌, not, List, [], ◌∷◌}
+use Rattle.std.specs.Prelude.{Option, if◌then◌else◌, codes}
 use Rattle.std.specs.Option.{option_and_then, option_map_or}
 use Rattle.otel_ids.specs.TraceState.{Pair, header}
-use Rattle.otel_ids.specs.TraceStateError.{Fault}
-use Rattle.otel_ids.specs.Reading.{fault_of, members, pieces, pair_of}
+use Rattle.otel_ids.specs.Reading.{reading}
 use Rattle.otel_ids.specs.SpanContext.{SpanContextRecord}
 use Rattle.otel_context.specs.Context.{ContextRecord, span_context, with_remote_span_context}
 use Rattle.opentelemetry.specs.Carrier.{Pairs, TextMap, at}
@@ -47,17 +46,10 @@ trace_pairs context = span_context_pairs (span_context context)
 
 -- ---- extraction
 
-abbrev pub reading_by : Option Fault → List ℕ → Option (List Pair)
-reading_by None text = Some (map pair_of (members (pieces text)))
-reading_by (Some fault) text = None
-
-abbrev pub reading : List ℕ → Option (List Pair)
-reading text = reading_by (fault_of text) text
-
 -- the trace state that the value of `tracestate` reads as, and the empty one where the value is
 -- absent or has no reading: a faulty `tracestate` takes nothing from the `traceparent` beside it
--- [W3C trace-context-2, "Versioning of traceparent" and "list": a parser that fails discards the
--- `tracestate` alone]
+-- [W3C trace-context-2, "tracestate Header": a failure to parse it must not affect the parsing of
+-- `traceparent`]
 abbrev pub state_of : Option (List ℕ) → List Pair
 state_of value = option_map_or (λ pairs. pairs) (option_and_then reading value) []
 

@@ -1,4 +1,5 @@
--- What the header `traceparent` says: two ids and flags [W3C trace-context-2, "traceparent Header"].
+-- What the header `traceparent` says: two ids and flags
+-- [W3C trace-context-2, "traceparent Header"].
 use Rattle.std.specs.Prelude.{◌≡◌, ◌≢◌, ◌↔◌, ℕ, ◌^◌, ◌<◌, ◌==◌, nat_lt, Bool, ◌&&◌, not}
 use Rattle.std.specs.Prelude.{List, ◌∷◌, ◌++◌, take, drop, length, Option, Some, None}
 use Rattle.std.specs.Prelude.{if◌then◌else◌}

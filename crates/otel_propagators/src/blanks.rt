@@ -1,0 +1,24 @@
+//! Texts without the blanks at their ends.
+ghost use Rattle.std.specs.Prelude.{◌≡◌};
+ghost use Rattle.otel_ids.specs.Text.{cut_front, cut_end, cut_blanks};
+
+const BLANKS: [char; 2] = [' ', '\t'];
+
+fn cut_front(text: &str) -> &str
+    ensures { result.now ≡ cut_front text.now }
+{
+    text.trim_start_matches(BLANKS)
+}
+
+fn cut_end(text: &str) -> &str
+    ensures { result.now ≡ cut_end text.now }
+{
+    text.trim_end_matches(BLANKS)
+}
+
+/// The text without the spaces and tabs at its ends.
+pub(crate) fn cut_blanks(text: &str) -> &str
+    ensures { result.now ≡ cut_blanks text.now }
+{
+    cut_end(cut_front(text))
+}

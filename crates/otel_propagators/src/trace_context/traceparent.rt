@@ -1,0 +1,94 @@
+//! The value of the header `traceparent`, written and read.
+ghost use Rattle.std.specs.Prelude.{◌≡◌, IfOk, string_bytes};
+ghost use Rattle.otel_propagators.specs.TraceParent.{parent_text, parent_of};
+ghost use Rattle.otel_propagators.specs.TraceContext.{parent, remote};
+ghost use Rattle.otel_propagators.specs.Digits.{IsAfter, AreNumbersOf};
+
+use crate::blanks::cut_blanks;
+use crate::trace_context::digits::{byte_text, number_before};
+use opentelemetry::trace::{SpanContext, SpanId, TraceFlags, TraceId, TraceState};
+use std::alloc::{AllocError, Global};
+use std::marker::Model;
+
+/// What a `traceparent` says: two ids, neither of which is 0, and flags.
+#[derive(Clone, Copy)]
+pub(crate) struct Parent {
+    trace_id: TraceId,
+    span_id: SpanId,
+    flags: TraceFlags,
+}
+
+impl Model for Parent {
+    ghost use Rattle.otel_propagators.specs.TraceParent.{Parent as ParentRecord};
+
+    ghost Value = { ParentRecord };
+
+    ghost view = { λ p. record {
+      trace_id = p.trace_id;
+      span_id = p.span_id;
+      flags = p.flags;
+    } };
+
+    ghost inverse = { λ p. record {
+      trace_id = p.trace_id;
+      span_id = p.span_id;
+      flags = p.flags;
+    } };
+}
+
+impl Parent {
+    /// The span context of these ids and flags that came from another process with the trace state.
+    pub(crate) fn remote(self, trace_state: TraceState) -> SpanContext
+        ensures { result ≡ remote self trace_state }
+    {
+        SpanContext::new(self.trace_id, self.span_id, self.flags, true, trace_state)
+    }
+}
+
+/// The value of `traceparent` for a span context.
+pub(crate) fn write(alloc: Global, span_context: &SpanContext) -> Result<String, AllocError>
+    ensures { IfOk result (λ text. string_bytes text ≡ parent_text (parent span_context.now)) }
+{
+    let trace_id = span_context.trace_id();
+    let span_id = span_context.span_id();
+    let flags = byte_text(alloc, span_context.trace_flags().to_u8())?;
+    format!(in alloc; "00-{trace_id}-{span_id}-{flags}")
+}
+
+/// What stands after the front.
+fn after<'a>(bytes: &'a [u8], front: &[u8]) -> Option<&'a [u8]>
+    ensures { IsAfter front.now bytes.now result }
+{
+    bytes.strip_prefix(front)
+}
+
+/// The numbers of the trace id, the span id and the flags.
+fn numbers(bytes: &[u8]) -> Option<(u128, u128, u128)>
+    ensures { AreNumbersOf bytes.now result }
+{
+    let rest = after(bytes, b"00-")?;
+    let (trace_id, rest) = number_before(rest, 32)?;
+    let rest = after(rest, b"-")?;
+    let (span_id, rest) = number_before(rest, 16)?;
+    let rest = after(rest, b"-")?;
+    let (flags, rest) = number_before(rest, 2)?;
+    if !rest.is_empty() {
+        return None;
+    }
+    Some((trace_id, span_id, flags))
+}
+
+/// Reads the value of a `traceparent`, between blanks.
+pub(crate) fn read(text: &str) -> Option<Parent>
+    ensures { result ≡ parent_of text.now }
+{
+    let (trace_id, span_id, flags) = numbers(cut_blanks(text).as_bytes())?;
+    if trace_id == 0 || span_id == 0 {
+        return None;
+    }
+    Some(Parent {
+        trace_id: TraceId::from(trace_id),
+        span_id: SpanId::from(span_id as u64),
+        flags: TraceFlags::new(flags as u8),
+    })
+}
