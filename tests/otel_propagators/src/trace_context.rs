@@ -1,0 +1,229 @@
+//! The propagator of `traceparent` and `tracestate`: what is set, what is extracted.
+use opentelemetry::logs::AnyValue;
+use opentelemetry::propagation::{PropagationError, TextMapPropagator};
+use opentelemetry::trace::{SpanContext, SpanId, TraceFlags, TraceId, TraceState};
+use opentelemetry::{Context, Key};
+use otel_propagators::TraceContextPropagator;
+use std::alloc::{AllocError, Global};
+use std::collections::HashMap;
+use std::process::Abort;
+use std::test::Fail;
+
+/// Trace id 1, span id 1, and the flag `sampled`.
+pub const TRACEPARENT: &str = "00-00000000000000000000000000000001-0000000000000001-01";
+
+fn map_of(alloc: Global, texts: &[(&str, &str)]) -> Result<HashMap<String, String>, AllocError> {
+    let mut map = HashMap::new(alloc);
+    for (key, value) in texts {
+        map.insert(
+            String::from_str(alloc, *key)?,
+            String::from_str(alloc, *value)?,
+        )?;
+    }
+    Ok(map)
+}
+
+/// A context with an entry and a span context of ids 7 and 7 with a trace state.
+fn given(alloc: Global) -> Result<Context, AllocError> {
+    let Ok(state) = TraceState::from_str(alloc, "old=1") else {
+        return Err(AllocError);
+    };
+    let old = SpanContext::new(
+        TraceId::from(7u128),
+        SpanId::from(7u64),
+        TraceFlags::NOT_SAMPLED,
+        false,
+        state,
+    );
+    Context::new()
+        .with_value(alloc, Key::from("name"), AnyValue::from("given"))?
+        .with_remote_span_context(alloc, old)
+}
+
+/// The remote span context of these ids, flags and trace state.
+fn remote(alloc: Global, ids: (u128, u64, u8), state: &str) -> Result<SpanContext, AllocError> {
+    let Ok(state) = TraceState::from_str(alloc, state) else {
+        return Err(AllocError);
+    };
+    let (trace_id, span_id, flags) = ids;
+    Ok(SpanContext::new(
+        TraceId::from(trace_id),
+        SpanId::from(span_id),
+        TraceFlags::new(flags),
+        true,
+        state,
+    ))
+}
+
+/// What is extracted of the texts into the given context.
+fn extract(
+    alloc: Global,
+    context: &Context,
+    texts: &[(&str, &str)],
+) -> Result<Context, AllocError> {
+    let propagator = TraceContextPropagator::new(alloc)?;
+    let carrier = map_of(alloc, texts)?;
+    match propagator.extract_with_context(alloc, context, &carrier) {
+        Ok(context) => Ok(context),
+        Err(PropagationError::Memory(error)) => Err(error),
+        Err(PropagationError::Refused) => Err(AllocError),
+    }
+}
+
+/// Asserts that the texts give the given context with the remote span context of these ids and
+/// flags and that trace state, and else the given context.
+pub fn assert_extracted(
+    rt: &impl Abort,
+    alloc: Global,
+    texts: &[(&str, &str)],
+    expected: Option<(u128, u64, u8, &str)>,
+) -> Result<(), Fail> {
+    let given = given(alloc)?;
+    let context = extract(alloc, &given, texts)?;
+    let name = context.get("name");
+    assert!(rt; matches!(name, Some(AnyValue::String(name)) if name.as_str() == "given"));
+    match expected {
+        Some((trace_id, span_id, flags, state)) => {
+            let remote = remote(alloc, (trace_id, span_id, flags), state)?;
+            assert!(rt; *context.span_context() == remote, "of {texts:?}");
+        }
+        None => assert!(rt;
+            *context.span_context() == *given.span_context(),
+            "of {texts:?}"
+        ),
+    }
+    Ok(())
+}
+
+/// Asserts what a `traceparent` alone gives.
+pub fn assert_read(
+    rt: &impl Abort,
+    alloc: Global,
+    traceparent: &str,
+    expected: Option<(u128, u64, u8)>,
+) -> Result<(), Fail> {
+    let expected = expected.map(|(trace_id, span_id, flags)| (trace_id, span_id, flags, ""));
+    assert_extracted(rt, alloc, &[("traceparent", traceparent)], expected)
+}
+
+/// The values of `traceparent` and `tracestate` that a span context is injected as.
+fn inject(alloc: Global, span_context: SpanContext) -> Result<HashMap<String, String>, AllocError> {
+    let propagator = TraceContextPropagator::new(alloc)?;
+    let context = Context::new().with_remote_span_context(alloc, span_context)?;
+    let mut carrier = map_of(alloc, &[("other", "stays")])?;
+    match propagator.inject_context(&context, &mut carrier) {
+        Ok(()) => Ok(carrier),
+        Err(PropagationError::Memory(error)) => Err(error),
+        Err(PropagationError::Refused) => Err(AllocError),
+    }
+}
+
+fn held<'a>(carrier: &'a HashMap<String, String>, key: &str) -> &'a str {
+    match carrier.get(key) {
+        Some(value) => value.as_str(),
+        None => "none",
+    }
+}
+
+/// Ids and flags, a trace state, and the two values.
+const INJECTED: &[((u128, u64, u8), &str, &str, &str)] = &[
+    ((1, 1, 1), "", TRACEPARENT, ""),
+    (
+        (0x4bf92f3577b34da6a3ce929d0e0e4736, 0x00f067aa0ba902b7, 0),
+        "congo=t61rcWkgMzE,rojo=00f067aa0ba902b7",
+        "00-4bf92f3577b34da6a3ce929d0e0e4736-00f067aa0ba902b7-00",
+        "congo=t61rcWkgMzE,rojo=00f067aa0ba902b7",
+    ),
+    (
+        (u128::MAX, u64::MAX, 255),
+        "a= 1",
+        "00-ffffffffffffffffffffffffffffffff-ffffffffffffffff-ff",
+        "a= 1",
+    ),
+    ((0, 1, 1), "a=1", "none", "none"),
+    ((1, 0, 1), "a=1", "none", "none"),
+    ((0, 0, 0), "", "none", "none"),
+];
+
+#[test]
+fn a_valid_span_context_is_set(rt: HostRuntime) -> Result<(), Fail> {
+    let alloc = rt.alloc();
+    for (ids, state, traceparent, tracestate) in INJECTED {
+        let carrier = inject(alloc, remote(alloc, *ids, *state)?)?;
+        assert_eq!(rt; held(&carrier, "traceparent"), *traceparent);
+        assert_eq!(rt; held(&carrier, "tracestate"), *tracestate);
+        assert_eq!(rt; held(&carrier, "other"), "stays");
+        let len = if *traceparent == "none" { 1 } else { 3 };
+        assert_eq!(rt; carrier.len(), len);
+    }
+    Ok(())
+}
+
+/// What is injected is extracted again.
+#[test]
+fn all_256_flags_go_there_and_back(rt: HostRuntime) -> Result<(), Fail> {
+    let alloc = rt.alloc();
+    for flags in 0..256u32 {
+        let flags = flags as u8;
+        let carrier = inject(alloc, remote(alloc, (1, 1, flags), "a=1")?)?;
+        let digits = format!(in alloc; "{flags:02x}")?;
+        assert!(rt; held(&carrier, "traceparent").ends_with(digits.as_str()));
+        let texts = [
+            ("traceparent", held(&carrier, "traceparent")),
+            ("tracestate", held(&carrier, "tracestate")),
+        ];
+        assert_extracted(&rt, alloc, texts.as_slice(), Some((1, 1, flags, "a=1")))?;
+    }
+    Ok(())
+}
+
+/// Values of `tracestate` beside a good `traceparent`, and the trace state that is extracted: those
+/// with a fault of each kind give the empty one, and the span context stays.
+const TRACESTATES: &[(&str, &str)] = &[
+    ("v=1", "v=1"),
+    (" a=1 ,\tb=2", "a=1,b=2"),
+    ("", ""),
+    (" ,\t,", ""),
+    (" a=1 ,b", ""),
+    ("a=1,B=2", ""),
+    ("a=1,b=2=3", ""),
+    ("=", ""),
+    ("a=1,=2", ""),
+    ("a=1;b=2", ""),
+    ("\u{e9}=1", ""),
+];
+
+#[test]
+fn a_faulty_tracestate_is_the_empty_one(rt: HostRuntime) -> Result<(), Fail> {
+    let alloc = rt.alloc();
+    for (tracestate, state) in TRACESTATES {
+        let texts = [("traceparent", TRACEPARENT), ("tracestate", *tracestate)];
+        assert_extracted(&rt, alloc, texts.as_slice(), Some((1, 1, 1, *state)))?;
+    }
+    Ok(())
+}
+
+/// Without a good `traceparent` nothing is extracted, whatever the `tracestate`.
+#[test]
+fn a_tracestate_alone_gives_the_given_context(rt: HostRuntime) -> Result<(), Fail> {
+    let alloc = rt.alloc();
+    assert_extracted(&rt, alloc, &[], None)?;
+    assert_extracted(&rt, alloc, &[("tracestate", "a=1")], None)?;
+    assert_extracted(
+        &rt,
+        alloc,
+        &[("traceparent", "00-"), ("tracestate", "a=1")],
+        None,
+    )?;
+    assert_extracted(&rt, alloc, &[("Traceparent", TRACEPARENT)], None)
+}
+
+#[test]
+fn the_fields_are_in_order(rt: HostRuntime) -> Result<(), Fail> {
+    let propagator = TraceContextPropagator::new(rt.alloc())?;
+    let mut fields = propagator.fields();
+    assert_eq!(rt; fields.next(), Some("traceparent"));
+    assert_eq!(rt; fields.next(), Some("tracestate"));
+    assert_eq!(rt; fields.next(), None);
+    Ok(())
+}
