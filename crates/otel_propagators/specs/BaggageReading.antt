@@ -73,26 +73,17 @@ repeated_example : read_baggage (codes "a=1,b=2,a=3")
 unfolding percent_decode is_utf8 chars trim_start trim_end encode_utf8
 repeated_example = refl
 
--- the value is a text
-abbrev pub HasText : Member → Type 0
-HasText m = IsUtf8 m.value
-
--- What a header can carry: a baggage whose values are texts, and whose metadata holds no comma.
-pub record IsReadable (ms : List Member) : Type 0 where
-  pub baggage : IsBaggage ms
-  pub values : All HasText ms
-  pub metadata : All HasNoComma ms
-
--- The header of such a baggage reads as that baggage. That no metadata holds a comma is needed:
--- the header of `a` with the value `1` and the metadata `x,b=2` reads as two members.
+-- The header of a baggage reads as that baggage, where no metadata holds a comma (own).
 abbrev pub BaggageReads : Type 0
-BaggageReads = (ms : List Member) → IsReadable ms → read_baggage (header ms) ≡ ms
+BaggageReads = (ms : List Member) → IsBaggage ms → All HasNoComma ms → read_baggage (header ms) ≡ ms
 
+-- That is needed: the header of `a` with the value `1` and the metadata `x,b=2` reads as `a` with
+-- `1` and `x`, followed by `b` with `2`.
 comma_example : read_baggage (header (member_of (codes "a") (codes "1") (codes "x,b=2") ∷ []))
     ≡ member_of (codes "a") (codes "1") (codes "x") ∷ member_of (codes "b") (codes "2") [] ∷ []
 unfolding percent_decode is_utf8 chars trim_start trim_end encode_utf8
 comma_example = refl
 
--- What any text is read as is such a baggage: it keeps the limits, whatever comes in.
+-- What a text is read as is a baggage: it keeps the limits, whatever comes in (own).
 abbrev pub ReadsBaggage : Type 0
-ReadsBaggage = (text : List ℕ) → IsUtf8 text → IsReadable (read_baggage text)
+ReadsBaggage = (text : List ℕ) → IsUtf8 text → IsBaggage (read_baggage text)

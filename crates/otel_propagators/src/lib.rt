@@ -1,7 +1,9 @@
 //! The propagators of the headers `traceparent`, `tracestate` and `baggage`.
 #![tactic(auto)]
 
+pub mod baggage;
 mod blanks;
 pub mod trace_context;
 
+pub use baggage::BaggagePropagator;
 pub use trace_context::TraceContextPropagator;

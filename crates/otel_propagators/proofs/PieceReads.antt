@@ -1,0 +1,235 @@
+-- What the pieces of a header are read as.
+use Rattle.std.proofs.Common.{◌≡◌, ℕ, ◌+◌, ◌<◌, ◌≤◌, Bool, true, false, List, [], ◌∷◌, ◌++◌, length, drop, get_or, Some, None, inl, inr, refl, sym, ap, subst, ◌∙◌, arith, append_assoc, All}
+use Rattle.std.specs.Prelude.{◌&&◌, ◌||◌, nat_lt, nat_le, map, IsUtf8, if◌then◌else◌}
+use Rattle.std.specs.List.{list_all, list_any, before_first, after_first, join_with_byte, AllByRecursion}
+use Rattle.std.specs.Str.{bytes_eq, trim, is_utf8}
+use Rattle.otel_ids.proofs.Turns.{next_piece}
+use Rattle.std.proofs.lemmas.Bool.{cases_Bool, and_parts, and_from, or_from, or_right, cond-true, cond-false, cond_both, le-leb, lt-ltb, eqb-true}
+use Rattle.std.proofs.lemmas.Bool.Decides.{nat_tests}
+use Rattle.std.proofs.lemmas.List.{append-nil, length-append, drop_all}
+use Rattle.std.proofs.lemmas.List.Elements.{All-head, All-tail, All-nil}
+use Rattle.std.proofs.lemmas.List.Splits.{slice_split_none, slice_split_at, join_with_byte-slice_split}
+use Rattle.std.proofs.lemmas.List.Sums.{sum_by-append, sum_by-cons}
+use Rattle.std.proofs.lemmas.Map.Keys.{IsDistinct-head, IsDistinct-tail}
+use Rattle.std.proofs.lemmas.Str.{IsUtf8-from_is_utf8}
+use Rattle.percent_encoding.specs.Percent.{percent_decode}
+use Rattle.otel_ids.specs.Text.{is_comma, is_equals, is_blank, cut_blanks}
+use Rattle.otel_context.specs.BaggageText.{is_key_byte, is_key, escaped}
+use Rattle.otel_context.specs.BaggageMember.{Member, member_of, has_key, weight_of, IsValidMember}
+use Rattle.otel_context.specs.Baggage.{max_key_value_pairs, max_len_of_all_pairs, weight, put, accepts, insert, IsBaggage}
+use Rattle.otel_context.specs.BaggageHeader.{metadata_text, member_text, header}
+use Rattle.otel_context.specs.BaggageLaws.{HasNoComma}
+use Rattle.otel_context.proofs.BaggageTrims.{trim_twice}
+use Rattle.otel_propagators.specs.BaggageReading.{is_semicolon, pieces, key_and_value, key_in, written_value, value_in, metadata_in, member_in, is_member, with_piece, with_pieces, BaggageReads, ReadsBaggage}
+use Rattle.otel_propagators.proofs.FirstCuts.{none_append, some_at, none_from_all, none_from_not, none_All, before_at, after_at, before_none, after_none, no_blanks, utf8_cut, utf8_after}
+use Rattle.otel_propagators.proofs.EscapedValues.{is_written, all_written, decoded}
+use Rattle.otel_propagators.proofs.PutMembers.{AreDistinct, HasNone, distinct_nil, turned, insert_baggage}
+
+-- ---- bytes that stand neither in keys nor in escaped values
+
+key_comma : (b : ℕ) → is_key_byte b ≡ true → is_comma b ≡ false
+key_comma b h = grind (arith, nat_tests)
+
+key_semicolon : (b : ℕ) → is_key_byte b ≡ true → is_semicolon b ≡ false
+key_semicolon b h = grind (arith, nat_tests)
+
+key_equals : (b : ℕ) → is_key_byte b ≡ true → is_equals b ≡ false
+key_equals b h = grind (arith, nat_tests)
+
+key_blank : (b : ℕ) → is_key_byte b ≡ true → is_blank b ≡ false
+key_blank b h = grind (arith, nat_tests)
+
+written_comma : (b : ℕ) → is_written b ≡ true → is_comma b ≡ false
+written_comma b h = grind (arith, nat_tests)
+
+written_semicolon : (b : ℕ) → is_written b ≡ true → is_semicolon b ≡ false
+written_semicolon b h = grind (arith, nat_tests)
+
+written_blank : (b : ℕ) → is_written b ≡ true → is_blank b ≡ false
+written_blank b h = grind (arith, nat_tests)
+
+key_none : (p : ℕ → Bool) (apart : (b : ℕ) → is_key_byte b ≡ true → p b ≡ false) (k : List ℕ) → is_key k ≡ true → list_any p k ≡ false
+key_none p apart k h = none_from_all p is_key_byte apart k (and_parts (nat_lt 0 (length k)) (list_all is_key_byte k) h).1
+
+value_none : (p : ℕ → Bool) (apart : (b : ℕ) → is_written b ≡ true → p b ≡ false) (v : List ℕ) → IsUtf8 v → list_any p (escaped v) ≡ false
+value_none p apart v u = none_from_all p is_written apart (escaped v) (all_written v u)
+
+-- ---- one member
+
+-- what stands before the metadata
+abbrev head : Member → List ℕ
+head m = m.key ++ (61 ∷ escaped m.value)
+
+text_is : (m : Member) → member_text m ≡ head m ++ metadata_text m.metadata
+text_is m = sym (append_assoc m.key (61 ∷ escaped m.value) (metadata_text m.metadata))
+
+module _ (m : Member) (good : IsValidMember m) where
+  text : IsUtf8 m.value
+  text = IsUtf8-from_is_utf8 m.value good.1
+
+  head_none : (p : ℕ → Bool) (key : (b : ℕ) → is_key_byte b ≡ true → p b ≡ false) (value : (b : ℕ) → is_written b ≡ true → p b ≡ false) → p 61 ≡ false → list_any p (head m) ≡ false
+  head_none p key value equals =
+      none_append p m.key (61 ∷ escaped m.value) (key_none p key m.key good.0) (or_from (p 61) (list_any p (escaped m.value)) equals (value_none p value m.value text))
+
+  cut_metadata : (t : List ℕ) → (before_first is_semicolon (head m ++ metadata_text t) ≡ head m) × (after_first is_semicolon (head m ++ metadata_text t) ≡ t)
+  cut_metadata t = by t (head_none is_semicolon key_semicolon written_semicolon refl)
+    where
+      by : (t : List ℕ) → list_any is_semicolon (head m) ≡ false → (before_first is_semicolon (head m ++ metadata_text t) ≡ head m) × (after_first is_semicolon (head m ++ metadata_text t) ≡ t)
+      by [] n =
+          let e = append-nil (head m) in
+          (ap (before_first is_semicolon) e ∙ before_none is_semicolon (head m) n, ap (after_first is_semicolon) e ∙ after_none is_semicolon (head m) n)
+      by (b ∷ bs) n = (before_at is_semicolon (head m) 59 (b ∷ bs) n refl, after_at is_semicolon (head m) 59 (b ∷ bs) n refl)
+
+  front_is : key_and_value (member_text m) ≡ head m
+  front_is = ap (before_first is_semicolon) (text_is m) ∙ (cut_metadata m.metadata).0
+
+  rest_is : after_first is_semicolon (member_text m) ≡ m.metadata
+  rest_is = ap (after_first is_semicolon) (text_is m) ∙ (cut_metadata m.metadata).1
+
+  key_is : key_in (member_text m) ≡ m.key
+  key_is =
+      ap (λ (x : List ℕ). cut_blanks (before_first is_equals x)) front_is
+      ∙ ap cut_blanks (before_at is_equals m.key 61 (escaped m.value) (key_none is_equals key_equals m.key good.0) refl)
+      ∙ no_blanks m.key (key_none is_blank key_blank m.key good.0)
+
+  value_is : value_in (member_text m) ≡ m.value
+  value_is =
+      ap (λ (x : List ℕ). percent_decode (cut_blanks (after_first is_equals x))) front_is
+      ∙ ap (λ (x : List ℕ). percent_decode (cut_blanks x)) (after_at is_equals m.key 61 (escaped m.value) (key_none is_equals key_equals m.key good.0) refl)
+      ∙ ap percent_decode (no_blanks (escaped m.value) (value_none is_blank written_blank m.value text))
+      ∙ decoded m.value text
+
+  metadata_is : metadata_in (member_text m) ≡ m.metadata
+  metadata_is = ap trim rest_is ∙ good.2
+
+  member_is : member_in (member_text m) ≡ m
+  member_is = λ i. member_of (key_is i) (value_is i) (metadata_is i)
+
+  counts : is_member (member_text m) ≡ true
+  counts =
+      and_from (list_any is_equals (key_and_value (member_text m))) (is_utf8 (value_in (member_text m)))
+      (ap (list_any is_equals) front_is ∙ some_at is_equals m.key 61 (escaped m.value) refl)
+      (ap is_utf8 value_is ∙ good.1)
+
+  with_member : (ms : List Member) → with_piece ms (member_text m) ≡ insert ms m
+  with_member ms =
+      cond-true (is_member (member_text m)) (insert ms (member_in (member_text m))) ms counts ∙ ap (insert ms) member_is
+
+  no_comma : HasNoComma m → list_any is_comma (member_text m) ≡ false
+  no_comma none = ap (list_any is_comma) (text_is m) ∙ none_append is_comma (head m) (metadata_text m.metadata) (head_none is_comma key_comma written_comma refl) (rest m.metadata (none_from_not is_comma m.metadata none))
+    where
+      rest : (t : List ℕ) → list_any is_comma t ≡ false → list_any is_comma (metadata_text t) ≡ false
+      rest [] h = refl
+      rest (b ∷ bs) h = h
+
+-- ---- a further member
+
+weight_more : (ms ys : List Member) → weight (ms ++ ys) ≡ weight ms + weight ys
+weight_more ms ys = sum_by-append weight_of ms ys
+
+put_last : (ms : List Member) (m : Member) → list_any (has_key m.key) ms ≡ false → put ms m ≡ ms ++ m ∷ []
+put_last ms m h = cond-false (list_any (has_key m.key) ms) (map (λ other. if has_key m.key other then m else other) ms) (ms ++ m ∷ []) h
+
+not_among : (k : List ℕ) (xs : List Member) (m : Member) (ys : List Member) → HasNone k (xs ++ m ∷ ys) → bytes_eq k m.key ≡ false
+not_among k [] m ys h = h.0
+not_among k (x ∷ xs) m ys h = not_among k xs m ys h.1
+
+is_new : (xs : List Member) (m : Member) (ys : List Member) → AreDistinct (xs ++ m ∷ ys) → list_any (has_key m.key) xs ≡ false
+is_new [] m ys d = refl
+is_new (x ∷ xs) m ys d =
+    or_from (has_key m.key x) (list_any (has_key m.key) xs)
+    (turned x.key m.key (not_among x.key xs m ys (IsDistinct-head bytes_eq x.key (map (λ o. o.key) (xs ++ m ∷ ys)) d)))
+    (is_new xs m ys (IsDistinct-tail bytes_eq x.key (map (λ o. o.key) (xs ++ m ∷ ys)) d))
+
+inserted : (ms : List Member) (m : Member) → list_any (has_key m.key) ms ≡ false → is_key m.key ≡ true → length ms < max_key_value_pairs → weight ms + weight_of m ≤ max_len_of_all_pairs → insert ms m ≡ ms ++ m ∷ []
+inserted ms m new key few light =
+    let p = put_last ms m new in
+    let w = weight_more ms (m ∷ []) in
+    let one = sum_by-cons weight_of m [] in
+    let a : accepts ms m ≡ true = and_from (nat_le (weight (put ms m)) max_len_of_all_pairs) (list_any (has_key m.key) ms || (is_key m.key && nat_lt (length ms) max_key_value_pairs))
+    (le-leb (weight (put ms m)) max_len_of_all_pairs (omega (arith, ap weight p)))
+    (or_right (list_any (has_key m.key) ms) (is_key m.key && nat_lt (length ms) max_key_value_pairs) (and_from (is_key m.key) (nat_lt (length ms) max_key_value_pairs) key (lt-ltb (length ms) max_key_value_pairs few))) in
+    cond-true (accepts ms m) (put ms m) ms a ∙ p
+
+-- ---- all members
+
+all_inserted : (ms ys : List Member) → All IsValidMember ys → AreDistinct (ms ++ ys) → length ms + length ys ≤ max_key_value_pairs → weight ms + weight ys ≤ max_len_of_all_pairs → with_pieces ms (map member_text ys) ≡ ms ++ ys
+all_inserted ms [] good d few light = sym (append-nil ms)
+all_inserted ms (y ∷ ys) good d few light =
+    let valid = All-head IsValidMember y ys good in
+    let cons = sum_by-cons weight_of y ys in
+    let one = with_member y valid ms ∙ inserted ms y (is_new ms y ys d) valid.0 (omega arith) (omega arith) in
+    let same : (ms ++ y ∷ []) ++ ys ≡ ms ++ y ∷ ys = append_assoc ms (y ∷ []) ys in
+    let w = weight_more ms (y ∷ []) in
+    let single = sum_by-cons weight_of y [] in
+    let l = length-append ms (y ∷ []) in
+    let more = all_inserted (ms ++ y ∷ []) ys (All-tail IsValidMember y ys good) (subst AreDistinct (sym same) d) (omega arith) (omega arith) in
+    ap (λ (x : List Member). with_pieces x (map member_text ys)) one ∙ more ∙ same
+
+header_split : (m : Member) (ms : List Member) → All IsValidMember (m ∷ ms) → All HasNoComma (m ∷ ms) → pieces (header (m ∷ ms)) ≡ map member_text (m ∷ ms)
+header_split m [] good none = slice_split_none is_comma (member_text m) (none_All is_comma (member_text m) (no_comma m (All-head IsValidMember m [] good) (All-head HasNoComma m [] none)))
+header_split m (o ∷ ms) good none =
+    slice_split_at is_comma (member_text m) 44 (header (o ∷ ms)) (none_All is_comma (member_text m) (no_comma m (All-head IsValidMember m (o ∷ ms) good) (All-head HasNoComma m (o ∷ ms) none))) refl
+    ∙ ap (λ (x : List (List ℕ)). member_text m ∷ x) (header_split o ms (All-tail IsValidMember m (o ∷ ms) good) (All-tail HasNoComma m (o ∷ ms) none))
+
+pub baggage_reads : BaggageReads
+baggage_reads [] held none = refl
+baggage_reads (m ∷ ms) held none =
+    ap (with_pieces []) (header_split m ms held.valid none)
+    ∙ all_inserted [] (m ∷ ms) held.valid held.distinct (let f = held.few in omega arith) (let l = held.light in omega arith)
+
+-- ---- what is read is a baggage
+
+no_members : IsBaggage []
+no_members = record { few = omega arith; distinct = distinct_nil; valid = All-nil IsValidMember; light = omega arith }
+
+semicolon_small : (b : ℕ) → is_semicolon b ≡ true → b < 128
+semicolon_small b h = let e = eqb-true b 59 h in omega arith
+
+piece_baggage : (ms : List Member) (piece : List ℕ) → IsBaggage ms → IsUtf8 piece → IsBaggage (with_piece ms piece)
+piece_baggage ms piece held u =
+    cond_both (is_member piece) (insert ms (member_in piece)) ms IsBaggage
+    (λ t. insert_baggage ms (member_in piece) held (and_parts (list_any is_equals (key_and_value piece)) (is_utf8 (value_in piece)) t).1 (trim_twice (after_first is_semicolon piece) (utf8_after is_semicolon semicolon_small piece u)))
+    (λ f. held)
+
+pieces_baggage : (ms : List Member) (ps : List (List ℕ)) → IsBaggage ms → AllByRecursion IsUtf8 ps → IsBaggage (with_pieces ms ps)
+pieces_baggage ms [] held u = held
+pieces_baggage ms (p ∷ ps) held u = pieces_baggage (with_piece ms p) ps (piece_baggage ms p held u.0) u.1
+
+joined_utf8 : (ps : List (List ℕ)) → IsUtf8 (join_with_byte 44 ps) → AllByRecursion IsUtf8 ps
+joined_utf8 [] u = tt
+joined_utf8 (p ∷ []) u = (u, tt)
+joined_utf8 (p ∷ q ∷ ps) u = let c = utf8_cut p 44 (join_with_byte 44 (q ∷ ps)) (omega arith) u in (c.0, joined_utf8 (q ∷ ps) c.1)
+
+pub reads_baggage : ReadsBaggage
+reads_baggage t u = pieces_baggage [] (pieces t) no_members (joined_utf8 (pieces t) (subst IsUtf8 (sym (join_with_byte-slice_split 44 t)) u))
+
+-- ---- what the code does with a piece
+
+decoded_to : (text bytes : List ℕ) → Some text ≡ (if is_utf8 bytes then Some bytes else None) → (is_utf8 bytes ≡ true) × (text ≡ bytes)
+decoded_to text bytes h =
+    elim (cases_Bool (is_utf8 bytes)) [
+      | inl t ↦ let e : Some text ≡ Some bytes = h ∙ cond-true (is_utf8 bytes) (Some bytes) None t in (t, (cc))
+      | inr f ↦ let e : Some text ≡ None = h ∙ cond-false (is_utf8 bytes) (Some bytes) None f in absurd (cc)
+    ]
+
+module _ (ms : List Member) (piece : List ℕ) (u : IsUtf8 piece) where
+  -- it is inserted
+  pub piece_inserted : (key value metadata text : List ℕ) → list_any is_equals (key_and_value piece) ≡ true → key ≡ key_in piece → value ≡ written_value piece → metadata ≡ metadata_in piece
+      → Some text ≡ (if is_utf8 (percent_decode value) then Some (percent_decode value) else None) → insert ms (member_of key text (trim metadata)) ≡ with_piece ms piece
+  piece_inserted key value metadata text some k v d t =
+      let r = decoded_to text (percent_decode value) t in
+      let decodes : text ≡ value_in piece = r.1 ∙ ap percent_decode v in
+      let utf8 : is_utf8 (value_in piece) ≡ true = ap (λ (x : List ℕ). is_utf8 (percent_decode x)) (sym v) ∙ r.0 in
+      let cut : trim metadata ≡ metadata_in piece = ap trim d ∙ trim_twice (after_first is_semicolon piece) (utf8_after is_semicolon semicolon_small piece u) in
+      ap (insert ms) (λ i. member_of (k i) (decodes i) (cut i))
+      ∙ sym (cond-true (is_member piece) (insert ms (member_in piece)) ms (and_from (list_any is_equals (key_and_value piece)) (is_utf8 (value_in piece)) some utf8))
+
+-- ---- the loop
+
+pub goes_on : (ps : List (List ℕ)) (n k : ℕ) (piece : List ℕ) (ms new total : List Member) → k ≡ n + 1 → (n < length ps) × (piece ≡ get_or ps n piece) → new ≡ with_piece ms piece → with_pieces ms (drop n ps) ≡ total → with_pieces new (drop k ps) ≡ total
+goes_on ps n k piece ms new total next turn is so_far =
+    rw (next, is) (sym (ap (with_pieces ms) (next_piece ps n piece turn)) ∙ so_far)
+
+pub ends : (ps : List (List ℕ)) (n : ℕ) (ms total : List Member) → length ps ≤ n → with_pieces ms (drop n ps) ≡ total → ms ≡ total
+ends ps n ms total le so_far = ap (with_pieces ms) (sym (drop_all n ps le)) ∙ so_far

@@ -1,0 +1,89 @@
+//! The header `baggage` (W3C baggage), which carries a context's baggage.
+ghost use Rattle.std.specs.Prelude.{◌≡◌, IfOk, map, string_bytes};
+ghost use Rattle.otel_context.specs.BaggageHeader.{header};
+ghost use Rattle.otel_propagators.specs.BaggagePropagator.{baggage_fields, members};
+
+mod acceptance;
+mod reading;
+
+use self::reading::read_baggage;
+use opentelemetry::Context;
+use opentelemetry::propagation::text_map_propagator::FieldIter;
+use opentelemetry::propagation::{Extractor, Injector, PropagationError, TextMapPropagator};
+use std::alloc::{AllocError, Global};
+
+/// The name of the header (W3C baggage, "Header Name").
+const BAGGAGE_HEADER: &str = "baggage";
+
+/// Carries a context's baggage in the header `baggage` (the Rust crate's `BaggagePropagator`).
+///
+/// It sets `baggage` to the text of the context's baggage, which is empty where the context has no
+/// baggage. It extracts the given context with the baggage that the value of `baggage` is read as;
+/// where there is no such value, the given context. It never refuses of itself: what can't be read
+/// or isn't accepted is skipped.
+#[derive(Drop)]
+pub struct BaggagePropagator {
+    alloc: Global,
+    fields: Vec<String>,
+    ghost named: { map string_bytes fields.items ≡ baggage_fields },
+}
+
+impl BaggagePropagator {
+    /// The propagator. What it sets takes its memory from this allocator.
+    ///
+    /// # Errors
+    ///
+    /// `AllocError` where the request for the memory of the field's name fails.
+    pub fn new(alloc: Global) -> Result<BaggagePropagator, AllocError> {
+        let fields = vec![in alloc; String::from_str(alloc, BAGGAGE_HEADER)?]?;
+        Ok(BaggagePropagator { alloc, fields })
+    }
+}
+
+/// The text of the context's baggage, and the empty text without one.
+fn header_of(alloc: Global, context: &Context) -> Result<String, AllocError>
+    ensures { IfOk result (λ text. string_bytes text ≡ header (members context.now)) }
+{
+    match context.baggage() {
+        Some(baggage) => format!(in alloc; "{baggage}"),
+        None => Ok(String::new(alloc)),
+    }
+}
+
+impl TextMapPropagator for BaggagePropagator {
+    ghost use Rattle.std.specs.Prelude.{false};
+    ghost use Rattle.otel_propagators.specs.BaggagePropagator.{baggage_extracted};
+    ghost use Rattle.otel_propagators.specs.BaggagePropagator.{baggage_fields, baggage_pairs};
+
+    ghost pairs = { λ _ context. baggage_pairs context };
+
+    ghost extracted = { λ _ context texts. baggage_extracted context texts };
+
+    ghost field_names = { λ _. baggage_fields };
+
+    ghost may_refuse = { λ _. false };
+
+    fn inject_context(
+        &self,
+        context: &Context,
+        injector: &mut dyn Injector,
+    ) -> Result<(), PropagationError> {
+        injector.set(BAGGAGE_HEADER, header_of(self.alloc, context)?)
+    }
+
+    fn extract_with_context(
+        &self,
+        alloc: Global,
+        context: &Context,
+        extractor: &dyn Extractor,
+    ) -> Result<Context, PropagationError> {
+        match extractor.get(alloc, BAGGAGE_HEADER)? {
+            Some(text) => Ok(context.with_baggage(alloc, read_baggage(alloc, text)?)?),
+            None => Ok(context.clone()?),
+        }
+    }
+
+    fn fields(&self) -> FieldIter<'_> {
+        FieldIter::new(&self.fields)
+    }
+}

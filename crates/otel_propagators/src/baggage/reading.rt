@@ -1,0 +1,112 @@
+//! Reading the value of a `baggage` header.
+ghost use Rattle.std.specs.Prelude.{◌≡◌, IfOk, OnOk, MatchOption, Some, None, true, false};
+ghost use Rattle.std.specs.Prelude.{if◌then◌else◌};
+ghost use Rattle.std.specs.List.{list_any, before_first, after_first};
+ghost use Rattle.std.specs.Str.{is_utf8, trim};
+ghost use Rattle.percent_encoding.specs.Percent.{percent_decode};
+ghost use Rattle.otel_ids.specs.Text.{is_equals};
+ghost use Rattle.otel_context.specs.Baggage.{insert};
+ghost use Rattle.otel_context.specs.BaggageMember.{member_of};
+ghost use Rattle.otel_propagators.specs.BaggageReading.{is_semicolon, key_and_value, key_in};
+ghost use Rattle.otel_propagators.specs.BaggageReading.{written_value, metadata_in};
+ghost use Rattle.otel_propagators.specs.BaggageReading.{with_piece, read_baggage};
+
+use super::acceptance::accepts;
+use crate::blanks::cut_blanks;
+use opentelemetry::baggage::{Baggage, BaggageMetadata};
+use opentelemetry::{Key, StringValue};
+use percent_encoding::{DecodeError, percent_decode};
+use std::alloc::{AllocError, Global};
+
+/// What stands before the first `;` of a piece, and after it. Without one all stands before it.
+fn split_metadata(piece: &str) -> (&str, &str)
+    ensures before { result.0.now ≡ key_and_value piece.now }
+    ensures after { result.1.now ≡ after_first is_semicolon piece.now }
+{
+    match piece.split_once(';') {
+        Some(parts) => parts,
+        None => (piece, ""),
+    }
+}
+
+/// What stands before the first `=` and after it, if there is one.
+fn split_value(member: &str) -> Option<(&str, &str)>
+    ensures { MatchOption result (list_any is_equals member.now ≡ false) (λ parts.
+        (list_any is_equals member.now ≡ true)
+        × (parts.0.now ≡ before_first is_equals member.now)
+        × (parts.1.now ≡ after_first is_equals member.now)) }
+{
+    let (key, value) = member.split_once('=')?;
+    Some((key, value))
+}
+
+/// The key, the value as it is written, and the metadata of a piece, if it has a `=` before its
+/// first `;`.
+fn split_piece(piece: &str) -> Option<(&str, &str, &str)>
+    ensures { MatchOption result (list_any is_equals (key_and_value piece.now) ≡ false) (λ parts.
+        (list_any is_equals (key_and_value piece.now) ≡ true)
+        × (parts.0.now ≡ key_in piece.now) × (parts.1.now ≡ written_value piece.now)
+        × (parts.2.now ≡ metadata_in piece.now)) }
+{
+    let (member, metadata) = split_metadata(piece);
+    let (key, value) = split_value(member)?;
+    Some((cut_blanks(key), cut_blanks(value), metadata.trim()))
+}
+
+/// The value that is written so, if it is UTF-8.
+fn decode(alloc: Global, value: &str) -> Result<Option<StringValue>, AllocError>
+    ensures { let decoded = percent_decode value.now in
+        IfOk result (λ text. text ≡ (if is_utf8 decoded then Some decoded else None)) }
+{
+    match percent_decode(value.as_bytes()).decode_utf8(alloc) {
+        Ok(text) => Ok(Some(StringValue::from(text.into_owned(alloc)?))),
+        Err(DecodeError::OutOfMemory) => Err(AllocError),
+        Err(DecodeError::Utf8(_)) => Ok(None),
+    }
+}
+
+/// Inserts the member of this key, this value and this metadata, if it is accepted.
+fn insert_member(
+    alloc: Global,
+    baggage: &mut Baggage,
+    key: &str,
+    value: StringValue,
+    metadata: &str,
+) -> Result<(), AllocError>
+    ensures { let m = member_of key.now value (trim metadata.now) in
+        OnOk result (baggage.new ≡ insert baggage.old m) }
+{
+    let key = Key::from(String::from_str(alloc, key)?);
+    let metadata = BaggageMetadata::new(alloc, metadata)?;
+    drop(baggage.insert_with_metadata(key, value, metadata)?);
+    Ok(())
+}
+
+/// Inserts the member that the piece is, if it is one and is accepted. A piece that isn't accepted
+/// takes no memory.
+fn insert_piece(alloc: Global, baggage: &mut Baggage, piece: &str) -> Result<(), AllocError>
+    ensures { OnOk result (baggage.new ≡ with_piece baggage.old piece.now) }
+{
+    let Some((key, value, metadata)) = split_piece(piece) else {
+        return Ok(());
+    };
+    if !accepts(baggage, key, value, metadata) {
+        return Ok(());
+    }
+    match decode(alloc, value)? {
+        Some(value) => insert_member(alloc, baggage, key, value, metadata),
+        None => Ok(()),
+    }
+}
+
+/// The baggage that the text is read as: the members of its pieces, in order, from the empty
+/// baggage on.
+pub(super) fn read_baggage(alloc: Global, text: &str) -> Result<Baggage, AllocError>
+    ensures { IfOk result (λ baggage. baggage ≡ read_baggage text.now) }
+{
+    let mut baggage = Baggage::new(alloc);
+    for piece in text.split(',') {
+        insert_piece(alloc, &mut baggage, piece)?;
+    }
+    Ok(baggage)
+}
