@@ -1,8 +1,8 @@
--- A trace state is a list of at most 32 pairs, each valid. Each method has its word here:
--- `from_key_value`, `get`, `insert`, `delete`, `header_delimited`, `header`. What `from_str` reads
--- is in `Reading.antt`.
-use Rattle.std.specs.Prelude.{◌≡◌, ℕ, ◌-◌, ◌≤◌, Bool, true, List, [], ◌∷◌, ◌++◌, length, map, take}
-use Rattle.std.specs.Prelude.{Option, Some, None, if◌then◌else◌}
+-- A trace state is a list of at most 32 pairs, each valid, no two of one key. Each method has its
+-- word here: `from_key_value`, `get`, `insert`, `delete`, `header_delimited`, `header`. What
+-- `from_str` reads is in `Reading.antt`.
+use Rattle.std.specs.Prelude.{◌≡◌, ℕ, ◌-◌, ◌≤◌, Bool, true, false, not, List, [], ◌∷◌, ◌++◌, length}
+use Rattle.std.specs.Prelude.{map, filter, take, Option, Some, None, if◌then◌else◌, codes, refl}
 use Rattle.std.specs.List.{AllByRecursion, flat_map}
 use Rattle.std.specs.Str.{bytes_eq}
 use denote.Ref.{Bor}
@@ -20,37 +20,64 @@ pair_with key value = record { key = key; value = value }
 abbrev pub IsValid : Pair → Type 0
 IsValid p = (is_key p.key ≡ true) × (is_value p.value ≡ true)
 
--- at most 32 pairs, each valid [W3C trace-context-2, "list": at most 32 list-members]
+abbrev pub has_key : List ℕ → Pair → Bool
+has_key key p = bytes_eq p.key key
+
+abbrev pub LacksKey : List ℕ → List Pair → Type 0
+LacksKey key ps = AllByRecursion (λ p. has_key key p ≡ false) ps
+
+-- no two of the pairs have one key
+abbrev pub DistinctKeys : List Pair → Type 0
+DistinctKeys [] = Unit {0}
+DistinctKeys (p ∷ ps) = LacksKey p.key ps × DistinctKeys ps
+
+-- at most 32 pairs, each valid, and no two of one key [W3C trace-context-2, "list": at most 32
+-- list-members; "Combined Header Value": only one entry per key]
 pub record IsState (pairs : List Pair) : Type 0 where
   pub few : length pairs ≤ max_pairs
   pub valid : AllByRecursion IsValid pairs
+  pub distinct : DistinctKeys pairs
+
+-- the value of the pair of the key: 1 of the key a in a=1,b=2 [`TraceState::get`]
+abbrev pub get : List Pair → List ℕ → Option (List ℕ)
+get [] key = None
+get (p ∷ ps) key = if has_key key p then Some p.value else get ps key
+
+-- without the pair of the key: a=1,b=2 without a is b=2 [`TraceState::delete`]
+abbrev pub delete : List Pair → List ℕ → List Pair
+delete ps key = filter (λ p. not (has_key key p)) ps
+
+-- the pair, followed by the first 31 of the others, without the older pair of its key: b=2 in front
+-- of a=1,b=1 makes b=2,a=1 [W3C trace-context-2, "Mutating the tracestate Field";
+-- `TraceState::insert`]
+abbrev pub insert : List Pair → List ℕ → List ℕ → List Pair
+insert ps key value = pair_with key value ∷ take (max_pairs - 1) (delete ps key)
+
+-- the pairs without those whose key an earlier one has [W3C trace-context-2, "Combined Header
+-- Value"; the Rust crate keeps them]
+abbrev pub first_of_each_key : List Pair → List Pair
+first_of_each_key [] = []
+first_of_each_key (p ∷ ps) = p ∷ delete (first_of_each_key ps) p.key
+
+-- of a=1,b=2,a=3,b=4 these are a=1,b=2
+first_of_each_key_example : first_of_each_key (
+    pair_with (codes "a") (codes "1") ∷ pair_with (codes "b") (codes "2")
+    ∷ pair_with (codes "a") (codes "3") ∷ pair_with (codes "b") (codes "4") ∷ []
+    ) ≡ pair_with (codes "a") (codes "1") ∷ pair_with (codes "b") (codes "2") ∷ []
+first_of_each_key_example = refl
 
 -- the pair of a key and a value that a caller lends
 abbrev pub lent_pair : Bor (List ℕ) × Bor (List ℕ) → Pair
 lent_pair p = pair_with p.0.now p.1.now
 
--- the first 32 of the pairs that a caller lends [`TraceState::from_key_value`]
+-- the first 32 of the pairs that a caller lends
+abbrev pub lent_pairs : List (Bor (List ℕ) × Bor (List ℕ)) → List Pair
+lent_pairs ps = take max_pairs (map lent_pair ps)
+
+-- of the first 32 of the pairs that a caller lends, the first of each key
+-- [`TraceState::from_key_value`]
 abbrev pub from_key_value : List (Bor (List ℕ) × Bor (List ℕ)) → List Pair
-from_key_value ps = take max_pairs (map lent_pair ps)
-
-abbrev pub has_key : List ℕ → Pair → Bool
-has_key key p = bytes_eq p.key key
-
--- the value of the first pair with the key: 1 of the key a in a=1,b=2,a=3 [`TraceState::get`]
-abbrev pub get : List Pair → List ℕ → Option (List ℕ)
-get [] key = None
-get (p ∷ ps) key = if has_key key p then Some p.value else get ps key
-
--- without the first pair with the key: a=1,b=2,a=3 without a is b=2,a=3 [`TraceState::delete`]
-abbrev pub delete : List Pair → List ℕ → List Pair
-delete [] key = []
-delete (p ∷ ps) key = if has_key key p then ps else p ∷ delete ps key
-
--- the pair, followed by the first 31 of the others, from which the first one with the key is left
--- out: b=2 in front of a=1,b=1,b=0 makes b=2,a=1,b=0 [W3C trace-context-2, "Mutating the tracestate
--- Field"; `TraceState::insert`]
-abbrev pub insert : List Pair → List ℕ → List ℕ → List Pair
-insert ps key value = pair_with key value ∷ take (max_pairs - 1) (delete ps key)
+from_key_value ps = first_of_each_key (lent_pairs ps)
 
 -- the key, the delimiter and the value
 abbrev pub entry : List ℕ → Pair → List ℕ

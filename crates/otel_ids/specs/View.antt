@@ -3,13 +3,14 @@
 -- values. No public clause cites this.
 use Rattle.std.specs.Prelude.{◌≡◌, ℕ, ◌+◌, ◌<◌, ◌≤◌, Bool, List, [], ◌∷◌, length, map, take, drop}
 use Rattle.std.specs.Prelude.{slice_index}
-use Rattle.std.specs.Prelude.{Option, Some, None, refl}
+use Rattle.std.specs.Prelude.{Option, Some, None, refl, ◌++◌, if◌then◌else◌}
+use Rattle.std.specs.List.{list_any}
 use Rattle.std.specs.Coded.{Coded, code_by, coded×, coded_ℕ, coded_bool, coded_list}
 use Rattle.std.specs.Str.{IsUtf8}
 use Rattle.std.specs.Global.{Global}
 use Rattle.std.specs.declared.rc.Rc.{Rc}
 use Rattle.otel_ids.specs.declared.held.Place.{Place}
-use Rattle.otel_ids.specs.TraceState.{Pair, pair_with, header}
+use Rattle.otel_ids.specs.TraceState.{Pair, pair_with, has_key, header}
 use Rattle.otel_ids.specs.SpanContext.{SpanContextRecord}
 
 -- ---- a trace state
@@ -36,6 +37,10 @@ pub record IsHeld (places : List Place) (text : List ℕ) : Type 0 where
 pub record IsLeft (places : List Place) (text : List ℕ) : Type 0 where
   pub held : IsHeld places text
   pub utf8 : IsUtf8 text
+
+-- the pairs, and the pair after them where none of them has its key
+abbrev pub with_new_key : List Pair → Pair → List Pair
+with_new_key ps p = if list_any (has_key p.key) ps then ps else ps ++ p ∷ []
 
 -- the pairs of an optional `Rc`, and none of `None`
 abbrev pub shared : Option (Rc (List Pair) Global) → List Pair

@@ -85,6 +85,10 @@ fn reports_a_run(rt: HostRuntime) -> Result<(), Fail> {
             "attach 0: position 1\ncurrent: a\ncontext-name=a\ntracestate=v=1,w= 2\n",
         ),
         (
+            "attach x a=1,a=2",
+            "attach 0: position 1\ncurrent: x\ncontext-name=x\ntracestate=a=1\n",
+        ),
+        (
             "attach a v=1\nattach b w=2\ndetach 1\n",
             "attach 0: position 1\nattach 1: position 2\ncurrent: a\ncontext-name=a\ntracestate=v=1\n",
         ),

@@ -3,6 +3,7 @@
 
 mod limits;
 mod reading;
+mod repeated_keys;
 mod span_context;
 mod trace_context;
 mod trace_state;

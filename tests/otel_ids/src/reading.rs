@@ -15,7 +15,6 @@ const HEADERS: &[(&str, &str)] = &[
     ("rojo=1, ,\t,congo=2", "rojo=1,congo=2"),
     ("rojo= 1 , congo=  2\t", "rojo= 1,congo=  2"),
     ("foo===bar", "foo=bar"),
-    ("a=1,a=2", "a=1,a=2"),
     ("a=", "a="),
     ("a=1;b", "a=1;b"),
     (
