@@ -9,6 +9,10 @@ pub fn play(task: &Task<'_>, alloc: Global) -> Result<Option<u64>, AllocError> {
             let text = text(alloc, task.size)?;
             repeat(Reading { alloc, text }, task.times)
         }
+        "state_read_alike" => {
+            let text = alike(alloc, task.size)?;
+            repeat(Reading { alloc, text }, task.times)
+        }
         "state_read_header" => {
             let text = text(alloc, task.size)?;
             repeat(ReadingAndPrinting { alloc, text }, task.times)
@@ -48,6 +52,24 @@ fn text(alloc: Global, size: usize) -> Result<String, AllocError> {
             text.push_str(",")?;
         }
         let pair = format!(in alloc; "key{number}=value{number}")?;
+        text.push_str(pair.as_str())?;
+    }
+    Ok(text)
+}
+
+/// The last bytes of keys that are alike but for these.
+const LAST: &str = "abcdefghijklmnopqrstuvwxyz0123456789";
+
+/// So many pairs, `xx..xa=value0` and so on, whose keys have 256 bytes and differ in the last one alone.
+#[inline(never)]
+fn alike(alloc: Global, size: usize) -> Result<String, AllocError> {
+    let front = "x".repeat(alloc, 255)?;
+    let mut text = String::new(alloc);
+    for (number, last) in LAST.chars().take(size).enumerate() {
+        if number > 0 {
+            text.push_str(",")?;
+        }
+        let pair = format!(in alloc; "{front}{last}=value{number}")?;
         text.push_str(pair.as_str())?;
     }
     Ok(text)

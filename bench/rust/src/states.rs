@@ -5,10 +5,13 @@ use std::hint::black_box;
 use std::str::FromStr;
 
 pub fn play(task: &Task<'_>) -> Option<u64> {
-    let text = text(task.size);
+    let text = match task.name {
+        "state_read_alike" => alike(task.size),
+        _ => text(task.size),
+    };
     let state = read(&text);
     match task.name {
-        "state_read" => task.repeat(|| {
+        "state_read" | "state_read_alike" => task.repeat(|| {
             drop(black_box(read(black_box(&text))));
             0
         }),
@@ -49,6 +52,18 @@ fn read(text: &str) -> TraceState {
 fn text(size: usize) -> String {
     let pairs: Vec<String> = (0..size)
         .map(|number| format!("key{number}=value{number}"))
+        .collect();
+    pairs.join(",")
+}
+
+/// So many pairs, `xx..xa=value0` and so on, whose keys have 256 bytes and differ in the last one alone.
+fn alike(size: usize) -> String {
+    let front = "x".repeat(255);
+    let pairs: Vec<String> = "abcdefghijklmnopqrstuvwxyz0123456789"
+        .chars()
+        .take(size)
+        .enumerate()
+        .map(|(number, last)| format!("{front}{last}=value{number}"))
         .collect();
     pairs.join(",")
 }
