@@ -4,6 +4,7 @@
 //! is. What is printed is a number that depends on what the calls gave.
 #![tactic(auto)]
 
+mod attacks;
 mod baggages;
 mod contexts;
 mod ids;
@@ -29,6 +30,7 @@ fn play(task: &Task<'_>, alloc: Global) -> Result<Option<u64>, AllocError> {
     match group {
         "context" => contexts::play(task, alloc),
         "attach" | "push" => stacks::play(task, alloc),
+        "attack" => attacks::play(task, alloc),
         "round" => rounds::play(task, alloc),
         "state" => states::play(task, alloc),
         "baggage" => baggages::play(task, alloc),

@@ -1,0 +1,91 @@
+//! Texts and runs that are long and come to little, as an attacker would send them.
+use crate::injections::{composite, let_go};
+use crate::operation::{Operation, Task, add, repeat};
+use opentelemetry::Context;
+use opentelemetry::carry::{self, StackEvent};
+use opentelemetry::propagation::TextMapCompositePropagator;
+use opentelemetry::trace::TraceState;
+use std::alloc::{AllocError, Global};
+use std::collections::HashMap;
+
+pub fn play(task: &Task<'_>, alloc: Global) -> Result<Option<u64>, AllocError> {
+    match task.name {
+        "attack_state_blanks" => read(alloc, "a=1", " ", task),
+        "attack_state_equals" => read(alloc, "a", "=", task),
+        "attack_state_key" => read(alloc, "a=1,", "k", task),
+        "attack_detaches" => {
+            let detaching = Detaching {
+                alloc,
+                composite: composite(alloc)?,
+                size: task.size,
+            };
+            repeat(detaching, task.times)
+        }
+        _ => Ok(None),
+    }
+}
+
+/// Reads a text that begins so and goes on with one sign, many times over, as a trace state.
+fn read(
+    alloc: Global,
+    begin: &str,
+    sign: &str,
+    task: &Task<'_>,
+) -> Result<Option<u64>, AllocError> {
+    let mut text = String::from_str(alloc, begin)?;
+    let more = sign.repeat(alloc, task.size)?;
+    text.push_str(more.as_str())?;
+    repeat(Reading { alloc, text }, task.times)
+}
+
+/// Adds how many pairs the state has, or how long the text of its error is.
+#[inline(never)]
+fn read_state(alloc: Global, text: &str, sum: &mut u64) {
+    match TraceState::from_str(alloc, text) {
+        Ok(state) => add(sum, state.iter().len()),
+        Err(_) => add(sum, 7),
+    }
+}
+
+#[derive(Drop)]
+struct Reading {
+    alloc: Global,
+    text: String,
+}
+
+impl Operation for Reading {
+    fn once(&mut self, sum: &mut u64) -> Result<(), AllocError> {
+        read_state(self.alloc, self.text.as_str(), sum);
+        Ok(())
+    }
+}
+
+/// An attach, and so many detaches of numbers that are never attached.
+#[inline(never)]
+fn unknown_detaches(alloc: Global, size: usize) -> Result<Vec<StackEvent>, AllocError> {
+    let mut events = Vec::with_capacity(alloc, size.saturating_add(1))?;
+    events.push(StackEvent::Attach(Context::new()))?;
+    for number in 0..size {
+        events.push(StackEvent::Detach(number.saturating_add(1)))?;
+    }
+    Ok(events)
+}
+
+/// A run of these events. To make them is part of it, since a run takes them by value.
+#[derive(Drop)]
+struct Detaching {
+    alloc: Global,
+    composite: TextMapCompositePropagator,
+    size: usize,
+}
+
+impl Operation for Detaching {
+    fn once(&mut self, sum: &mut u64) -> Result<(), AllocError> {
+        let events = unknown_detaches(self.alloc, self.size)?;
+        let mut carrier = HashMap::new(self.alloc);
+        let report = carry::run(self.alloc, events, &self.composite, &mut carrier)?;
+        add(sum, report.outcomes.len());
+        let_go(carrier, sum);
+        Ok(())
+    }
+}
