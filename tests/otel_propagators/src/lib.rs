@@ -1,5 +1,7 @@
 //! What no clause says: the headers' worked rows, and each call once.
 #![tactic(auto)]
 
+mod baggage;
+mod baggage_sizes;
 mod trace_context;
 mod trace_context_form;
