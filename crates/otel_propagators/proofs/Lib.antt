@@ -5,3 +5,6 @@ pub mod FirstCuts
 pub mod EscapedValues
 pub mod PutMembers
 pub mod PieceReads
+pub mod Carried
+pub mod Kept
+pub mod Callers

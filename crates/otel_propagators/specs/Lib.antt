@@ -3,3 +3,4 @@ pub mod TraceContext
 pub mod TraceParent
 pub mod BaggageReading
 pub mod BaggagePropagator
+pub mod Laws

@@ -3,5 +3,6 @@
 
 mod baggage;
 mod baggage_sizes;
+mod there_and_back;
 mod trace_context;
 mod trace_context_form;

@@ -1,0 +1,61 @@
+//! Callers of both propagators, proved from their contracts and the law alone.
+ghost use Rattle.std.specs.Prelude.{IfOk, OnOk};
+ghost use Rattle.opentelemetry.specs.Carrier.{Sets, text_map};
+ghost use Rattle.opentelemetry.specs.Extraction.{Extracts};
+ghost use Rattle.otel_propagators.specs.Laws.{ComesBack};
+
+use crate::baggage::BaggagePropagator;
+use crate::laws::{every_context, headers_there_and_back};
+use crate::trace_context::TraceContextPropagator;
+use opentelemetry::Context;
+use opentelemetry::propagation::{PropagationError, TextMapPropagator};
+use std::alloc::Global;
+use std::collections::HashMap;
+
+/// Injects into a map.
+fn inject<P: TextMapPropagator>(
+    propagator: &P,
+    context: &Context,
+    carrier: &mut HashMap<String, String>,
+) -> Result<(), PropagationError>
+    ensures { OnOk result (Sets (text_map carrier.old.entries)
+        (P.pairs propagator.now context.now) (text_map carrier.new.entries)) }
+{
+    propagator.inject_context(context, carrier)
+}
+
+/// Extracts from a map.
+fn extract<P: TextMapPropagator>(
+    propagator: &P,
+    alloc: Global,
+    context: &Context,
+    carrier: &HashMap<String, String>,
+) -> Result<Context, PropagationError>
+    ensures { Extracts (P.extracted propagator.now context.now (text_map carrier.now.entries))
+        (P.may_refuse propagator.now) result }
+{
+    propagator.extract_with_context(alloc, context, carrier)
+}
+
+/// Injects the context into the carrier by both propagators, and extracts it from there into the
+/// empty context.
+///
+/// # Errors
+///
+/// `Memory` where a request for memory fails. A beginning of the pairs is set then.
+pub fn there_and_back(
+    alloc: Global,
+    trace: &TraceContextPropagator,
+    baggage: &BaggagePropagator,
+    context: &Context,
+    carrier: &mut HashMap<String, String>,
+) -> Result<Context, PropagationError>
+    ensures { IfOk result (λ back. ComesBack context.now (text_map carrier.old.entries) back) }
+{
+    every_context(context);
+    headers_there_and_back();
+    inject(trace, context, carrier)?;
+    inject(baggage, context, carrier)?;
+    let given = extract(trace, alloc, &Context::new(), carrier)?;
+    extract(baggage, alloc, &given, carrier)
+}
