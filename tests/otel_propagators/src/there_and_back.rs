@@ -1,9 +1,7 @@
 //! Both headers there and back: what is extracted is injected again as the same headers, by both
 //! propagators in turn, by a composite of both and by a join, in each order.
 use opentelemetry::baggage::{Baggage, BaggageMetadata};
-use opentelemetry::propagation::{
-    PropagationError, TextMapCompositePropagator, TextMapPropagator,
-};
+use opentelemetry::propagation::{PropagationError, TextMapCompositePropagator, TextMapPropagator};
 use opentelemetry::trace::{SpanContext, SpanId, TraceFlags, TraceId, TraceState};
 use opentelemetry::{Context, Key, StringValue};
 use otel_propagators::there_and_back::there_and_back;
@@ -125,8 +123,7 @@ type Members = Vec<Box<dyn TextMapPropagator>>;
 
 /// Both propagators, that of `baggage` first or last.
 fn members(alloc: Global, baggage_first: bool) -> Result<Members, AllocError> {
-    let trace: Box<dyn TextMapPropagator> =
-        Box::new(alloc, TraceContextPropagator::new(alloc)?)?;
+    let trace: Box<dyn TextMapPropagator> = Box::new(alloc, TraceContextPropagator::new(alloc)?)?;
     let baggage: Box<dyn TextMapPropagator> = Box::new(alloc, BaggagePropagator::new(alloc)?)?;
     Ok(if baggage_first {
         vec![in alloc; baggage, trace]?
@@ -214,7 +211,12 @@ fn assert_headers(
 }
 
 /// Asserts that a context has the span context and the members of a row.
-fn assert_comes_back(rt: &impl Abort, alloc: Global, back: &Context, row: &Row) -> Result<(), Fail> {
+fn assert_comes_back(
+    rt: &impl Abort,
+    alloc: Global,
+    back: &Context,
+    row: &Row,
+) -> Result<(), Fail> {
     let sent = context_of(alloc, row)?;
     let (span, arrived) = (sent.span_context(), back.span_context());
     assert!(rt; back.has_active_span() == span.is_valid());
