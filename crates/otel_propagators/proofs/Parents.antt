@@ -15,7 +15,7 @@ use Rattle.otel_ids.specs.Ids.{number_of, id_text, ReadsId}
 use Rattle.otel_ids.proofs.Cuts.{cut_end-kept}
 use Rattle.otel_ids.proofs.Numerals.{reads_text}
 use Rattle.otel_propagators.specs.TraceParent.{Parent, parent_with, IsParent, parent_text, ReadsParent, numbers_in, is_parent, parent_in, parent_of, ParentsAgree, ParentReads, OneParent, ParentLength}
-use Rattle.otel_propagators.specs.Digits.{IsNumberOf}
+use Rattle.otel_propagators.specs.Digits.{IsNumberOf, AreNumbersOf, IsParentFrom}
 use Rattle.otel_propagators.proofs.Numbering.{length_text}
 
 -- ---- one number for a text of digits
@@ -128,7 +128,7 @@ numbers_again : (p : Parent) → IsParent p → numbers_in (parent_text p) ≡ p
 numbers_again p v = numbers_within p v.trace_fits v.span_fits v.flags_fit
 
 -- numbers that have the text of ids and flags are these
-pub same_parent : (t s f : ℕ) (p : Parent) (text : List ℕ) → text ≡ parent_text (parent_with t s f) → t < 16 ^ 32 → s < 16 ^ 16 → f < 16 ^ 2 → IsParent p → text ≡ parent_text p → parent_with t s f ≡ p
+same_parent : (t s f : ℕ) (p : Parent) (text : List ℕ) → text ≡ parent_text (parent_with t s f) → t < 16 ^ 32 → s < 16 ^ 16 → f < 16 ^ 2 → IsParent p → text ≡ parent_text p → parent_with t s f ≡ p
 same_parent t s f p text e a b c v g =
     sym (numbers_within (parent_with t s f) (omega arith) (omega arith) (omega arith)) ∙ ap numbers_in (sym e ∙ g) ∙ numbers_again p v
 
@@ -212,7 +212,7 @@ parent_in_some text p e =
       is_valid_parent p (ap is_parent (sym c.1) ∙ t.1),
     )
 
-pub parent_of_reads : (text : List ℕ) (p : Parent) → ReadsParent text p → parent_of text ≡ Some p
+parent_of_reads : (text : List ℕ) (p : Parent) → ReadsParent text p → parent_of text ≡ Some p
 unfolding parent_of
 parent_of_reads text p r = parent_in_is (cut_blanks text) p r.spelled r.valid
 
@@ -230,6 +230,19 @@ none_from (Some p) h = absurd (h p refl)
 -- a text that reads as no ids and flags
 pub parent_of_none : (text : List ℕ) → ((p : Parent) → ReadsParent text p → ⊥) → parent_of text ≡ None
 parent_of_none text h = none_from (parent_of text) (λ p e. h p (reads_parent_of text p e))
+
+pub parent_of_numbers : (text bytes : List ℕ) (t s f : ℕ) (r : Option Parent) → bytes ≡ cut_blanks text → AreNumbersOf bytes (Some (t, s, f)) → IsParentFrom t s f r → r ≡ parent_of text
+parent_of_numbers text bytes t s f None e n nothing = sym (parent_of_none text (λ p r.
+    let same = same_parent t s f p bytes n.0 n.1 n.2 n.3 r.valid (e ∙ r.spelled) in
+    let u : t ≡ p.trace_id = ap (λ (x : Parent). x.trace_id) same in
+    let v : s ≡ p.span_id = ap (λ (x : Parent). x.span_id) same in
+    elim nothing [ inl z ↦ r.valid.trace_some (sym u ∙ z) | inr z ↦ r.valid.span_some (sym v ∙ z) ]))
+parent_of_numbers text bytes t s f (Some p) e n some =
+    ap (λ (x : Parent). Some x) some.2
+    ∙ sym (parent_of_reads text (parent_with t s f) (record {
+      spelled = sym e ∙ n.0;
+      valid = record { trace_fits = n.1; trace_some = some.0; span_fits = n.2; span_some = some.1; flags_fit = n.3 };
+    }))
 
 -- ---- the parts, one after the other
 

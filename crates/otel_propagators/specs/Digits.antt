@@ -1,6 +1,6 @@
 -- What the parts of a `traceparent` are read as, one after the other. No public clause cites this.
 use Rattle.std.specs.Prelude.{◌≡◌, ◌≢◌, ℕ, ◌<◌, ◌^◌, nat_le, Bool, ◌||◌, ◌&&◌, false}
-use Rattle.std.specs.Prelude.{List, ◌++◌, Option, Some, None, MatchOption}
+use Rattle.std.specs.Prelude.{◌⊎◌, List, ◌++◌, Option, Some, None, MatchOption}
 use Rattle.std.specs.Fmt.{digit_glyph}
 use denote.Ref.{Bor}
 use Rattle.otel_ids.specs.Ids.{id_text}
@@ -38,3 +38,9 @@ AreNumbersOf text None = (p : Parent) → text ≢ parent_text p
 AreNumbersOf text (Some x) =
     (text ≡ parent_text (parent_with x.0 x.1 x.2))
     × (x.0 < 16 ^ 32) × (x.1 < 16 ^ 16) × (x.2 < 16 ^ 2)
+
+-- the ids and flags of the numbers, and None where an id is 0
+abbrev pub IsParentFrom : ℕ → ℕ → ℕ → Option Parent → Type 0
+IsParentFrom trace_id span_id flags result =
+    MatchOption result ((trace_id ≡ 0) ⊎ (span_id ≡ 0))
+    (λ p. (trace_id ≢ 0) × (span_id ≢ 0) × (p ≡ parent_with trace_id span_id flags))

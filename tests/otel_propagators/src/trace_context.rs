@@ -177,11 +177,30 @@ fn all_256_flags_go_there_and_back(rt: HostRuntime) -> Result<(), Fail> {
     Ok(())
 }
 
+/// What arrived is sent on as it came.
+#[test]
+fn headers_stay_on_their_way(rt: HostRuntime) -> Result<(), Fail> {
+    let alloc = rt.alloc();
+    for (ids, state, traceparent, tracestate) in INJECTED {
+        let sent = inject(alloc, remote(alloc, *ids, *state)?)?;
+        let texts = [
+            ("traceparent", held(&sent, "traceparent")),
+            ("tracestate", held(&sent, "tracestate")),
+        ];
+        let arrived = extract(alloc, &Context::new(), texts.as_slice())?;
+        let sent_on = inject(alloc, arrived.span_context().clone()?)?;
+        assert_eq!(rt; held(&sent_on, "traceparent"), *traceparent);
+        assert_eq!(rt; held(&sent_on, "tracestate"), *tracestate);
+    }
+    Ok(())
+}
+
 /// Values of `tracestate` beside a good `traceparent`, and the trace state that is extracted: those
 /// with a fault of each kind give the empty one, and the span context stays.
 const TRACESTATES: &[(&str, &str)] = &[
     ("v=1", "v=1"),
     (" a=1 ,\tb=2", "a=1,b=2"),
+    ("v=1,v=2", "v=1"),
     ("", ""),
     (" ,\t,", ""),
     (" a=1 ,b", ""),

@@ -1,8 +1,8 @@
 //! The value of the header `traceparent`, written and read.
-ghost use Rattle.std.specs.Prelude.{◌≡◌, IfOk, string_bytes};
+ghost use Rattle.std.specs.Prelude.{◌≡◌, ◌∷◌, [], IfOk, string_bytes};
 ghost use Rattle.otel_propagators.specs.TraceParent.{parent_text, parent_of};
 ghost use Rattle.otel_propagators.specs.TraceContext.{parent, remote};
-ghost use Rattle.otel_propagators.specs.Digits.{IsAfter, AreNumbersOf};
+ghost use Rattle.otel_propagators.specs.Digits.{IsAfter, AreNumbersOf, IsParentFrom};
 
 use crate::blanks::cut_blanks;
 use crate::trace_context::digits::{byte_text, number_before};
@@ -62,11 +62,18 @@ fn after<'a>(bytes: &'a [u8], front: &[u8]) -> Option<&'a [u8]>
     bytes.strip_prefix(front)
 }
 
+/// What stands after the version, of which `00` alone is read.
+fn after_version(bytes: &[u8]) -> Option<&[u8]>
+    ensures { IsAfter (48 ∷ 48 ∷ 45 ∷ []) bytes.now result }
+{
+    after(bytes, b"00-")
+}
+
 /// The numbers of the trace id, the span id and the flags.
 fn numbers(bytes: &[u8]) -> Option<(u128, u128, u128)>
     ensures { AreNumbersOf bytes.now result }
 {
-    let rest = after(bytes, b"00-")?;
+    let rest = after_version(bytes)?;
     let (trace_id, rest) = number_before(rest, 32)?;
     let rest = after(rest, b"-")?;
     let (span_id, rest) = number_before(rest, 16)?;
@@ -78,17 +85,24 @@ fn numbers(bytes: &[u8]) -> Option<(u128, u128, u128)>
     Some((trace_id, span_id, flags))
 }
 
-/// Reads the value of a `traceparent`, between blanks.
-pub(crate) fn read(text: &str) -> Option<Parent>
-    ensures { result ≡ parent_of text.now }
+/// The ids and flags of these numbers, if neither id is 0.
+fn parent_from(trace_id: u128, span_id: u64, flags: u8) -> Option<Parent>
+    ensures { IsParentFrom trace_id span_id flags result }
 {
-    let (trace_id, span_id, flags) = numbers(cut_blanks(text).as_bytes())?;
     if trace_id == 0 || span_id == 0 {
         return None;
     }
     Some(Parent {
         trace_id: TraceId::from(trace_id),
-        span_id: SpanId::from(span_id as u64),
-        flags: TraceFlags::new(flags as u8),
+        span_id: SpanId::from(span_id),
+        flags: TraceFlags::new(flags),
     })
+}
+
+/// Reads the value of a `traceparent`, between blanks.
+pub(crate) fn read(text: &str) -> Option<Parent>
+    ensures { result ≡ parent_of text.now }
+{
+    let (trace_id, span_id, flags) = numbers(cut_blanks(text).as_bytes())?;
+    parent_from(trace_id, span_id as u64, flags as u8)
 }
