@@ -212,7 +212,7 @@ parent_in_some text p e =
       is_valid_parent p (ap is_parent (sym c.1) ∙ t.1),
     )
 
-parent_of_reads : (text : List ℕ) (p : Parent) → ReadsParent text p → parent_of text ≡ Some p
+pub parent_of_reads : (text : List ℕ) (p : Parent) → ReadsParent text p → parent_of text ≡ Some p
 unfolding parent_of
 parent_of_reads text p r = parent_in_is (cut_blanks text) p r.spelled r.valid
 
