@@ -15,7 +15,7 @@
 #   make misuse                     what must not compile; CASE=NAME one case
 #   make memory                     the runs in which requests for memory fail
 #   make calls                      that each call that can run out of memory is in one of them
-#   make documents                  that what the documents name exists
+#   make documents                  that what the documents name exists, and that the code they show is code that runs
 #   make bench                      instructions an operation, beside the Rust crate
 #
 # What a program prints goes to standard output, and all else to standard error.

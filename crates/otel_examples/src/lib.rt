@@ -3,6 +3,7 @@
 #![tactic(auto)]
 
 pub mod baggage;
+pub mod headers;
 pub mod in_span;
 pub mod log_bridge;
 pub mod request_id;

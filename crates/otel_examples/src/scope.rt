@@ -56,3 +56,34 @@ pub fn amount_under(stack: &mut ContextStack, context: Context) -> Result<i64, A
     let amount = amount?;
     Ok(amount)
 }
+
+/// Attaches two contexts and removes the older first, as where two pieces of work overlap. Returns
+/// a copy of the context that is current in between.
+///
+/// # Errors
+///
+/// `AllocError` where a request for memory fails. What is live on the stack is the same then too.
+pub fn current_between(
+    stack: &mut ContextStack,
+    first: Context,
+    second: Context,
+) -> Result<Context, AllocError>
+    ensures second { newest_position stack.old.live + 1 < last_position
+        → IfOk result (λ seen. seen ≡ second) }
+    ensures restored { stack.new.live ≡ stack.old.live }
+{
+    stack_calls();
+    stack.newest_position();
+    let older = stack.attach(first)?;
+    let newer = match stack.attach(second) {
+        Ok(newer) => newer,
+        Err(error) => {
+            stack.detach(older);
+            return Err(error);
+        }
+    };
+    stack.detach(older);
+    let seen: Result<_, _> = stack.current().clone();
+    stack.detach(newer);
+    seen
+}

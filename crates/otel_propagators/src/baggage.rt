@@ -21,6 +21,8 @@ const BAGGAGE_HEADER: &str = "baggage";
 /// baggage. It extracts the given context with the baggage that the value of `baggage` is read as;
 /// where there is no such value, the given context. It never refuses of itself: what can't be read
 /// or isn't accepted is skipped.
+///
+/// `otel_examples::service` takes it, as any propagator.
 #[derive(Drop)]
 pub struct BaggagePropagator {
     alloc: Global,

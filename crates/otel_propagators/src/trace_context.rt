@@ -24,6 +24,8 @@ const TRACESTATE: &str = "tracestate";
 ///
 /// A `traceparent` is `00-`, 32 lower-case hexadecimal digits of the trace id, `-`, 16 of the span
 /// id, `-` and 2 of the flags, of which all eight bits are written and read.
+///
+/// `otel_examples::service` takes it, as any propagator.
 #[derive(Drop)]
 pub struct TraceContextPropagator {
     alloc: Global,

@@ -8,6 +8,8 @@ use std::alloc::{AllocError, Global};
 use std::marker::Model;
 
 /// One thing that a span keeps.
+///
+/// See [`RecordingSpan::effects`].
 #[derive(Debug, Drop)]
 pub enum Effect {
     /// An event: its name, its moment in nanoseconds since 1970, its attributes.
@@ -22,6 +24,10 @@ pub enum Effect {
 ///
 /// It records until it ends, or until its first attribute where [`RecordingSpan::stop_at_attribute`]
 /// was called. It can be set to let a call fail as if a request for memory failed.
+///
+/// ```
+/// RecordingSpan::new(alloc, span_context(number), StringValue::from("work"))
+/// ```
 #[derive(Drop)]
 pub struct RecordingSpan {
     context: SpanContext,

@@ -13,6 +13,12 @@ use std::alloc::{AllocError, Global};
 ///
 /// A span has the trace id of its parent, or the tracer's where the parent has none, and the span id
 /// after the parent's, so that ids tell a parent from its child. It is sampled.
+///
+/// ```
+/// RecordingTracer {
+///     trace_id: TraceId::from(7),
+/// }
+/// ```
 #[derive(Debug, Drop)]
 pub struct RecordingTracer {
     /// The trace id of spans without a parent.

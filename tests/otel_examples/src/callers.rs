@@ -6,7 +6,7 @@ use opentelemetry::propagation::{Extractor, TextMapPropagator};
 use opentelemetry::trace::noop::NoopTracer;
 use opentelemetry::trace::{Spans, TraceStateError};
 use otel_examples::request_id::RequestId;
-use otel_examples::scope::{AmountError, amount_under};
+use otel_examples::scope::{AmountError, amount_under, current_between};
 use otel_examples::service::forward;
 use otel_examples::{baggage, log_bridge, trace_state};
 use std::alloc::{AllocError, Global};
@@ -28,6 +28,18 @@ fn an_amount_is_read_under_its_context_alone(rt: HostRuntime) -> Result<(), Fail
     assert_eq!(rt; stack.newest_position(), 0);
     let failed = amount_under(&mut stack, Context::new());
     assert!(rt; matches!(failed, Err(AmountError::Missing)));
+    assert_eq!(rt; stack.newest_position(), 0);
+    Ok(())
+}
+
+#[test]
+fn the_newer_context_is_current_once_the_older_is_removed(rt: HostRuntime) -> Result<(), Fail> {
+    let alloc = rt.alloc();
+    let mut stack = ContextStack::new(alloc)?;
+    let older = Context::new().with_value(alloc, Key::from("k"), AnyValue::from(1))?;
+    let newer = Context::new().with_value(alloc, Key::from("k"), AnyValue::from(2))?;
+    let seen = current_between(&mut stack, older, newer)?;
+    assert!(rt; seen.get("k") == Some(&AnyValue::from(2)));
     assert_eq!(rt; stack.newest_position(), 0);
     Ok(())
 }

@@ -2,6 +2,7 @@
 #![tactic(auto)]
 
 mod callers;
+mod headers;
 mod mover;
 
 use opentelemetry::context::ContextStack;
