@@ -15,6 +15,7 @@ mod random;
 mod rounds;
 mod runs;
 mod stacks;
+mod state_member;
 mod states;
 
 use operation::Task;

@@ -1,4 +1,5 @@
 pub mod Events
+pub mod Extracted
 pub mod Failures
 pub mod Lines
 pub mod Members

@@ -1,11 +1,11 @@
--- What the program's propagators set, and the contexts that its attaches make.
+-- What the program's own propagator sets, and the contexts that its attaches make.
 use Rattle.std.specs.Prelude.{ℕ, List, [], ◌∷◌, true, false, Option, Some, None, option_map, codes}
 use Rattle.std.specs.Option.{option_map_or}
 use Rattle.std.specs.FinMap as map
-use Rattle.otel_ids.specs.TraceState.{Pair, header}
+use Rattle.otel_ids.specs.TraceState.{Pair}
 use Rattle.otel_ids.specs.SpanContext.{SpanContextRecord}
 use Rattle.otel_base.specs.AnyValue.{Tree, integer, text, boolean, bytes, list, map as map_tree}
-use Rattle.otel_context.specs.Context.{ContextRecord, span_context}
+use Rattle.otel_context.specs.Context.{ContextRecord}
 use Rattle.opentelemetry.specs.Carrier.{Pairs}
 
 -- the text of a value tree that is one
@@ -26,23 +26,9 @@ name_in context = text_in (map.get context.entries (codes "name"))
 abbrev pub name_pairs : ContextRecord → Pairs
 name_pairs context = option_map_or (λ name. (codes "Context-Name", name) ∷ []) (name_in context) []
 
--- the pairs of a trace state: `tracestate` with its header, unless it is empty
--- (W3C trace-context, section 3.3.1: an empty header isn't sent)
-abbrev pub pairs_of_state : List Pair → Pairs
-pairs_of_state [] = []
-pairs_of_state (p ∷ ps) = (codes "tracestate", header (p ∷ ps)) ∷ []
-
--- the pairs of `StateMember`: those of the trace state of the context's span context
-abbrev pub state_pairs : ContextRecord → Pairs
-state_pairs context = pairs_of_state (span_context context).trace_state
-
 -- the field of `NameMember`. Not in the Rust crate.
 abbrev pub name_fields : List (List ℕ)
 name_fields = codes "Context-Name" ∷ []
-
--- the field of `StateMember` (W3C trace-context, section 3.3)
-abbrev pub state_fields : List (List ℕ)
-state_fields = codes "tracestate" ∷ []
 
 -- the span context of an attach with this trace state: it is remote, its ids are both `id`, and its
 -- one flag is `sampled`

@@ -1,18 +1,20 @@
 //! A whole run: from the bytes of the input to the lines of the output.
-ghost use Rattle.std.specs.Prelude.{◌≤◌, IfOk};
+ghost use Rattle.std.specs.Prelude.{◌≡◌, ◌≤◌, IsOk, IfOk};
 
 use crate::events::events_of;
+use crate::extraction::Extracted;
 use crate::failure::Failure;
 use crate::input::read_whole;
 use crate::report::write_report;
-use opentelemetry::carry::run;
+use opentelemetry::Context;
+use opentelemetry::carry::{RunReport, run};
 use opentelemetry::propagation::TextMapCompositePropagator;
 use std::alloc::Global;
 use std::collections::HashMap;
-use std::io::{BufWriter, Read, Write};
+use std::io::{self, BufWriter, Read, Write};
 
-/// Reads the input whole, runs its attaches and detaches, and writes what the run reports. Returns
-/// the status that the program ends with.
+/// Reads the input whole, runs its attaches and detaches, and writes what the run reports and what
+/// the composite extracts again from the carrier. Returns the status that the program ends with.
 pub fn carry<R: Read + Drop, W: Write + Drop>(
     alloc: Global,
     input: R,
@@ -45,11 +47,32 @@ fn carried<R: Read + Drop, W: Write + Drop>(
     let mut lines = BufWriter::new(alloc, output).map_err(|_| Failure::NoMemory)?;
     let mut carrier = HashMap::new(alloc);
     let report = run(alloc, events, composite, &mut carrier)?;
-    let written = write_report(alloc, &mut lines, &report, &carrier);
+    let written = write_run(alloc, &mut lines, &report, composite, &carrier);
     let flushed = lines.flush();
-    Ok(if written.is_ok() && flushed.is_ok() && report.injected.is_ok() {
-        0
-    } else {
-        1
+    Ok(match written {
+        Ok(status) if flushed.is_ok() => status,
+        _ => 1,
     })
+}
+
+/// Writes the report and, where the injection was no error, what the composite extracts again from
+/// the carrier. Returns the status of the run: 1 where either was an error.
+fn write_run<W: Write>(
+    alloc: Global,
+    output: &mut W,
+    report: &RunReport,
+    composite: &TextMapCompositePropagator,
+    carrier: &HashMap<String, String>,
+) -> io::Result<u8>
+    ensures status { IfOk result (λ status. status ≤ 1) }
+    ensures injected { IfOk result (λ status. status ≡ 0 → IsOk report.now.injected) }
+{
+    write_report(alloc, output, report, carrier)?;
+    if report.injected.is_err() {
+        return Ok(1);
+    }
+    let extraction = composite.extract_with_context(alloc, &Context::new(), carrier);
+    let extracted = Extracted::of(&extraction);
+    writeln!(output, "extracted: {extracted}")?;
+    Ok(extracted.status())
 }

@@ -1,26 +1,29 @@
 //! Reads attaches and detaches from standard input, runs them, and prints where the contexts came
-//! to stand.
+//! to stand, what was injected from the current one, and what is extracted again.
 #![tactic(auto)]
 
 mod carry;
 mod events;
+mod extraction;
 mod failure;
 mod input;
 mod lines;
 mod members;
 mod report;
 
-use members::{NameMember, StateMember};
+use members::NameMember;
 use opentelemetry::propagation::{TextMapCompositePropagator, TextMapPropagator};
+use otel_propagators::{BaggagePropagator, TraceContextPropagator};
 use std::alloc::{AllocError, Global};
 use std::io::{Stdin, Stdout};
 use std::process::ExitCode;
 
-/// Carries out the input with a composite of the members of this program.
+/// Carries out the input with a composite of `NameMember` and the propagators of the W3C headers.
 fn serve(alloc: Global, input: Stdin, output: Stdout) -> Result<u8, AllocError> {
     let mut members: Vec<Box<dyn TextMapPropagator>> = Vec::new(alloc);
     members.push(Box::new(alloc, NameMember::new(alloc)?)?)?;
-    members.push(Box::new(alloc, StateMember::new(alloc)?)?)?;
+    members.push(Box::new(alloc, TraceContextPropagator::new(alloc)?)?)?;
+    members.push(Box::new(alloc, BaggagePropagator::new(alloc)?)?)?;
     let composite = TextMapCompositePropagator::new(alloc, members)?;
     Ok(carry::carry(alloc, input, output, &composite))
 }

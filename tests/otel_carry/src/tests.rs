@@ -4,7 +4,7 @@ mod odd;
 
 use crate::carry::carry;
 use crate::events::events_of;
-use crate::members::{NameMember, StateMember};
+use crate::members::NameMember;
 use opentelemetry::carry::StackEvent;
 use opentelemetry::propagation::text_map_propagator::FieldIter;
 use opentelemetry::propagation::{
@@ -12,12 +12,16 @@ use opentelemetry::propagation::{
 };
 use opentelemetry::trace::{SpanContext, TraceState};
 use opentelemetry::{Context, SpanId, TraceFlags, TraceId};
+use otel_propagators::{BaggagePropagator, TraceContextPropagator};
 use std::alloc::{AllocError, Global};
 use std::io::{self, ErrorKind, Read, Write};
 use std::process::Abort;
 use std::test::Fail;
 
-/// Carries out the input with the program's own members.
+/// What is written where no context is attached.
+const BASE: &str = "current: base\nbaggage=\nextracted: none\n";
+
+/// Carries out the input with the program's composite.
 fn status_of<R: Read + Drop, W: Write + Drop>(
     alloc: Global,
     input: R,
@@ -25,7 +29,8 @@ fn status_of<R: Read + Drop, W: Write + Drop>(
 ) -> Result<u8, AllocError> {
     let mut members: Vec<Box<dyn TextMapPropagator>> = Vec::new(alloc);
     members.push(Box::new(alloc, NameMember::new(alloc)?)?)?;
-    members.push(Box::new(alloc, StateMember::new(alloc)?)?)?;
+    members.push(Box::new(alloc, TraceContextPropagator::new(alloc)?)?)?;
+    members.push(Box::new(alloc, BaggagePropagator::new(alloc)?)?)?;
     let composite = TextMapCompositePropagator::new(alloc, members)?;
     Ok(carry(alloc, input, output, &composite))
 }
@@ -54,43 +59,69 @@ fn reports_a_run(rt: HostRuntime) -> Result<(), Fail> {
     for (input, report) in [
         (
             "attach a\nattach b\nattach c\ndetach 1\ndetach 2\nattach d\n",
-            "attach 0: position 1\nattach 1: position 2\nattach 2: position 3\nattach 3: position 2\ncurrent: d\ncontext-name=d\n",
+            "attach 0: position 1\nattach 1: position 2\nattach 2: position 3\nattach 3: position 2\ncurrent: d\nbaggage=\ncontext-name=d\nextracted: none\n",
         ),
         (
             "attach a\nattach b\ndetach 0\n",
-            "attach 0: position 1\nattach 1: position 2\ncurrent: b\ncontext-name=b\n",
+            "attach 0: position 1\nattach 1: position 2\ncurrent: b\nbaggage=\ncontext-name=b\nextracted: none\n",
         ),
-        ("", "current: base\n"),
-        ("\n\n", "current: base\n"),
-        ("detach 0\n", "current: base\n"),
-        ("detach 007\ndetach 18446744073709551615", "current: base\n"),
+        ("", BASE),
+        ("\n\n", BASE),
+        ("detach 0\n", BASE),
+        ("detach 007\ndetach 18446744073709551615", BASE),
         (
             "detach 0\nattach a",
-            "attach 0: position 1\ncurrent: a\ncontext-name=a\n",
+            "attach 0: position 1\ncurrent: a\nbaggage=\ncontext-name=a\nextracted: none\n",
         ),
         (
             "attach !~\n",
-            "attach 0: position 1\ncurrent: !~\ncontext-name=!~\n",
+            "attach 0: position 1\ncurrent: !~\nbaggage=\ncontext-name=!~\nextracted: none\n",
         ),
         (
+            "attach a\ndetach 0\n",
+            "attach 0: position 1\ncurrent: base\nbaggage=\nextracted: none\n",
+        ),
+    ] {
+        sees(&rt, rt.alloc(), input.as_bytes(), report, 0)?;
+    }
+    Ok(())
+}
+
+/// A run of attaches, of which the first or the second has a span context.
+#[test]
+fn reports_what_the_headers_carry(rt: HostRuntime) -> Result<(), Fail> {
+    for (input, report) in [
+        (
             "attach a v=1\n",
-            "attach 0: position 1\ncurrent: a\ncontext-name=a\ntracestate=v=1\n",
+            "attach 0: position 1\ncurrent: a\nbaggage=\ncontext-name=a\ntraceparent=00-00000000000000000000000000000001-0000000000000001-01\ntracestate=v=1\nextracted: 00000000000000000000000000000001 0000000000000001\n",
         ),
         (
             "attach a \n",
-            "attach 0: position 1\ncurrent: a\ncontext-name=a\n",
+            "attach 0: position 1\ncurrent: a\nbaggage=\ncontext-name=a\ntraceparent=00-00000000000000000000000000000001-0000000000000001-01\ntracestate=\nextracted: 00000000000000000000000000000001 0000000000000001\n",
         ),
         (
             "attach a  v=1 ,,\tw= 2\t\n",
-            "attach 0: position 1\ncurrent: a\ncontext-name=a\ntracestate=v=1,w= 2\n",
-        ),
-        (
-            "attach x a=1,a=2",
-            "attach 0: position 1\ncurrent: x\ncontext-name=x\ntracestate=a=1\n",
+            "attach 0: position 1\ncurrent: a\nbaggage=\ncontext-name=a\ntraceparent=00-00000000000000000000000000000001-0000000000000001-01\ntracestate=v=1,w= 2\nextracted: 00000000000000000000000000000001 0000000000000001\n",
         ),
         (
             "attach a v=1\nattach b w=2\ndetach 1\n",
-            "attach 0: position 1\nattach 1: position 2\ncurrent: a\ncontext-name=a\ntracestate=v=1\n",
+            "attach 0: position 1\nattach 1: position 2\ncurrent: a\nbaggage=\ncontext-name=a\ntraceparent=00-00000000000000000000000000000001-0000000000000001-01\ntracestate=v=1\nextracted: 00000000000000000000000000000001 0000000000000001\n",
+        ),
+        (
+            "attach a\nattach b v=1,w=2\n",
+            "attach 0: position 1\nattach 1: position 2\ncurrent: b\nbaggage=\ncontext-name=b\ntraceparent=00-00000000000000000000000000000002-0000000000000002-01\ntracestate=v=1,w=2\nextracted: 00000000000000000000000000000002 0000000000000002\n",
+        ),
+        (
+            "attach a\nattach b v=1,v=2\n",
+            "attach 0: position 1\nattach 1: position 2\ncurrent: b\nbaggage=\ncontext-name=b\ntraceparent=00-00000000000000000000000000000002-0000000000000002-01\ntracestate=v=1\nextracted: 00000000000000000000000000000002 0000000000000002\n",
+        ),
+        (
+            "attach x a=1,a=2\n",
+            "attach 0: position 1\ncurrent: x\nbaggage=\ncontext-name=x\ntraceparent=00-00000000000000000000000000000001-0000000000000001-01\ntracestate=a=1\nextracted: 00000000000000000000000000000001 0000000000000001\n",
+        ),
+        (
+            "attach a v=1\nattach b\n",
+            "attach 0: position 1\nattach 1: position 2\ncurrent: b\nbaggage=\ncontext-name=b\nextracted: none\n",
         ),
     ] {
         sees(&rt, rt.alloc(), input.as_bytes(), report, 0)?;
@@ -166,7 +197,7 @@ fn reports_a_full_stack(rt: HostRuntime) -> Result<(), Fail> {
         writeln!(report, "attach {number}: position {}", number + 1)?;
     }
     input.push_str("attach b\n")?;
-    report.push_str("attach 65534: full\ncurrent: a\ncontext-name=a\n")?;
+    report.push_str("attach 65534: full\ncurrent: a\nbaggage=\ncontext-name=a\nextracted: none\n")?;
     let mut output = Vec::new(rt.alloc());
     assert_eq!(rt; status_of(rt.alloc(), input.as_bytes(), &mut output)?, 0);
     assert!(rt; output.as_slice() == report.as_bytes());
@@ -200,7 +231,7 @@ fn gives_up_a_reader_that_fails_or_never_ends(rt: HostRuntime) -> Result<(), Fai
     for (left, fails, text, status) in [
         (0, true, "input: cannot be read\n", 1),
         (1, true, "input: cannot be read\n", 1),
-        (1_048_575, false, "current: base\n", 0),
+        (1_048_575, false, BASE, 0),
         (1_048_576, false, "input: cannot be read\n", 1),
         (u32::MAX, false, "input: cannot be read\n", 1),
     ] {
@@ -245,7 +276,7 @@ fn reads_4096_bytes_at_a_time(rt: HostRuntime) -> Result<(), Fail> {
         };
         let mut output = Vec::new(rt.alloc());
         assert_eq!(rt; status_of(rt.alloc(), &mut input, &mut output)?, 0);
-        assert_eq!(rt; str::from_utf8(&output), Ok("current: base\n"));
+        assert_eq!(rt; str::from_utf8(&output), Ok(BASE));
         assert_eq!(rt; input.reads, reads, "the reads of {left} bytes");
         assert!(rt;
             input.has_full_room,
@@ -299,16 +330,22 @@ fn ends_with_status_1_where_a_write_fails(rt: HostRuntime) -> Result<(), Fail> {
     Ok(())
 }
 
-/// A member that refuses every context, and sets nothing.
+/// A member that sets nothing, whose injection and extraction return these errors, or a context with
+/// a span context of no span.
 #[derive(Drop)]
-struct RefusingMember;
+struct OddMember {
+    injection: Option<PropagationError>,
+    extraction: Option<PropagationError>,
+}
 
-impl TextMapPropagator for RefusingMember {
+impl TextMapPropagator for OddMember {
     ghost use Rattle.std.specs.Prelude.{true, []};
+    ghost use Rattle.otel_ids.specs.SpanContext.{no_span_context};
+    ghost use Rattle.otel_context.specs.Context.{with_remote_span_context};
 
     ghost pairs = { λ _ _. [] };
 
-    ghost extracted = { λ _ context _. context };
+    ghost extracted = { λ _ context _. with_remote_span_context context no_span_context };
 
     ghost field_names = { λ _. [] };
 
@@ -319,16 +356,19 @@ impl TextMapPropagator for RefusingMember {
         _context: &Context,
         _injector: &mut dyn Injector,
     ) -> Result<(), PropagationError> {
-        Err(PropagationError::Refused)
+        self.injection.map_or(Ok(()), Err)
     }
 
     fn extract_with_context(
         &self,
-        _alloc: Global,
-        _context: &Context,
+        alloc: Global,
+        context: &Context,
         _extractor: &dyn Extractor,
     ) -> Result<Context, PropagationError> {
-        Err(PropagationError::Refused)
+        match self.extraction {
+            Some(error) => Err(error),
+            None => Ok(context.with_remote_span_context(alloc, SpanContext::NONE)?),
+        }
     }
 
     fn fields(&self) -> FieldIter<'_> {
@@ -336,17 +376,88 @@ impl TextMapPropagator for RefusingMember {
     }
 }
 
+/// After a refused injection nothing is extracted; an extraction that fails is reported as what it
+/// is. An active span is shown also where its ids are 0.
 #[test]
-fn reports_a_refused_injection(rt: HostRuntime) -> Result<(), Fail> {
+fn reports_a_member_that_gives_up(rt: HostRuntime) -> Result<(), Fail> {
+    let alloc = rt.alloc();
+    let refused = Some(PropagationError::Refused);
+    let no_memory = Some(PropagationError::Memory(AllocError));
+    for (injection, extraction, lines, status) in [
+        (refused, None, "inject: refused\n", 1),
+        (no_memory, None, "inject: refused\n", 1),
+        (refused, refused, "inject: refused\n", 1),
+        (None, refused, "context-name=a\nextracted: refused\n", 1),
+        (None, no_memory, "context-name=a\nextracted: no memory\n", 1),
+        (
+            None,
+            None,
+            "context-name=a\nextracted: 00000000000000000000000000000000 0000000000000000\n",
+            0,
+        ),
+    ] {
+        let mut members: Vec<Box<dyn TextMapPropagator>> = Vec::new(alloc);
+        members.push(Box::new(alloc, NameMember::new(alloc)?)?)?;
+        let odd = OddMember {
+            injection,
+            extraction,
+        };
+        members.push(Box::new(alloc, odd)?)?;
+        let composite = TextMapCompositePropagator::new(alloc, members)?;
+        let mut output = Vec::new(alloc);
+        let met = carry(alloc, b"attach a".as_slice(), &mut output, &composite);
+        assert_eq!(rt; met, status);
+        let text = format!(in alloc; "attach 0: position 1\ncurrent: a\n{lines}")?;
+        assert_eq!(rt; str::from_utf8(&output), Ok(text.as_str()));
+    }
+    Ok(())
+}
+
+/// The current context has an active span, and no member carries it.
+#[test]
+fn extracts_from_the_carrier_into_the_empty_context(rt: HostRuntime) -> Result<(), Fail> {
     let alloc = rt.alloc();
     let mut members: Vec<Box<dyn TextMapPropagator>> = Vec::new(alloc);
     members.push(Box::new(alloc, NameMember::new(alloc)?)?)?;
-    members.push(Box::new(alloc, RefusingMember)?)?;
     let composite = TextMapCompositePropagator::new(alloc, members)?;
     let mut output = Vec::new(alloc);
-    let status = carry(alloc, b"attach a".as_slice(), &mut output, &composite);
-    assert_eq!(rt; status, 1);
-    let text = "attach 0: position 1\ncurrent: a\ninject: refused\n";
+    let status = carry(alloc, b"attach a v=1".as_slice(), &mut output, &composite);
+    assert_eq!(rt; status, 0);
+    let text = "attach 0: position 1\ncurrent: a\ncontext-name=a\nextracted: none\n";
     assert_eq!(rt; str::from_utf8(&output), Ok(text));
+    Ok(())
+}
+
+/// The members stand in the other order, and the first one's span context is replaced.
+#[test]
+fn extracts_by_all_members_in_order(rt: HostRuntime) -> Result<(), Fail> {
+    let alloc = rt.alloc();
+    for (is_odd_last, extracted) in [
+        (
+            true,
+            "extracted: 00000000000000000000000000000000 0000000000000000\n",
+        ),
+        (
+            false,
+            "extracted: 00000000000000000000000000000001 0000000000000001\n",
+        ),
+    ] {
+        let mut members: Vec<Box<dyn TextMapPropagator>> = Vec::new(alloc);
+        let odd = OddMember {
+            injection: None,
+            extraction: None,
+        };
+        members.push(Box::new(alloc, odd)?)?;
+        members.push(Box::new(alloc, TraceContextPropagator::new(alloc)?)?)?;
+        if is_odd_last {
+            members.swap(0, 1);
+        }
+        let composite = TextMapCompositePropagator::new(alloc, members)?;
+        let mut output = Vec::new(alloc);
+        let status = carry(alloc, b"attach a v=1".as_slice(), &mut output, &composite);
+        assert_eq!(rt; status, 0);
+        let text = str::from_utf8(&output).unwrap_or("not UTF-8");
+        assert!(rt; text.ends_with(extracted), "{text}");
+    }
     Ok(())
 }

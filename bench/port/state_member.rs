@@ -1,0 +1,71 @@
+//! A propagator that carries the trace state of a context alone.
+ghost use Rattle.std.specs.Prelude.{◌≡◌, IfOk, map, string_bytes};
+ghost use Rattle.otel_bench.specs.StateMember.{state_fields};
+
+use opentelemetry::Context;
+use opentelemetry::propagation::text_map_propagator::FieldIter;
+use opentelemetry::propagation::{Extractor, Injector, PropagationError, TextMapPropagator};
+use opentelemetry::trace::TraceState;
+use std::alloc::{AllocError, Global};
+
+/// Sets `tracestate` to the header of the trace state of the context's span context, where that
+/// isn't empty.
+#[derive(Drop)]
+pub struct StateMember {
+    /// Where the texts that are set take their memory from.
+    pub alloc: Global,
+    /// The names of its fields.
+    pub fields: Vec<String>,
+}
+
+impl StateMember {
+    /// The member, with its field `tracestate`.
+    ///
+    /// # Errors
+    ///
+    /// `AllocError` where the request for the memory of the field's name fails.
+    pub fn new(alloc: Global) -> Result<StateMember, AllocError>
+        ensures { IfOk result (λ member. map string_bytes member.fields.items ≡ state_fields) }
+    {
+        let fields = vec![in alloc; String::from_str(alloc, "tracestate")?]?;
+        Ok(StateMember { alloc, fields })
+    }
+}
+
+impl TextMapPropagator for StateMember {
+    ghost use Rattle.std.specs.Prelude.{false, map, string_bytes};
+    ghost use Rattle.otel_bench.specs.StateMember.{state_pairs};
+
+    ghost pairs = { λ _ context. state_pairs context };
+
+    ghost extracted = { λ _ context _. context };
+
+    ghost field_names = { λ member. map string_bytes member.fields.items };
+
+    ghost may_refuse = { λ _. false };
+
+    fn inject_context(
+        &self,
+        context: &Context,
+        injector: &mut dyn Injector,
+    ) -> Result<(), PropagationError> {
+        let state = context.span_context().trace_state();
+        if *state == TraceState::NONE {
+            return Ok(());
+        }
+        injector.set("tracestate", state.header(self.alloc)?)
+    }
+
+    fn extract_with_context(
+        &self,
+        _alloc: Global,
+        context: &Context,
+        _extractor: &dyn Extractor,
+    ) -> Result<Context, PropagationError> {
+        Ok(context.clone()?)
+    }
+
+    fn fields(&self) -> FieldIter<'_> {
+        FieldIter::new(&self.fields)
+    }
+}

@@ -1,0 +1,26 @@
+-- What the program shows of an extraction. Not in the Rust crate.
+use Rattle.std.specs.Prelude.{ℕ, Result, Ok, Err}
+use Rattle.std.specs.Option.{option_map_or}
+use Rattle.otel_context.specs.Context.{ContextRecord}
+use Rattle.opentelemetry.specs.declared.propagation.error.PropagationError.{PropagationError}
+use Rattle.opentelemetry.specs.declared.propagation.error.PropagationError.TheVariants as errors
+use Rattle.otel_carry.specs.declared.extraction.Extracted.{Extracted}
+use Rattle.otel_carry.specs.declared.extraction.Extracted.TheVariants.{Span, NoSpan, Refused, NoMemory}
+
+-- of a context: the ids of its active span, if it has one
+abbrev pub shown_of_context : ContextRecord → Extracted
+shown_of_context context =
+    option_map_or (λ span. Span span.context.trace_id span.context.span_id) context.span NoSpan
+
+-- of what an extraction returned: what is shown of the context, or why there is none
+abbrev pub shown : Result ContextRecord PropagationError → Extracted
+shown (Ok context) = shown_of_context context
+shown (Err errors.Refused) = Refused
+shown (Err (errors.Memory error)) = NoMemory
+
+-- the status that the program ends with: 0 where there is a context, else 1
+abbrev pub status_of : Extracted → ℕ
+status_of (Span trace_id span_id) = 0
+status_of NoSpan = 0
+status_of Refused = 1
+status_of NoMemory = 1
