@@ -15,12 +15,19 @@ use std::alloc::{AllocError, Global};
 /// The name of the header (W3C baggage, "Header Name").
 const BAGGAGE_HEADER: &str = "baggage";
 
-/// Carries a context's baggage in the header `baggage` (the Rust crate's `BaggagePropagator`).
+/// Carries a context's baggage from one process to another, by the header `baggage` (W3C baggage).
+/// (`BaggagePropagator` of the Rust crate `opentelemetry_sdk`.)
 ///
 /// It sets `baggage` to the text of the context's baggage, which is empty where the context has no
 /// baggage. It extracts the given context with the baggage that the value of `baggage` is read as;
 /// where there is no such value, the given context. It never refuses of itself: what can't be read
 /// or isn't accepted is skipped.
+///
+/// ```
+/// let propagator = BaggagePropagator::new(alloc)?;
+/// propagator.inject_context(&context, &mut request)?;
+/// let context = propagator.extract_with_context(alloc, &Context::new(), &headers)?;
+/// ```
 ///
 /// `otel_examples::service` takes it, as any propagator.
 #[derive(Drop)]
