@@ -23,12 +23,6 @@ const BAGGAGE_HEADER: &str = "baggage";
 /// where there is no such value, the given context. It never refuses of itself: what can't be read
 /// or isn't accepted is skipped.
 ///
-/// ```
-/// let propagator = BaggagePropagator::new(alloc)?;
-/// propagator.inject_context(&context, &mut request)?;
-/// let context = propagator.extract_with_context(alloc, &Context::new(), &headers)?;
-/// ```
-///
 /// `otel_examples::service` takes it, as any propagator.
 #[derive(Drop)]
 pub struct BaggagePropagator {
