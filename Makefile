@@ -15,6 +15,7 @@
 #   make misuse                     what must not compile; CASE=NAME one case
 #   make memory                     the runs in which requests for memory fail
 #   make calls                      that each call that can run out of memory is in one of them
+#   make fuzz                       random programs and rows beside a plain model; COUNT=N so many, SEED=N others
 #   make documents                  that what the documents name exists, and that the code they show is code that runs
 #   make bench                      instructions an operation, beside the Rust crate
 #
@@ -24,9 +25,11 @@ MAKEFLAGS += --no-print-directory
 SHELL := /bin/bash
 
 INPUT ?= examples/first-run
+COUNT ?= 10000
+SEED ?= 1
 GIVEN := $(if $(filter -,$(INPUT)),,< "$(abspath $(INPUT))")
 
-.PHONY: run try test check tests edit mutants vectors misuse memory calls documents bench
+.PHONY: run try test check tests edit mutants vectors misuse memory calls fuzz documents bench
 
 run:
 	@cd crates/otel_carry && rt run $(GIVEN)
@@ -62,6 +65,9 @@ memory:
 
 calls:
 	@tests/memory/calls
+
+fuzz:
+	@tests/fuzz/run "$(COUNT)" "$(SEED)"
 
 documents:
 	@tests/documents

@@ -38,7 +38,7 @@ fn read(
     repeat(Reading { alloc, text }, task.times)
 }
 
-/// Adds how many pairs the state has, or how long the text of its error is.
+/// Adds how many pairs the state has, or 7 where the text isn't read.
 #[inline(never)]
 fn read_state(alloc: Global, text: &str, sum: &mut u64) {
     match TraceState::from_str(alloc, text) {
