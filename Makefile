@@ -60,7 +60,7 @@ misuse:
 	@tests/misuse/run $(CASE)
 
 memory:
-	@for program in otel_carry otel_memory; do (cd crates/$$program && rt run < /dev/null > /dev/null) || exit; done
+	@for program in otel_carry otel_memory otel_memory_tracing; do (cd crates/$$program && rt run < /dev/null > /dev/null) || exit; done
 	@tests/memory/sweep
 
 calls:

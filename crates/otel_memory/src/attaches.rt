@@ -1,6 +1,6 @@
 //! Attaches to stacks, and the room that they take.
-use crate::lines::Lines;
-use opentelemetry::context::{Context, ContextGuard, ContextStack};
+use otel_context::{Context, ContextGuard, ContextStack};
+use otel_memory_lines::Lines;
 use std::alloc::{AllocError, Global};
 
 /// How many attachments a new stack has room for.
@@ -92,7 +92,7 @@ fn new<R: Print>(alloc: Global, lines: &Lines<'_, R>) {
 /// After a stack is made eight attaches take no memory.
 fn first_room<R: Print>(lines: &Lines<'_, R>, stack: &mut ContextStack) {
     for _ in 0..INITIAL_ROOM {
-        lines.free_of(stack.push(Context::new()));
+        lines.free_of("ContextStack::push", stack.push(Context::new()));
     }
 }
 
@@ -165,10 +165,10 @@ fn push_again<R: Print>(
 ) -> Result<(), AllocError> {
     let (count, last) = filled(stack, suppressed);
     last?;
-    lines.free(&emptied(stack, count));
+    lines.free("ContextStack::pop_id", &emptied(stack, count));
     let (count, last) = filled(stack, suppressed);
-    lines.free_of(last);
-    lines.free(&unwound(stack, count));
+    lines.free_of("ContextStack::push", last);
+    lines.free("ContextStack::pop_id", &unwound(stack, count));
     Ok(())
 }
 
@@ -238,7 +238,7 @@ fn attach_again<R: Print>(
     let (answer, _) = nested(stack, way, MANY);
     answer?;
     let (answer, is_due) = nested(stack, way, MANY);
-    lines.free_of(answer);
-    lines.free(&is_due);
+    lines.free_of("ContextStack::attach", answer);
+    lines.free("ContextStack::detach", &is_due);
     Ok(())
 }

@@ -1,8 +1,8 @@
 //! Calls on baggage.
 use crate::contexts::baggage;
-use crate::lines::Lines;
 use otel_base::{Key, KeyValue, StringValue, Value};
 use otel_context::baggage::{Baggage, BaggageMetadata, KeyValueMetadata};
+use otel_memory_lines::Lines;
 use std::alloc::{AllocError, Global};
 
 /// So many keys that a baggage takes room for them more than once.
@@ -47,7 +47,6 @@ fn metadata<R: Print>(alloc: Global, lines: &Lines<'_, R>) -> Result<(), AllocEr
     lines.answer_of(BaggageMetadata::new(alloc, " m=1 "));
     lines.answer_of(metadata.clone());
     lines.receiver(&metadata);
-    lines.free(&BaggageMetadata::default());
     Ok(())
 }
 
@@ -156,8 +155,8 @@ fn from_key_values_with_metadata<R: Print>(
 /// Inserts the value `w` where that takes no memory, and says whether this was the old value.
 fn replaced<R: Print>(lines: &Lines<'_, R>, held: &mut Baggage, key: &'static str, old: &str) {
     match held.insert(Key::from(key), StringValue::from("w")) {
-        Ok(gone) => lines.free(&(text_of(&gone) == old)),
-        Err(error) => lines.free(&error),
+        Ok(gone) => lines.free("Baggage::insert", &(text_of(&gone) == old)),
+        Err(error) => lines.free("Baggage::insert", &error),
     }
 }
 
@@ -181,12 +180,17 @@ fn in_place<R: Print>(alloc: Global, lines: &Lines<'_, R>) -> Result<(), AllocEr
 }
 
 fn looked_at<R: Print>(lines: &Lines<'_, R>, held: &Baggage) {
-    lines.free(&held.get("k").is_some());
-    lines.free(&held.get_with_metadata("j").is_none());
-    lines.free(held);
+    lines.free("Baggage::get", &held.get("k").is_some());
+    lines.free(
+        "Baggage::get_with_metadata",
+        &held.get_with_metadata("j").is_some(),
+    );
+    lines.free("Baggage::iter", &held.iter().count());
+    lines.free("Baggage::fmt", held);
 }
 
 fn removed<R: Print>(lines: &Lines<'_, R>, held: &mut Baggage) {
-    lines.free(&held.remove("k").is_some());
-    lines.free(&held.len());
+    lines.free("Baggage::remove", &held.remove("k").is_some());
+    lines.free("Baggage::len", &held.len());
+    lines.free("Baggage::is_empty", &held.is_empty());
 }

@@ -1,10 +1,10 @@
 //! Calls on contexts.
-use crate::lines::Lines;
-use crate::shown::Show;
+use crate::shown::{Show, answer_shown, free_shown};
 use otel_base::{AnyValue, Key, StringValue};
 use otel_context::Context;
 use otel_context::baggage::Baggage;
 use otel_ids::{SpanContext, SpanId, TraceFlags, TraceId, TraceState};
+use otel_memory_lines::Lines;
 use std::alloc::{AllocError, Global};
 
 pub fn play<R: Print>(alloc: Global, lines: &Lines<'_, R>) {
@@ -104,14 +104,17 @@ fn called<R: Print>(
             derived(lines, context, context.with_telemetry_suppressed(alloc));
         }
         Call::Clone => copy(lines, context),
-        Call::Looks => looks(lines, context),
+        Call::Looks => {
+            looks(lines, context);
+            of_span_context(lines, context.span_context());
+        }
     }
     Ok(())
 }
 
 /// Prints the answer of a derivation, and the context that it was derived from.
 fn derived<R: Print>(lines: &Lines<'_, R>, context: &Context, answer: Result<Context, AllocError>) {
-    lines.shown("answer", answer);
+    answer_shown(lines, answer);
     lines.receiver(&Show(context));
 }
 
@@ -121,8 +124,8 @@ fn with_value<R: Print>(
     context: &Context,
 ) -> Result<(), AllocError> {
     let key = String::from_str(alloc, "b")?;
-    lines.shown(
-        "answer",
+    answer_shown(
+        lines,
         context.with_value(alloc, Key::new(key), AnyValue::Int(2)),
     );
     derived(
@@ -159,15 +162,43 @@ fn with_remote_span_context<R: Print>(
 
 /// Clones of a context and of a span context take no memory.
 fn copy<R: Print>(lines: &Lines<'_, R>, context: &Context) {
-    lines.shown("free", context.clone());
-    lines.cloned("free", context.span_context());
+    free_shown(lines, "Context::clone", context.clone());
+    cloned(lines, context.span_context());
     lines.receiver(&Show(context));
 }
 
+fn cloned<R: Print>(lines: &Lines<'_, R>, span_context: &SpanContext) {
+    match span_context.clone() {
+        Ok(copy) => lines.free("SpanContext::clone", &(copy == *span_context)),
+        Err(error) => lines.free("SpanContext::clone", &error),
+    }
+}
+
 fn looks<R: Print>(lines: &Lines<'_, R>, context: &Context) {
-    lines.free(&Show(&Context::new()));
-    lines.free(&context.get("b").is_none());
-    lines.free(&context.has_active_span());
-    lines.free(&context.span_context().is_valid());
-    lines.free(&context.is_telemetry_suppressed());
+    lines.free("Context::new", &Show(&Context::new()));
+    lines.free("Context::get", &context.get("b").is_some());
+    lines.free("Context::has_active_span", &context.has_active_span());
+    lines.free("Context::span_number", &context.span_number().is_some());
+    lines.free("Context::span_context", &context.span_context().is_valid());
+    lines.free("Context::baggage", &context.baggage().is_some());
+    lines.free(
+        "Context::is_telemetry_suppressed",
+        &context.is_telemetry_suppressed(),
+    );
+}
+
+fn of_span_context<R: Print>(lines: &Lines<'_, R>, span_context: &SpanContext) {
+    lines.free("SpanContext::trace_id", &span_context.trace_id());
+    lines.free("SpanContext::span_id", &span_context.span_id());
+    lines.free(
+        "SpanContext::trace_flags",
+        &span_context.trace_flags().to_u8(),
+    );
+    lines.free(
+        "SpanContext::trace_state",
+        &span_context.trace_state().iter().len(),
+    );
+    lines.free("SpanContext::is_valid", &span_context.is_valid());
+    lines.free("SpanContext::is_remote", &span_context.is_remote());
+    lines.free("SpanContext::is_sampled", &span_context.is_sampled());
 }

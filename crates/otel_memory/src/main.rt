@@ -8,17 +8,13 @@
 mod attaches;
 mod baggages;
 mod contexts;
-mod lines;
-mod propagations;
 mod scopes;
 mod shown;
-mod spans;
 mod stacks;
 mod trace_states;
-mod tracing;
 mod values;
 
-use lines::Lines;
+use otel_memory_lines::Lines;
 use std::io::{self, ErrorKind, Read};
 
 /// The longest name of a scenario, and its `\n`.
@@ -37,9 +33,6 @@ fn main(rt: HostRuntime) -> io::Result<()> {
     contexts::play(alloc, &lines);
     attaches::play(alloc, &lines);
     stacks::play(alloc, &lines);
-    propagations::play(alloc, &lines);
-    spans::play(alloc, &lines);
-    tracing::play(alloc, &lines);
     if lines.is_written() {
         Ok(())
     } else {

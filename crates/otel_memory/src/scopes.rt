@@ -1,9 +1,9 @@
 //! Calls on instrumentation scopes.
-use crate::lines::Lines;
-use crate::shown::Show;
+use crate::shown::{Show, answer_shown};
 use otel_base::{
     InstrumentationScope, InstrumentationScopeBuilder, Key, KeyValue, StringValue, Value,
 };
+use otel_memory_lines::Lines;
 use std::alloc::{AllocError, Global};
 
 pub fn play<R: Print>(alloc: Global, lines: &Lines<'_, R>) {
@@ -15,7 +15,7 @@ pub fn play<R: Print>(alloc: Global, lines: &Lines<'_, R>) {
     }
     if lines.begin("scope-without-attributes") {
         if let Err(error) = without_attributes(alloc, lines) {
-            lines.free(&error);
+            lines.free("InstrumentationScopeBuilder::build", &error);
         }
     }
 }
@@ -38,14 +38,14 @@ fn builder(attributes: Vec<KeyValue>) -> InstrumentationScopeBuilder {
 
 fn build<R: Print>(alloc: Global, lines: &Lines<'_, R>) -> Result<(), AllocError> {
     let attributes = attributes(alloc)?;
-    lines.shown("answer", builder(attributes).build(alloc));
+    answer_shown(lines, builder(attributes).build(alloc));
     Ok(())
 }
 
 fn copy<R: Print>(alloc: Global, lines: &Lines<'_, R>) -> Result<(), AllocError> {
     let attributes = attributes(alloc)?;
     let scope = builder(attributes).build(alloc)?;
-    lines.cloned("answer", &scope);
+    lines.cloned(&scope);
     lines.receiver(&Show(&scope));
     Ok(())
 }
@@ -71,7 +71,20 @@ fn beside_empty_list<R: Print>(
     scope: &InstrumentationScope,
 ) -> Result<(), AllocError> {
     let other = bare(alloc, true)?;
-    lines.free(&scope.name());
-    lines.free(&(*scope == other));
+    lines.free("InstrumentationScopeBuilder::build", &"a scope");
+    lines.free("InstrumentationScope::name", &scope.name());
+    lines.free(
+        "InstrumentationScope::version",
+        &scope.version().unwrap_or("none"),
+    );
+    lines.free(
+        "InstrumentationScope::schema_url",
+        &scope.schema_url().unwrap_or("none"),
+    );
+    lines.free(
+        "InstrumentationScope::attributes",
+        &scope.attributes().len(),
+    );
+    lines.free("InstrumentationScope::eq", &(*scope == other));
     Ok(())
 }

@@ -2,6 +2,7 @@
 use otel_base::{AnyValue, InstrumentationScope, Key, KeyValue};
 use otel_context::Context;
 use otel_ids::TraceState;
+use otel_memory_lines::Lines;
 use std::collections::BTreeMap;
 use std::fmt::{self, Display, Formatter};
 
@@ -17,6 +18,29 @@ pub struct Show<'a, T>(pub &'a T);
 impl<T: Shown> Display for Show<'_, T> {
     fn fmt<W: fmt::Write>(&self, f: &mut Formatter<W>) -> fmt::Result {
         self.0.show(f)
+    }
+}
+
+/// Prints the answer of a call that takes memory, or its error.
+pub fn answer_shown<R: Print, T: Shown + Drop, E: Display + Drop>(
+    lines: &Lines<'_, R>,
+    answer: Result<T, E>,
+) {
+    match answer {
+        Ok(answer) => lines.answer(&Show(&answer)),
+        Err(error) => lines.answer(&error),
+    }
+}
+
+/// Prints the answer of the named call, which takes no memory, or the error that it never gives.
+pub fn free_shown<R: Print, T: Shown + Drop, E: Display + Drop>(
+    lines: &Lines<'_, R>,
+    call: &str,
+    answer: Result<T, E>,
+) {
+    match answer {
+        Ok(answer) => lines.free(call, &Show(&answer)),
+        Err(error) => lines.free(call, &error),
     }
 }
 

@@ -1,17 +1,17 @@
 //! Calls on trace states.
-use crate::lines::Lines;
-use crate::shown::Show;
+use crate::shown::{Show, answer_shown, free_shown};
 use otel_ids::TraceState;
+use otel_memory_lines::Lines;
 use std::alloc::{AllocError, Global};
 
 const PAIRS: [(&str, &str); 2] = [("foo", ""), ("apple", "banana")];
 
 pub fn play<R: Print>(alloc: Global, lines: &Lines<'_, R>) {
     if lines.begin("trace-state-from-str") {
-        lines.shown("answer", TraceState::from_str(alloc, " a=1 ,,\tb=2"));
+        answer_shown(lines, TraceState::from_str(alloc, " a=1 ,,\tb=2"));
     }
     if lines.begin("trace-state-from-key-value") {
-        lines.shown("answer", TraceState::from_key_value(alloc, &PAIRS));
+        answer_shown(lines, TraceState::from_key_value(alloc, &PAIRS));
     }
     play_of_states(alloc, lines);
 }
@@ -61,8 +61,8 @@ fn of_state<R: Print>(
 
 fn called<R: Print>(alloc: Global, lines: &Lines<'_, R>, state: &TraceState, call: Call) {
     match call {
-        Call::Insert => lines.shown("answer", state.insert(alloc, "b", "3")),
-        Call::Delete => lines.shown("answer", state.delete(alloc, "a")),
+        Call::Insert => answer_shown(lines, state.insert(alloc, "b", "3")),
+        Call::Delete => answer_shown(lines, state.delete(alloc, "a")),
         Call::Header => header(alloc, lines, state),
         Call::Faults => faults(alloc, lines, state),
         Call::Looks => looks(alloc, lines, state),
@@ -76,9 +76,9 @@ fn header<R: Print>(alloc: Global, lines: &Lines<'_, R>, state: &TraceState) {
 }
 
 fn faults<R: Print>(alloc: Global, lines: &Lines<'_, R>, state: &TraceState) {
-    lines.shown("answer", TraceState::from_str(alloc, "a=1,b"));
-    lines.shown("answer", state.insert(alloc, "A", "1"));
-    lines.shown("answer", state.insert(alloc, "b", "="));
+    answer_shown(lines, TraceState::from_str(alloc, "a=1,b"));
+    answer_shown(lines, state.insert(alloc, "A", "1"));
+    answer_shown(lines, state.insert(alloc, "b", "="));
 }
 
 fn is_none(state: &TraceState) -> bool {
@@ -88,16 +88,16 @@ fn is_none(state: &TraceState) -> bool {
 /// Reads a text of blanks alone, which takes no memory.
 fn blanks<R: Print>(alloc: Global, lines: &Lines<'_, R>) {
     match TraceState::from_str(alloc, " ,\t, ") {
-        Ok(empty) => lines.free(&is_none(&empty)),
-        Err(error) => lines.free(&error),
+        Ok(empty) => lines.free("TraceState::from_str", &is_none(&empty)),
+        Err(error) => lines.free("TraceState::from_str", &error),
     }
 }
 
 /// Look-ups, and a clone, which shares the list.
 fn looks<R: Print>(alloc: Global, lines: &Lines<'_, R>, state: &TraceState) {
-    lines.free(&state.get("b").unwrap_or("none"));
-    lines.free(&state.iter().len());
-    lines.free(&is_none(state));
+    lines.free("TraceState::get", &state.get("b").unwrap_or("none"));
+    lines.free("TraceState::iter", &state.iter().len());
+    lines.free("TraceState::eq", &is_none(state));
     blanks(alloc, lines);
-    lines.shown("free", state.clone());
+    free_shown(lines, "TraceState::clone", state.clone());
 }

@@ -1,8 +1,10 @@
 //! Calls on texts, values and value trees.
-use crate::lines::Lines;
-use crate::shown::Show;
+use crate::shown::{Show, answer_shown};
 use otel_base::{AnyValue, Array, Key, KeyValue, StringValue, Value};
+use otel_memory_lines::Lines;
 use std::alloc::{AllocError, Global};
+use std::cmp::Ordering;
+use std::hash::{DefaultHasher, Hash, Hasher};
 use std::rc::RcStr;
 
 pub fn play<R: Print>(alloc: Global, lines: &Lines<'_, R>) {
@@ -14,6 +16,9 @@ pub fn play<R: Print>(alloc: Global, lines: &Lines<'_, R>) {
     }
     if lines.begin("text-clone-shared") {
         lines.end(text_clone_shared(alloc, lines));
+    }
+    if lines.begin("text-compared") {
+        compared(lines, &Key::from("a"), &Key::from("b"));
     }
     if lines.begin("text-into-string") {
         lines.answer_of(Key::from_static_str("k").into_string(alloc));
@@ -36,7 +41,7 @@ fn play_trees<R: Print>(alloc: Global, lines: &Lines<'_, R>) {
         lines.end(tree_map(alloc, lines));
     }
     if lines.begin("tree-bytes") {
-        lines.shown("answer", AnyValue::bytes(alloc, &[1, 2]));
+        answer_shown(lines, AnyValue::bytes(alloc, &[1, 2]));
     }
     if lines.begin("tree-clone") {
         lines.end(tree_clone(alloc, lines));
@@ -64,12 +69,14 @@ fn text_clone<R: Print>(alloc: Global, lines: &Lines<'_, R>) -> Result<(), Alloc
 
 /// The clone of a key whose text is static or shared.
 fn free_key<R: Print>(lines: &Lines<'_, R>, key: &Key) {
-    lines.free_of(key.clone());
+    lines.free_of("Key::clone", key.clone());
+    lines.free("Key::as_str", &key.as_str());
 }
 
 /// The clone of a static or shared text.
 fn free_text<R: Print>(lines: &Lines<'_, R>, text: &StringValue) {
-    lines.free_of(text.clone());
+    lines.free_of("StringValue::clone", text.clone());
+    lines.free("StringValue::as_str", &text.as_str());
 }
 
 fn text_clone_static<R: Print>(lines: &Lines<'_, R>) {
@@ -85,10 +92,23 @@ fn text_clone_shared<R: Print>(alloc: Global, lines: &Lines<'_, R>) -> Result<()
     Ok(())
 }
 
+/// The hash of a key.
+fn hash_of(key: &Key) -> u64 {
+    let mut state = DefaultHasher::new();
+    key.hash(&mut state);
+    state.finish()
+}
+
+fn compared<R: Print>(lines: &Lines<'_, R>, key: &Key, other: &Key) {
+    lines.free("Key::eq", &(*key == *other));
+    lines.free("Key::cmp", &(key.cmp(other) == Ordering::Less));
+    lines.free("Key::hash", &(hash_of(key) == hash_of(key)));
+}
+
 fn value_text<R: Print>(alloc: Global, lines: &Lines<'_, R>) {
     lines.answer_of(StringValue::from_value(alloc, Value::I64(7)));
     text_of(alloc, lines, &Value::I64(-1));
-    lines.free_of(Value::from("v").as_str(alloc));
+    lines.free_of("Value::as_str", Value::from("v").as_str(alloc));
 }
 
 fn text_of<R: Print>(alloc: Global, lines: &Lines<'_, R>, value: &Value) {
@@ -111,9 +131,9 @@ fn value_clone<R: Print>(alloc: Global, lines: &Lines<'_, R>) -> Result<(), Allo
 
 fn pair_clone<R: Print>(lines: &Lines<'_, R>, pair: &KeyValue) {
     lines.answer_of(pair.value.clone());
-    lines.shown("answer", pair.clone());
+    answer_shown(lines, pair.clone());
     lines.receiver(&pair.value);
-    lines.free(&is_true(&pair.value));
+    lines.free("Value::eq", &is_true(&pair.value));
 }
 
 fn is_true(value: &Value) -> bool {
@@ -122,7 +142,7 @@ fn is_true(value: &Value) -> bool {
 
 fn tree_list<R: Print>(alloc: Global, lines: &Lines<'_, R>) -> Result<(), AllocError> {
     let values = vec![in alloc; AnyValue::Int(1), AnyValue::from("b")]?;
-    lines.shown("answer", AnyValue::list(alloc, values));
+    answer_shown(lines, AnyValue::list(alloc, values));
     Ok(())
 }
 
@@ -137,7 +157,7 @@ fn pairs(alloc: Global) -> Result<Vec<(Key, AnyValue)>, AllocError> {
 
 fn tree_map<R: Print>(alloc: Global, lines: &Lines<'_, R>) -> Result<(), AllocError> {
     let pairs = pairs(alloc)?;
-    lines.shown("answer", AnyValue::map(alloc, pairs));
+    answer_shown(lines, AnyValue::map(alloc, pairs));
     Ok(())
 }
 
@@ -151,8 +171,8 @@ fn nested(alloc: Global) -> Result<AnyValue, AllocError> {
 
 fn tree_clone<R: Print>(alloc: Global, lines: &Lines<'_, R>) -> Result<(), AllocError> {
     let tree = nested(alloc)?;
-    lines.cloned("answer", &tree);
-    lines.free(&is_one(&tree));
+    lines.cloned(&tree);
+    lines.free("AnyValue::eq", &is_one(&tree));
     lines.receiver(&Show(&tree));
     Ok(())
 }

@@ -1,10 +1,11 @@
-//! The lines that the scenarios print.
-use crate::shown::{Show, Shown};
+//! The lines that the programs of scenarios print, for runs in which requests for memory fail.
+#![tactic(auto)]
+
 use std::alloc::AllocError;
 use std::cell::Cell;
 use std::fmt::Display;
 
-/// The output of the scenarios, and the name of the one that is wanted. Nothing here takes memory.
+/// The output of scenarios, and the name of the one that is wanted. Nothing here takes memory.
 #[derive(Drop)]
 pub struct Lines<'a, R> {
     rt: &'a R,
@@ -38,7 +39,7 @@ impl<'a, R: Print> Lines<'a, R> {
         true
     }
 
-    /// Ends a scenario. One that couldn't get the memory of what it begins with says so.
+    /// Ends a scenario. One that couldn't get the memory of what it begins with prints that.
     pub fn end(&self, set_up: Result<(), AllocError>) {
         if set_up.is_err() {
             self.line("set-up", &"no memory");
@@ -66,20 +67,11 @@ impl<'a, R: Print> Lines<'a, R> {
         }
     }
 
-    /// Prints the answer of a call, or its error, in a line of this kind.
-    pub fn shown<T: Shown + Drop, E: Display + Drop>(&self, kind: &str, answer: Result<T, E>) {
-        match answer {
-            Ok(answer) => self.line(kind, &Show(&answer)),
-            Err(error) => self.line(kind, &error),
-        }
-    }
-
-    /// Clones a value and prints whether the clone is equal to it, or the error, in a line of this
-    /// kind.
-    pub fn cloned<T: Clone + PartialEq + Drop>(&self, kind: &str, value: &T) {
+    /// Clones a value and prints whether the clone is equal to it, or the error.
+    pub fn cloned<T: Clone + PartialEq + Drop>(&self, value: &T) {
         match value.clone() {
-            Ok(copy) => self.line(kind, &(copy == *value)),
-            Err(error) => self.line(kind, &error),
+            Ok(copy) => self.line("answer", &(copy == *value)),
+            Err(error) => self.line("answer", &error),
         }
     }
 
@@ -94,19 +86,32 @@ impl<'a, R: Print> Lines<'a, R> {
         self.line("receiver", if is_due { &"as due" } else { &"not as due" });
     }
 
-    /// Prints the answer of a call that takes no memory.
-    pub fn free<T: Display>(&self, value: &T) {
-        self.line("free", value);
-    }
-
-    /// Prints the answer of a call that takes no memory, or the error that it never gives.
-    pub fn free_of<T: Display + Drop, E: Display + Drop>(&self, answer: Result<T, E>) {
-        match answer {
-            Ok(answer) => self.line("free", &answer),
-            Err(error) => self.line("free", &error),
+    /// Prints the answer of the named call, which takes no memory.
+    pub fn free<T: Display>(&self, call: &str, answer: &T) {
+        if println!(self.rt; "free {call}: {answer}").is_err() {
+            self.is_written.set(false);
         }
     }
 
+    /// Prints the answer of the named call, which takes no memory, or the error that it never
+    /// gives.
+    pub fn free_of<T: Display + Drop, E: Display + Drop>(&self, call: &str, answer: Result<T, E>) {
+        match answer {
+            Ok(answer) => self.free(call, &answer),
+            Err(error) => self.free(call, &error),
+        }
+    }
+
+    /// Prints that the named call, which takes no memory, succeeded, or the error that it never
+    /// gives.
+    pub fn free_ok<T: Drop, E: Display + Drop>(&self, call: &str, answer: Result<T, E>) {
+        match answer {
+            Ok(_) => self.free(call, &"ok"),
+            Err(error) => self.free(call, &error),
+        }
+    }
+
+    /// Prints a line of this kind.
     fn line<T: Display>(&self, kind: &str, value: &T) {
         if println!(self.rt; "{kind}: {value}").is_err() {
             self.is_written.set(false);

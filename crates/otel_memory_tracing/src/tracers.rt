@@ -1,0 +1,99 @@
+//! Calls that start spans.
+use crate::active::stack;
+use opentelemetry::context::{Context, ContextStack};
+use opentelemetry::trace::{SpanBuilder, Tracer};
+use opentelemetry::{StringValue, TraceId};
+use otel_memory_lines::Lines;
+use otel_recording::{RecordingSpan, RecordingTracer};
+use std::alloc::{AllocError, Global};
+
+/// A tracer that takes memory for the name of each span.
+#[derive(Drop)]
+pub struct NamingTracer;
+
+impl Tracer for NamingTracer {
+    type Span = RecordingSpan;
+
+    ghost may_build = { λ _ _ _ _. Unit {0} };
+
+    fn build_with_context(
+        &self,
+        alloc: Global,
+        builder: SpanBuilder,
+        parent: &Context,
+    ) -> Result<RecordingSpan, AllocError> {
+        let name = builder.name.into_string(alloc)?;
+        let tracer = RecordingTracer {
+            trace_id: TraceId::INVALID,
+        };
+        tracer.build_with_context(
+            alloc,
+            SpanBuilder::from_name(StringValue::from(name)),
+            parent,
+        )
+    }
+}
+
+/// What is asked of the tracer, or of a builder.
+#[derive(Clone, Copy)]
+enum Call {
+    Start,
+    StartWithContext,
+    Build,
+    BuildWithContext,
+    BuilderStart,
+    BuilderStartWithContext,
+}
+
+/// The scenarios.
+const CALLS: [(&str, Call); 6] = [
+    ("tracer-start", Call::Start),
+    ("tracer-start-with-context", Call::StartWithContext),
+    ("tracer-build", Call::Build),
+    ("tracer-build-with-context", Call::BuildWithContext),
+    ("span-builder-start", Call::BuilderStart),
+    (
+        "span-builder-start-with-context",
+        Call::BuilderStartWithContext,
+    ),
+];
+
+pub fn play<R: Print>(alloc: Global, lines: &Lines<'_, R>) {
+    for (name, call) in CALLS {
+        if lines.begin(name) {
+            lines.end(of_stack(alloc, lines, call));
+        }
+    }
+}
+
+/// A name.
+pub fn name() -> StringValue {
+    StringValue::from("s")
+}
+
+/// A builder of that name.
+pub fn builder() -> SpanBuilder {
+    SpanBuilder::from_name(name())
+}
+
+fn started(alloc: Global, stack: &ContextStack, call: Call) -> Result<RecordingSpan, AllocError> {
+    let tracer = NamingTracer;
+    let parent = stack.current();
+    match call {
+        Call::Start => tracer.start(alloc, stack, name()),
+        Call::StartWithContext => tracer.start_with_context(alloc, name(), parent),
+        Call::Build => tracer.build(alloc, builder(), stack),
+        Call::BuildWithContext => tracer.build_with_context(alloc, builder(), parent),
+        Call::BuilderStart => builder().start(alloc, &tracer, stack),
+        Call::BuilderStartWithContext => builder().start_with_context(alloc, &tracer, parent),
+    }
+}
+
+fn of_stack<R: Print>(alloc: Global, lines: &Lines<'_, R>, call: Call) -> Result<(), AllocError> {
+    let stack = stack(alloc)?;
+    match started(alloc, &stack, call) {
+        Ok(span) => lines.answer(&span.name()),
+        Err(error) => lines.answer(&error),
+    }
+    Ok(())
+}
