@@ -20,6 +20,14 @@ enum Call {
     Extract,
 }
 
+/// What is asked of the members of a composite.
+#[derive(Clone, Copy)]
+enum Whole {
+    New,
+    Join,
+    Asked(Call),
+}
+
 /// The scenarios of a composite, and of one propagator.
 const CALLS: [(&str, &str, Call); 4] = [
     (
@@ -38,36 +46,22 @@ const CALLS: [(&str, &str, Call); 4] = [
 
 pub fn play<R: Print>(alloc: Global, lines: &Lines<'_, R>) {
     if lines.begin("composite-new") {
-        lines.end(new(alloc, lines));
+        lines.end(of_two(alloc, lines, Whole::New));
     }
     if lines.begin("composite-join") {
-        lines.end(join(alloc, lines));
+        lines.end(of_two(alloc, lines, Whole::Join));
     }
     if lines.begin("composite-without-members") {
         lines.end(without_members(alloc, lines));
     }
     for (of_composite, of_member, call) in CALLS {
         if lines.begin(of_composite) {
-            lines.end(of_two(alloc, lines, call));
+            lines.end(of_two(alloc, lines, Whole::Asked(call)));
         }
         if lines.begin(of_member) {
             lines.end(of_one(alloc, lines, call));
         }
     }
-}
-
-/// The propagators of the W3C headers.
-fn members(alloc: Global) -> Result<Vec<Box<dyn TextMapPropagator>>, AllocError> {
-    let mut members: Vec<Box<dyn TextMapPropagator>> = Vec::new(alloc);
-    members.push(Box::new(alloc, TraceContextPropagator::new(alloc)?)?)?;
-    members.push(Box::new(alloc, BaggagePropagator::new(alloc)?)?)?;
-    Ok(members)
-}
-
-/// A composite of these.
-fn composite(alloc: Global) -> Result<TextMapCompositePropagator, AllocError> {
-    let members = members(alloc)?;
-    TextMapCompositePropagator::new(alloc, members)
 }
 
 /// Prints how many fields the composite has, or the error.
@@ -78,17 +72,30 @@ fn made<R: Print>(lines: &Lines<'_, R>, answer: Result<TextMapCompositePropagato
     }
 }
 
-/// The names of the fields take memory.
-fn new<R: Print>(alloc: Global, lines: &Lines<'_, R>) -> Result<(), AllocError> {
-    let members = members(alloc)?;
-    made(lines, TextMapCompositePropagator::new(alloc, members));
-    Ok(())
+/// Makes the propagators of the W3C headers, and that call of a composite of them. The names of
+/// their fields take memory.
+fn of_two<R: Print>(alloc: Global, lines: &Lines<'_, R>, call: Whole) -> Result<(), AllocError> {
+    let mut members: Vec<Box<dyn TextMapPropagator>> = Vec::new(alloc);
+    members.push(Box::new(alloc, TraceContextPropagator::new(alloc)?)?)?;
+    members.push(Box::new(alloc, BaggagePropagator::new(alloc)?)?)?;
+    match call {
+        Whole::New => {
+            made(lines, TextMapCompositePropagator::new(alloc, members));
+            Ok(())
+        }
+        Whole::Join => join(alloc, lines, members),
+        Whole::Asked(call) => of_composite(alloc, lines, members, call),
+    }
 }
 
-/// Joins a composite without members, which has no room for one, with one of two.
-fn join<R: Print>(alloc: Global, lines: &Lines<'_, R>) -> Result<(), AllocError> {
+/// Joins a composite without members, which has no room for one, with one of these.
+fn join<R: Print>(
+    alloc: Global,
+    lines: &Lines<'_, R>,
+    members: Vec<Box<dyn TextMapPropagator>>,
+) -> Result<(), AllocError> {
     let first = TextMapCompositePropagator::new(alloc, Vec::new(alloc))?;
-    let second = composite(alloc)?;
+    let second = TextMapCompositePropagator::new(alloc, members)?;
     made(lines, first.join(alloc, second));
     Ok(())
 }
@@ -101,8 +108,13 @@ fn extracted<R: Print>(lines: &Lines<'_, R>, answer: Result<Context, Propagation
     }
 }
 
-fn of_two<R: Print>(alloc: Global, lines: &Lines<'_, R>, call: Call) -> Result<(), AllocError> {
-    let composite = composite(alloc)?;
+fn of_composite<R: Print>(
+    alloc: Global,
+    lines: &Lines<'_, R>,
+    members: Vec<Box<dyn TextMapPropagator>>,
+    call: Call,
+) -> Result<(), AllocError> {
+    let composite = TextMapCompositePropagator::new(alloc, members)?;
     let stack = stack(alloc)?;
     asked(alloc, lines, &composite, &stack, call)
 }
