@@ -3,6 +3,7 @@
 #   make run                        proves and builds the program, and runs it on examples/first-run
 #   make run INPUT=F                on the file F; INPUT=- is standard input
 #   make try                        the same in seconds and unproved
+#   make example                    a service at work: the headers that it sends on, for those of examples/service and for none
 #   make test                       every proof, must-fail edit, test, vector, misuse case and failing request for memory
 #
 # Small loops, each a part of the above:
@@ -29,7 +30,7 @@ COUNT ?= 10000
 SEED ?= 1
 GIVEN := $(if $(filter -,$(INPUT)),,< "$(abspath $(INPUT))")
 
-.PHONY: run try test check tests edit mutants vectors misuse memory calls fuzz documents bench
+.PHONY: run try example test check tests edit mutants vectors misuse memory calls fuzz documents bench
 
 run:
 	@cd crates/otel_carry && rt run $(GIVEN)
@@ -37,6 +38,9 @@ run:
 try:
 	@echo 'make try: nothing is proved here; make run proves the program first' >&2
 	@cd crates/otel_carry && rt try $(GIVEN)
+
+example:
+	@cd crates/otel_service && rt run < ../../examples/service && rt run < /dev/null
 
 test:
 	@tests/all

@@ -1,0 +1,46 @@
+//! Why a request isn't served. Bad headers are no reason: the service then starts a trace of its own.
+use opentelemetry::propagation::PropagationError;
+use opentelemetry::trace::SpanRefused;
+use std::alloc::{AllocError, AllocFailed};
+use std::io;
+
+/// Why a request isn't served.
+#[derive(Clone, Copy, Debug, PartialEq, Eq)]
+pub enum Failure {
+    /// The input can't be read, or the output can't be written.
+    Io,
+    /// A request for memory failed.
+    NoMemory,
+}
+
+impl From<io::Error> for Failure {
+    fn from(_error: io::Error) -> Failure {
+        Failure::Io
+    }
+}
+
+impl From<AllocError> for Failure {
+    fn from(_error: AllocError) -> Failure {
+        Failure::NoMemory
+    }
+}
+
+impl<T: Drop> From<AllocFailed<T>> for Failure {
+    fn from(_failed: AllocFailed<T>) -> Failure {
+        Failure::NoMemory
+    }
+}
+
+impl From<PropagationError> for Failure {
+    // Neither the propagators nor a map refuses.
+    fn from(_error: PropagationError) -> Failure {
+        Failure::NoMemory
+    }
+}
+
+impl<S: Drop> From<SpanRefused<S>> for Failure {
+    // The first number of a table is never used up.
+    fn from(_refused: SpanRefused<S>) -> Failure {
+        Failure::NoMemory
+    }
+}
