@@ -1,7 +1,7 @@
 //! What the service does of a request.
 use crate::failure::Failure;
 use opentelemetry::baggage::Baggage;
-use opentelemetry::propagation::TextMapPropagator;
+use opentelemetry::propagation::{PropagationError, TextMapPropagator};
 use opentelemetry::trace::{SpanContext, SpanId, Spans, TraceFlags, TraceId};
 use opentelemetry::{Context, Key, StringValue};
 use otel_propagators::{BaggagePropagator, TraceContextPropagator};
@@ -30,17 +30,44 @@ pub fn serve(
     baggage: &BaggagePropagator,
     received: &HashMap<String, String>,
 ) -> Result<Sent, Failure> {
-    let given = trace.extract_with_context(alloc, &Context::new(), received)?;
-    let given = baggage.extract_with_context(alloc, &given, received)?;
-    let context = named(alloc, &given)?;
-    let span = child_of(context.span_context())?;
-    let started = RecordingSpan::new(alloc, span.clone()?, StringValue::from("serve"));
-    let mut spans = Spans::new(alloc);
-    let context = context.with_span(alloc, &mut spans, started)?;
-    let mut headers = HashMap::new(alloc);
-    trace.inject_context(&context, &mut headers)?;
-    baggage.inject_context(&context, &mut headers)?;
+    let given = extracted(alloc, trace, baggage, received)?;
+    let context = started(alloc, &given)?;
+    let span = context.span_context().clone()?;
+    let headers = injected(alloc, trace, baggage, &context)?;
     Ok(Sent { headers, span })
+}
+
+/// The context that the headers name.
+fn extracted(
+    alloc: Global,
+    trace: &TraceContextPropagator,
+    baggage: &BaggagePropagator,
+    received: &HashMap<String, String>,
+) -> Result<Context, PropagationError> {
+    let given = trace.extract_with_context(alloc, &Context::new(), received)?;
+    baggage.extract_with_context(alloc, &given, received)
+}
+
+/// The context of the service's work: that of its span, with its name in the baggage.
+fn started(alloc: Global, given: &Context) -> Result<Context, Failure> {
+    let span = child_of(given.span_context())?;
+    let span = RecordingSpan::new(alloc, span, StringValue::from("serve"));
+    let mut spans = Spans::new(alloc);
+    let context = given.with_span(alloc, &mut spans, span)?;
+    Ok(named(alloc, &context)?)
+}
+
+/// The headers of the context.
+fn injected(
+    alloc: Global,
+    trace: &TraceContextPropagator,
+    baggage: &BaggagePropagator,
+    context: &Context,
+) -> Result<HashMap<String, String>, PropagationError> {
+    let mut headers = HashMap::new(alloc);
+    trace.inject_context(context, &mut headers)?;
+    baggage.inject_context(context, &mut headers)?;
+    Ok(headers)
 }
 
 /// The context, with the service's name in its baggage. A baggage that is full stays as it is.
