@@ -25,7 +25,12 @@ fn shown(alloc: Global, count: usize, more: &str) -> Result<String, AllocError> 
 #[test]
 fn the_position_below_the_last_is_given(rt: HostRuntime) -> Result<(), Fail> {
     let shown = shown(rt.alloc(), 65533, "")?;
-    assert!(rt; shown.as_str().starts_with("attach 65532: position 65533\ncurrent: a\n"), "{shown}");
+    assert!(rt;
+        shown
+            .as_str()
+            .starts_with("attach 65532: position 65533\ncurrent: a\n"),
+        "{shown}"
+    );
     Ok(())
 }
 
@@ -39,7 +44,8 @@ fn the_last_position_is_given(rt: HostRuntime) -> Result<(), Fail> {
 
 #[test]
 fn no_position_is_given_after_the_last(rt: HostRuntime) -> Result<(), Fail> {
-    let wanted = "attach 65532: position 65533\nattach 65533: position 65534\nattach 65534: full\ncurrent: a\n";
+    let wanted =
+        "attach 65532: position 65533\nattach 65533: position 65534\nattach 65534: full\ncurrent: a\n";
     let shown = shown(rt.alloc(), 65535, "")?;
     assert!(rt; shown.as_str().starts_with(wanted), "{shown}");
     Ok(())
@@ -48,7 +54,8 @@ fn no_position_is_given_after_the_last(rt: HostRuntime) -> Result<(), Fail> {
 #[test]
 fn the_last_position_is_given_out_again(rt: HostRuntime) -> Result<(), Fail> {
     let more = "attach b\nattach c\ndetach 65533\nattach d\ndetach 65534\n";
-    let wanted = "attach 65532: position 65533\nattach 65533: position 65534\nattach 65534: full\nattach 65535: full\nattach 65536: position 65534\ncurrent: d\n";
+    let wanted =
+        "attach 65532: position 65533\nattach 65533: position 65534\nattach 65534: full\nattach 65535: full\nattach 65536: position 65534\ncurrent: d\n";
     let shown = shown(rt.alloc(), 65534, more)?;
     assert!(rt; shown.as_str().starts_with(wanted), "{shown}");
     Ok(())
