@@ -3,9 +3,8 @@ use crate::injections::{composite, let_go};
 use crate::operation::{Operation, Task, add, repeat};
 use opentelemetry::Context;
 use opentelemetry::carry::{self, StackEvent};
-use opentelemetry::propagation::{TextMapCompositePropagator, TextMapPropagator};
+use opentelemetry::propagation::TextMapCompositePropagator;
 use opentelemetry::trace::TraceState;
-use otel_propagators::BaggagePropagator;
 use std::alloc::{AllocError, Global};
 use std::collections::HashMap;
 
@@ -22,8 +21,6 @@ pub fn play(task: &Task<'_>, alloc: Global) -> Result<Option<u64>, AllocError> {
             };
             repeat(detaching, task.times)
         }
-        "attack_baggage_commas" => extract(alloc, "a=1", ",", task),
-        "attack_baggage_key" => extract(alloc, "a=1,", "k", task),
         _ => Ok(None),
     }
 }
@@ -59,58 +56,6 @@ struct Reading {
 impl Operation for Reading {
     fn once(&mut self, sum: &mut u64) -> Result<(), AllocError> {
         read_state(self.alloc, self.text.as_str(), sum);
-        Ok(())
-    }
-}
-
-/// Extracts the baggage of a header that begins so and goes on with one sign, many times over.
-fn extract(
-    alloc: Global,
-    begin: &str,
-    sign: &str,
-    task: &Task<'_>,
-) -> Result<Option<u64>, AllocError> {
-    let mut text = String::from_str(alloc, begin)?;
-    let more = sign.repeat(alloc, task.size)?;
-    text.push_str(more.as_str())?;
-    let mut carrier = HashMap::new(alloc);
-    carrier.insert(String::from_str(alloc, "baggage")?, text)?;
-    let propagator = BaggagePropagator::new(alloc)?;
-    let extracting = Extracting {
-        alloc,
-        propagator,
-        carrier,
-    };
-    repeat(extracting, task.times)
-}
-
-/// Adds how many members the extracted baggage has, or 7 where there is none.
-#[inline(never)]
-fn extract_baggage(
-    alloc: Global,
-    propagator: &BaggagePropagator,
-    carrier: &HashMap<String, String>,
-    sum: &mut u64,
-) {
-    match propagator.extract_with_context(alloc, &Context::new(), carrier) {
-        Ok(context) => match context.baggage() {
-            Some(baggage) => add(sum, baggage.len()),
-            None => add(sum, 7),
-        },
-        Err(_) => add(sum, 7),
-    }
-}
-
-#[derive(Drop)]
-struct Extracting {
-    alloc: Global,
-    propagator: BaggagePropagator,
-    carrier: HashMap<String, String>,
-}
-
-impl Operation for Extracting {
-    fn once(&mut self, sum: &mut u64) -> Result<(), AllocError> {
-        extract_baggage(self.alloc, &self.propagator, &self.carrier, sum);
         Ok(())
     }
 }
