@@ -24,7 +24,7 @@ fn span_context(number: u64) -> SpanContext {
     )
 }
 
-/// A span of that number that was told nothing.
+/// A span of that number that keeps nothing yet.
 fn span(alloc: Global, number: u64) -> RecordingSpan {
     RecordingSpan::new(alloc, span_context(number), StringValue::from("work"))
 }
