@@ -15,6 +15,7 @@
 #   make vectors                    the answers of the Rust crate
 #   make misuse                     what must not compile; CASE=NAME one case
 #   make memory                     the runs in which requests for memory fail
+#   make long                       the proved programs on long inputs
 #   make calls                      that each call that can run out of memory is in one of them
 #   make fuzz                       random programs and rows beside a plain model; COUNT=N so many, SEED=N others
 #   make documents                  that what the documents name exists, and that the code they show is code that runs
@@ -30,7 +31,7 @@ COUNT ?= 10000
 SEED ?= 1
 GIVEN := $(if $(filter -,$(INPUT)),,< "$(abspath $(INPUT))")
 
-.PHONY: run try example test check tests edit mutants vectors misuse memory calls fuzz documents bench
+.PHONY: run try example test check tests edit mutants vectors misuse memory long calls fuzz documents bench
 
 run:
 	@cd crates/otel_carry && rt run $(GIVEN)
@@ -66,6 +67,10 @@ misuse:
 memory:
 	@for program in otel_carry otel_memory otel_memory_tracing; do (cd crates/$$program && rt run < /dev/null > /dev/null) || exit; done
 	@tests/memory/sweep
+
+long:
+	@for program in otel_carry otel_service; do (cd crates/$$program && rt run < /dev/null > /dev/null) || exit; done
+	@tests/long/run
 
 calls:
 	@tests/memory/calls

@@ -187,23 +187,6 @@ fn numbers_the_span_contexts(rt: HostRuntime) -> Result<(), Fail> {
     Ok(())
 }
 
-/// A stack holds 65,534 attachments: the next one is reported as full.
-#[test]
-fn reports_a_full_stack(rt: HostRuntime) -> Result<(), Fail> {
-    let mut input = String::new(rt.alloc());
-    let mut report = String::new(rt.alloc());
-    for number in 0..65_534 {
-        input.push_str("attach a\n")?;
-        writeln!(report, "attach {number}: position {}", number + 1)?;
-    }
-    input.push_str("attach b\n")?;
-    report.push_str("attach 65534: full\ncurrent: a\nbaggage=\ncontext-name=a\nextracted: none\n")?;
-    let mut output = Vec::new(rt.alloc());
-    assert_eq!(rt; status_of(rt.alloc(), input.as_bytes(), &mut output)?, 0);
-    assert!(rt; output.as_slice() == report.as_bytes());
-    Ok(())
-}
-
 /// Gives one `\n` a read, so many times, and then ends or fails.
 #[derive(Drop)]
 struct Newlines {
@@ -225,23 +208,39 @@ impl Read for Newlines {
     }
 }
 
+/// How many newlines there are, whether the reader fails after them, what is written, and the status.
+/// The last of the 1,048,576 reads may be the one that tells the end.
+const NEWLINES: &[(u32, bool, &str, u8)] = &[
+    (0, true, "input: cannot be read\n", 1),
+    (1, true, "input: cannot be read\n", 1),
+    (1_048_575, false, BASE, 0),
+];
+
 #[test]
-fn gives_up_a_reader_that_fails_or_never_ends(rt: HostRuntime) -> Result<(), Fail> {
-    // The last of the 1,048,576 reads may be the one that tells the end.
-    for (left, fails, text, status) in [
-        (0, true, "input: cannot be read\n", 1),
-        (1, true, "input: cannot be read\n", 1),
-        (1_048_575, false, BASE, 0),
-        (1_048_576, false, "input: cannot be read\n", 1),
-        (u32::MAX, false, "input: cannot be read\n", 1),
-    ] {
+fn gives_up_a_reader_that_fails(rt: HostRuntime) -> Result<(), Fail> {
+    for (left, fails, text, status) in NEWLINES {
         let mut output = Vec::new(rt.alloc());
-        assert_eq!(rt;
-            status_of(rt.alloc(), Newlines { left, fails }, &mut output)?,
-            status
-        );
-        assert_eq!(rt; str::from_utf8(&output), Ok(text));
+        let input = Newlines {
+            left: *left,
+            fails: *fails,
+        };
+        assert_eq!(rt; status_of(rt.alloc(), input, &mut output)?, *status);
+        assert_eq!(rt; str::from_utf8(&output), Ok(*text));
     }
+    Ok(())
+}
+
+/// It is read 1,048,576 times, and then no more. So one that would end at the next read is given up too.
+#[test]
+fn gives_up_a_reader_that_never_ends(rt: HostRuntime) -> Result<(), Fail> {
+    let mut input = Newlines {
+        left: u32::MAX,
+        fails: false,
+    };
+    let mut output = Vec::new(rt.alloc());
+    assert_eq!(rt; status_of(rt.alloc(), &mut input, &mut output)?, 1);
+    assert_eq!(rt; str::from_utf8(&output), Ok("input: cannot be read\n"));
+    assert_eq!(rt; u32::MAX - input.left, 1_048_576);
     Ok(())
 }
 

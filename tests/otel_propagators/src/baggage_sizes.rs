@@ -5,9 +5,16 @@ use std::alloc::{AllocError, Global};
 use std::process::Abort;
 use std::test::Fail;
 
+/// The text so many times: twice half of it, and once more where they are odd.
 fn repeated(alloc: Global, text: &str, times: usize) -> Result<String, AllocError> {
+    if times == 0 {
+        return Ok(String::new(alloc));
+    }
+    let half = repeated(alloc, text, times / 2)?;
     let mut all = String::new(alloc);
-    for _ in 0..times {
+    all.push_str(half.as_str())?;
+    all.push_str(half.as_str())?;
+    if times % 2 == 1 {
         all.push_str(text)?;
     }
     Ok(all)
@@ -106,7 +113,8 @@ fn the_bytes_of_keys_and_metadata_count(rt: HostRuntime) -> Result<(), Fail> {
     Ok(())
 }
 
-const MILLION: usize = 1_000_000;
+/// The runs of `tests/long` read ten times as many.
+const MANY: usize = 100_000;
 
 /// What stands before, what is repeated, how often, what stands after, and how many members and
 /// bytes are read.
@@ -120,7 +128,7 @@ type Row = (
 );
 
 const MANY_PIECES: &[Row] = &[
-    ("", ",", MILLION, "", 0, 0),
+    ("", ",", MANY, "", 0, 0),
     ("", " , ", 10_000, "a=1", 1, 2),
     ("", "a=1,", 10_000, "", 1, 2),
     ("", "a=%ff,", 10_000, "b=1", 1, 2),
@@ -128,19 +136,19 @@ const MANY_PIECES: &[Row] = &[
 ];
 
 const LONG_VALUES: &[Row] = &[
-    ("a=", "%", MILLION, ",b=1", 1, 2),
-    ("a=", "%2", 100_000, ",b=1", 1, 2),
-    ("a=", "%20", 100_000, ",b=1", 1, 2),
-    ("a=", " ", MILLION, "1,b=1", 2, 4),
-    ("", "=", MILLION, "", 0, 0),
+    ("a=", "%", MANY, ",b=1", 1, 2),
+    ("a=", "%2", MANY, ",b=1", 1, 2),
+    ("a=", "%20", MANY, ",b=1", 1, 2),
+    ("a=", " ", MANY, "1,b=1", 2, 4),
+    ("", "=", MANY, "", 0, 0),
 ];
 
 const LONG_KEYS_AND_METADATA: &[Row] = &[
-    ("", "k", MILLION, "=1,b=1", 1, 2),
-    ("", "\u{e9}", 100_000, "=1,b=1", 1, 2),
-    ("", ";", MILLION, "", 0, 0),
-    ("a=1;", "p", MILLION, ",b=1", 1, 2),
-    ("a=1;", " ", MILLION, ",b=1", 2, 4),
+    ("", "k", MANY, "=1,b=1", 1, 2),
+    ("", "\u{e9}", MANY, "=1,b=1", 1, 2),
+    ("", ";", MANY, "", 0, 0),
+    ("a=1;", "p", MANY, ",b=1", 1, 2),
+    ("a=1;", " ", MANY, ",b=1", 2, 4),
 ];
 
 fn assert_read(rt: &impl Abort, alloc: Global, rows: &[Row]) -> Result<(), Fail> {

@@ -189,8 +189,9 @@ fn a_marked_span_gets_the_last_position(rt: HostRuntime) -> Result<(), Fail> {
 #[test]
 fn a_body_runs_at_the_last_position_and_above(rt: HostRuntime) -> Result<(), Fail> {
     for (newest, position) in POSITIONS {
+        // Each way leaves the stack as it was.
+        let mut stack = filled(rt.alloc(), *newest)?;
         for way in IN_SPANS {
-            let mut stack = filled(rt.alloc(), *newest)?;
             let mut spans = Spans::new(rt.alloc());
             let Ok((Ok(inside), number)) = in_span(rt.alloc(), *way, &mut stack, &mut spans) else {
                 panic!(&rt; "{way:?}: no room")

@@ -191,8 +191,10 @@ const ABOVE_EMPTIED_SLOTS: &[Row] = &[
 
 /// Attaches as often as there are positions.
 fn fill(rt: &impl Abort, alloc: Global, asked: &mut Asked) -> Result<(), Fail> {
+    let context = named(alloc, "a")?;
     for position in 1..65535 {
-        play(rt, alloc, asked, Attach("a", position))?;
+        let given = asked.attach(context.clone()?)?;
+        assert_eq!(rt; given, position);
     }
     Ok(())
 }
@@ -215,7 +217,11 @@ fn play_every_position(rt: &impl Abort, alloc: Global, by_guards: bool) -> Resul
 
 #[test]
 fn positions_run_out_and_come_back(rt: HostRuntime) -> Result<(), Fail> {
-    play_every_position(&rt, rt.alloc(), false)?;
+    play_every_position(&rt, rt.alloc(), false)
+}
+
+#[test]
+fn guards_run_out_of_positions_and_give_them_back(rt: HostRuntime) -> Result<(), Fail> {
     play_every_position(&rt, rt.alloc(), true)
 }
 
