@@ -10,6 +10,7 @@ mod carriers;
 mod composites;
 mod headers;
 mod in_span;
+mod logs;
 mod noop;
 mod parts;
 mod references;
@@ -37,6 +38,7 @@ fn main(rt: HostRuntime) -> io::Result<()> {
     active::play(alloc, &lines);
     tracers::play(alloc, &lines);
     in_span::play(alloc, &lines);
+    logs::play(alloc, &lines);
     noop::play(alloc, &lines);
     if lines.is_written() {
         Ok(())
