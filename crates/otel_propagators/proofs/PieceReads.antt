@@ -4,14 +4,14 @@ use Rattle.std.specs.Prelude.{◌&&◌, ◌||◌, nat_lt, nat_le, map, IsUtf8, i
 use Rattle.std.specs.List.{list_all, list_any, before_first, after_first, join_with_byte, AllByRecursion}
 use Rattle.std.specs.Str.{bytes_eq, trim, is_utf8}
 use Rattle.otel_ids.proofs.Turns.{next_piece}
-use Rattle.std.proofs.lemmas.Bool.{cases_Bool, and_parts, and_from, or_from, or_right, cond-true, cond-false, cond_both, le-leb, lt-ltb, eqb-true}
+use Rattle.std.proofs.lemmas.Bool.{cases_Bool, and_parts, and_from, or_from, or_right, cond-true, cond-false, cond_both, le-leb, lt-ltb, eqb-true, false_from_ne_true}
 use Rattle.std.proofs.lemmas.Bool.Decides.{nat_tests}
 use Rattle.std.proofs.lemmas.List.{append-nil, length-append, drop_all}
 use Rattle.std.proofs.lemmas.List.Elements.{All-head, All-tail, All-nil}
 use Rattle.std.proofs.lemmas.List.Splits.{slice_split_none, slice_split_at, join_with_byte-slice_split}
 use Rattle.std.proofs.lemmas.List.Sums.{sum_by-append, sum_by-cons}
 use Rattle.std.proofs.lemmas.Map.Keys.{IsDistinct-head, IsDistinct-tail}
-use Rattle.std.proofs.lemmas.Str.{IsUtf8-from_is_utf8}
+use Rattle.std.proofs.lemmas.Str.{IsUtf8-from_is_utf8, is_utf8-from_IsUtf8}
 use Rattle.percent_encoding.specs.Percent.{percent_decode}
 use Rattle.otel_ids.specs.Text.{is_comma, is_equals, is_blank, cut_blanks}
 use Rattle.otel_context.specs.BaggageText.{is_key_byte, is_key, escaped}
@@ -23,7 +23,7 @@ use Rattle.otel_context.proofs.BaggageTrims.{trim_twice}
 use Rattle.otel_propagators.specs.BaggageReading.{is_semicolon, pieces, key_and_value, key_in, written_value, value_in, metadata_in, member_in, is_member, with_piece, with_pieces, BaggageReads, ReadsBaggage}
 use Rattle.otel_propagators.proofs.FirstCuts.{none_append, some_at, none_from_all, none_from_not, none_All, before_at, after_at, before_none, after_none, no_blanks, utf8_cut, utf8_after}
 use Rattle.otel_propagators.proofs.EscapedValues.{is_written, all_written, decoded}
-use Rattle.otel_propagators.proofs.PutMembers.{AreDistinct, HasNone, distinct_nil, turned, insert_baggage}
+use Rattle.otel_propagators.proofs.PutMembers.{AreDistinct, HasNone, distinct_nil, turned, insert_baggage, and_false, too_long}
 
 -- ---- bytes that stand neither in keys nor in escaped values
 
@@ -206,24 +206,56 @@ reads_baggage t u = pieces_baggage [] (pieces t) no_members (joined_utf8 (pieces
 
 -- ---- what the code does with a piece
 
-decoded_to : (text bytes : List ℕ) → Some text ≡ (if is_utf8 bytes then Some bytes else None) → (is_utf8 bytes ≡ true) × (text ≡ bytes)
-decoded_to text bytes h =
-    elim (cases_Bool (is_utf8 bytes)) [
-      | inl t ↦ let e : Some text ≡ Some bytes = h ∙ cond-true (is_utf8 bytes) (Some bytes) None t in (t, (cc))
-      | inr f ↦ let e : Some text ≡ None = h ∙ cond-false (is_utf8 bytes) (Some bytes) None f in absurd (cc)
+-- whether a value of these bytes may be that of a member
+abbrev pub may_stand : List ℕ → Bool
+may_stand bytes = is_utf8 bytes && nat_le (length bytes) max_len_of_all_pairs
+
+pub decoded_some : (found bytes : List ℕ) → found ≡ bytes → IsUtf8 bytes → length bytes ≤ max_len_of_all_pairs → Some found ≡ (if may_stand bytes then Some bytes else None)
+decoded_some found bytes e u few =
+    ap Some e ∙ sym (cond-true (may_stand bytes) (Some bytes) None (and_from (is_utf8 bytes) (nat_le (length bytes) max_len_of_all_pairs) (is_utf8-from_IsUtf8 bytes u) (le-leb (length bytes) max_len_of_all_pairs few)))
+
+pub decoded_none : (bytes : List ℕ) → ¬ IsUtf8 bytes → None ≡ (if may_stand bytes then Some bytes else None)
+decoded_none bytes n =
+    sym (cond-false (may_stand bytes) (Some bytes) None (false_from_ne_true (may_stand bytes) (λ t. n (IsUtf8-from_is_utf8 bytes (and_parts (is_utf8 bytes) (nat_le (length bytes) max_len_of_all_pairs) t).0))))
+
+stands : (found bytes : List ℕ) → Some found ≡ (if may_stand bytes then Some bytes else None) → (is_utf8 bytes ≡ true) × (found ≡ bytes)
+stands found bytes h =
+    elim (cases_Bool (may_stand bytes)) [
+      | inl t ↦ let e : Some found ≡ Some bytes = h ∙ cond-true (may_stand bytes) (Some bytes) None t in ((and_parts (is_utf8 bytes) (nat_le (length bytes) max_len_of_all_pairs) t).0, (cc))
+      | inr f ↦ let e : Some found ≡ None = h ∙ cond-false (may_stand bytes) (Some bytes) None f in absurd (cc)
     ]
 
-module _ (ms : List Member) (piece : List ℕ) (u : IsUtf8 piece) where
-  -- it is inserted
-  pub piece_inserted : (key value metadata text : List ℕ) → list_any is_equals (key_and_value piece) ≡ true → key ≡ key_in piece → value ≡ written_value piece → metadata ≡ metadata_in piece
-      → Some text ≡ (if is_utf8 (percent_decode value) then Some (percent_decode value) else None) → insert ms (member_of key text (trim metadata)) ≡ with_piece ms piece
-  piece_inserted key value metadata text some k v d t =
-      let r = decoded_to text (percent_decode value) t in
-      let decodes : text ≡ value_in piece = r.1 ∙ ap percent_decode v in
+stands_not : (bytes : List ℕ) → None ≡ (if may_stand bytes then Some bytes else None) → may_stand bytes ≡ false
+stands_not bytes h =
+    false_from_ne_true (may_stand bytes) (λ t. let e : None ≡ Some bytes = h ∙ cond-true (may_stand bytes) (Some bytes) None t in cc)
+
+not_few : (n : ℕ) → nat_le n max_len_of_all_pairs ≡ false → max_len_of_all_pairs < n
+not_few n h = grind (arith, nat_tests)
+
+-- without such a value no member is inserted
+not_inserted : (ms : List Member) (m : Member) (readable : Bool) → readable ≡ is_utf8 m.value → may_stand m.value ≡ false → (b : Bool) → (if b && readable then insert ms m else ms) ≡ ms
+not_inserted ms m false e h b = cond-false (b && false) (insert ms m) ms (and_false b)
+not_inserted ms m true e h b =
+    let long : nat_le (length m.value) max_len_of_all_pairs ≡ false = ap (λ u. u && nat_le (length m.value) max_len_of_all_pairs) e ∙ h in
+    let same : insert ms m ≡ ms = cond-false (accepts ms m) (put ms m) ms (too_long m ms (not_few (length m.value) long)) in
+    cond_both (b && true) (insert ms m) ms (λ l. l ≡ ms) (λ t. same) (λ f. refl)
+
+module _ (ms : List Member) (piece : List ℕ) (value : List ℕ) (v : value ≡ written_value piece) where
+  -- it is skipped
+  pub piece_skipped : None ≡ (if may_stand (percent_decode value) then Some (percent_decode value) else None) → ms ≡ with_piece ms piece
+  piece_skipped h =
+      sym (not_inserted ms (member_in piece) (is_utf8 (value_in piece)) refl (ap (λ (x : List ℕ). may_stand (percent_decode x)) (sym v) ∙ stands_not (percent_decode value) h) (list_any is_equals (key_and_value piece)))
+
+  -- it is a member
+  pub piece_is : (u : IsUtf8 piece) (key metadata found : List ℕ) → list_any is_equals (key_and_value piece) ≡ true → key ≡ key_in piece → metadata ≡ metadata_in piece
+      → Some found ≡ (if may_stand (percent_decode value) then Some (percent_decode value) else None) → (insert ms (member_of key found metadata) ≡ with_piece ms piece) × (insert ms (member_of key found (trim metadata)) ≡ with_piece ms piece)
+  piece_is u key metadata found some k d t =
+      let r = stands found (percent_decode value) t in
+      let decodes : found ≡ value_in piece = r.1 ∙ ap percent_decode v in
       let utf8 : is_utf8 (value_in piece) ≡ true = ap (λ (x : List ℕ). is_utf8 (percent_decode x)) (sym v) ∙ r.0 in
       let cut : trim metadata ≡ metadata_in piece = ap trim d ∙ trim_twice (after_first is_semicolon piece) (utf8_after is_semicolon semicolon_small piece u) in
-      ap (insert ms) (λ i. member_of (k i) (decodes i) (cut i))
-      ∙ sym (cond-true (is_member piece) (insert ms (member_in piece)) ms (and_from (list_any is_equals (key_and_value piece)) (is_utf8 (value_in piece)) some utf8))
+      let is = sym (cond-true (is_member piece) (insert ms (member_in piece)) ms (and_from (list_any is_equals (key_and_value piece)) (is_utf8 (value_in piece)) some utf8)) in
+      (ap (insert ms) (λ i. member_of (k i) (decodes i) (d i)) ∙ is, ap (insert ms) (λ i. member_of (k i) (decodes i) (cut i)) ∙ is)
 
 -- ---- the loop
 

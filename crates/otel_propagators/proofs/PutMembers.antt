@@ -9,7 +9,7 @@ use Rattle.std.proofs.lemmas.Bool.Decides.{nat_tests}
 use Rattle.std.proofs.lemmas.Bool.{cases_Bool, lt-ltb, cond-true, cond-false, cond_both, or_left, false_from_ne_true, both_ways}
 use Rattle.std.proofs.lemmas.Map.Keys.{IsDistinct-head, IsDistinct-tail}
 use Rattle.std.proofs.lemmas.Slice.Eq.{bytes_eq-Decides}
-use Rattle.std.proofs.lemmas.List.Sums.{sum_by-cons}
+use Rattle.std.proofs.lemmas.List.Sums.{sum_by-append, sum_by-cons}
 use Rattle.otel_context.specs.BaggageText.{is_key, IsTrimmed}
 use Rattle.otel_context.specs.BaggageMember.{Member, has_key, weight_of}
 use Rattle.otel_context.specs.Baggage.{max_key_value_pairs, max_len_of_all_pairs, weight, member_at, get, put, accepts, insert, remove, IsBaggage}
@@ -132,6 +132,34 @@ pub insert_baggage : (ms : List Member) (m : Member) → IsBaggage ms → is_utf
 insert_baggage ms m held text cut =
     cond_both (accepts ms m) (put ms m) ms IsBaggage (λ t. put_baggage ms m held text cut (distinct_put ms m held.distinct) t) (λ f. held)
 
+-- ---- a member that is too long isn't accepted
+
+not_le : (n : ℕ) → max_len_of_all_pairs < n → nat_le n max_len_of_all_pairs ≡ false
+not_le n h = grind (arith, nat_tests)
+
+module _ (m : Member) where
+  weight_in : (ms : List Member) → list_any (has_key m.key) ms ≡ true → weight_of m ≤ weight (map (λ other. if has_key m.key other then m else other) ms)
+  weight_in [] h = absurd (cc)
+  weight_in (o ∷ ms) h =
+      let cons = sum_by-cons weight_of (if has_key m.key o then m else o) (map (λ other. if has_key m.key other then m else other) ms) in
+      ⊎_elim
+      (λ t. omega (arith, cons, ap weight_of (cond-true (has_key m.key o) m o t)))
+      (λ f. let rest = weight_in ms (sym (ap (λ b. b || list_any (has_key m.key) ms) f) ∙ h) in omega (arith, cons, rest))
+      (cases_Bool (has_key m.key o))
+
+  weight_last : (ms : List Member) → weight_of m ≤ weight (ms ++ m ∷ [])
+  weight_last ms = omega (arith, sum_by-append weight_of ms (m ∷ []), sum_by-cons weight_of m [])
+
+  weight_of_put : (ms : List Member) → weight_of m ≤ weight (put ms m)
+  weight_of_put ms =
+      cond_both (list_any (has_key m.key) ms) (map (λ other. if has_key m.key other then m else other) ms) (ms ++ m ∷ []) (λ l. weight_of m ≤ weight l) (weight_in ms) (λ f. weight_last ms)
+
+  pub too_long : (ms : List Member) → max_len_of_all_pairs < length m.value → accepts ms m ≡ false
+  too_long ms long =
+      let w = weight_of_put ms in
+      let e : nat_le (weight (put ms m)) max_len_of_all_pairs ≡ false = not_le (weight (put ms m)) (omega (arith, w, long)) in
+      ap (λ b. b && (list_any (has_key m.key) ms || (is_key m.key && nat_lt (length ms) max_key_value_pairs))) e
+
 -- ---- what the code finds
 
 -- whether a member has the key
@@ -160,7 +188,7 @@ and_true : (x : Bool) → (x && true) ≡ x
 and_true true = refl
 and_true false = refl
 
-and_false : (x : Bool) → (x && false) ≡ false
+pub and_false : (x : Bool) → (x && false) ≡ false
 and_false true = refl
 and_false false = refl
 

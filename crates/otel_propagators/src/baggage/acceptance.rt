@@ -1,14 +1,12 @@
 //! Whether a baggage accepts a member, found without memory for it.
 ghost use Rattle.std.specs.Prelude.{◌≡◌, ◌≤◌, ◌+◌, ◌&&◌, ◌||◌, nat_le, nat_lt, length};
 ghost use Rattle.std.specs.List.{list_all, list_any};
-ghost use Rattle.percent_encoding.specs.Percent.{percent_decode};
 ghost use Rattle.otel_context.specs.Baggage.{IsBaggage, accepts, remove, weight};
 ghost use Rattle.otel_context.specs.Baggage.{max_key_value_pairs, max_len_of_all_pairs};
 ghost use Rattle.otel_context.specs.BaggageMember.{has_key, member_of};
 ghost use Rattle.otel_context.specs.BaggageText.{is_delimiter, is_key_byte, is_key};
 
 use opentelemetry::baggage::Baggage;
-use percent_encoding::percent_decode;
 
 /// The most members of a baggage, as `otel_context` has it.
 const MAX_KEY_VALUE_PAIRS: usize = 64;
@@ -77,15 +75,13 @@ fn fits(others: usize, key: &str, value_len: usize, metadata: &str) -> bool
     others as u128 + texts <= MAX_LEN_OF_ALL_PAIRS as u128
 }
 
-/// Whether the baggage accepts the member of this key, the value that is written so, and this
-/// metadata.
+/// Whether the baggage accepts the member of this key, this value and this metadata.
 pub(super) fn accepts(baggage: &Baggage, key: &str, value: &str, metadata: &str) -> bool
-    ensures { let m = member_of key.now (percent_decode value.now) metadata.now in
+    ensures { let m = member_of key.now value.now metadata.now in
         result ≡ accepts baggage.now m }
 {
     if !takes_key(baggage, key) {
         return false;
     }
-    let value_len = percent_decode(value.as_bytes()).count();
-    fits(other_bytes(baggage, key), key, value_len, metadata)
+    fits(other_bytes(baggage, key), key, value.len(), metadata)
 }

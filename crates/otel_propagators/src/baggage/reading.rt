@@ -1,11 +1,12 @@
 //! Reading the value of a `baggage` header.
-ghost use Rattle.std.specs.Prelude.{◌≡◌, IfOk, OnOk, MatchOption, Some, None, true, false};
-ghost use Rattle.std.specs.Prelude.{if◌then◌else◌};
+ghost use Rattle.std.specs.Prelude.{◌≡◌, ◌<◌, ◌≤◌, ◌&&◌, nat_le, true, false, length, take};
+ghost use Rattle.std.specs.Prelude.{IfOk, OnOk, MatchOption, Some, None, if◌then◌else◌};
+ghost use Rattle.std.specs.Prelude.{option_copied};
 ghost use Rattle.std.specs.List.{list_any, before_first, after_first};
 ghost use Rattle.std.specs.Str.{is_utf8, trim};
 ghost use Rattle.percent_encoding.specs.Percent.{percent_decode};
 ghost use Rattle.otel_ids.specs.Text.{is_equals};
-ghost use Rattle.otel_context.specs.Baggage.{insert};
+ghost use Rattle.otel_context.specs.Baggage.{insert, max_len_of_all_pairs};
 ghost use Rattle.otel_context.specs.BaggageMember.{member_of};
 ghost use Rattle.otel_propagators.specs.BaggageReading.{is_semicolon, key_and_value, key_in};
 ghost use Rattle.otel_propagators.specs.BaggageReading.{written_value, metadata_in};
@@ -15,8 +16,12 @@ use super::acceptance::accepts;
 use crate::blanks::cut_blanks;
 use opentelemetry::baggage::{Baggage, BaggageMetadata};
 use opentelemetry::{Key, StringValue};
-use percent_encoding::{DecodeError, percent_decode};
+use percent_encoding::percent_decode;
 use std::alloc::{AllocError, Global};
+use std::str;
+
+/// Room for the longest value that a baggage accepts.
+type Room = [u8; 8192];
 
 /// What stands before the first `;` of a piece, and after it. Without one all stands before it.
 fn split_metadata(piece: &str) -> (&str, &str)
@@ -53,15 +58,34 @@ fn split_piece(piece: &str) -> Option<(&str, &str, &str)>
     Some((cut_blanks(key), cut_blanks(value), metadata.trim()))
 }
 
-/// The value that is written so, if it is UTF-8.
-fn decode(alloc: Global, value: &str) -> Result<Option<StringValue>, AllocError>
+/// Writes what the value decodes to into the front of the room, and says how many bytes that are;
+/// `None`, where the room has too few.
+fn fill(value: &str, room: &mut Room) -> Option<usize>
     ensures { let decoded = percent_decode value.now in
-        IfOk result (λ text. text ≡ (if is_utf8 decoded then Some decoded else None)) }
+        MatchOption result (max_len_of_all_pairs < length decoded)
+        (λ len. (len ≤ length room.new) × (take len room.new ≡ decoded)) }
 {
-    match percent_decode(value.as_bytes()).decode_utf8(alloc) {
-        Ok(text) => Ok(Some(StringValue::from(text.into_owned(alloc)?))),
-        Err(DecodeError::OutOfMemory) => Err(AllocError),
-        Err(DecodeError::Utf8(_)) => Ok(None),
+    let mut len = 0;
+    for byte in percent_decode(value.as_bytes()) {
+        if len == room.len() {
+            return None;
+        }
+        room[len] = byte;
+        len += 1;
+    }
+    Some(len)
+}
+
+/// The value that is written so, if it is UTF-8 and a baggage has room for it.
+fn decode<'a>(value: &str, room: &'a mut Room) -> Option<&'a str>
+    ensures { let decoded = percent_decode value.now in
+        let fits = nat_le (length decoded) max_len_of_all_pairs in
+        option_copied result ≡ (if is_utf8 decoded && fits then Some decoded else None) }
+{
+    let len = fill(value, room)?;
+    match str::from_utf8(&room[..len]) {
+        Ok(text) => Some(text),
+        Err(_) => None,
     }
 }
 
@@ -70,33 +94,39 @@ fn insert_member(
     alloc: Global,
     baggage: &mut Baggage,
     key: &str,
-    value: StringValue,
+    value: &str,
     metadata: &str,
 ) -> Result<(), AllocError>
-    ensures { let m = member_of key.now value (trim metadata.now) in
+    ensures { let m = member_of key.now value.now (trim metadata.now) in
         OnOk result (baggage.new ≡ insert baggage.old m) }
 {
     let key = Key::from(String::from_str(alloc, key)?);
+    let value = StringValue::from(String::from_str(alloc, value)?);
     let metadata = BaggageMetadata::new(alloc, metadata)?;
     drop(baggage.insert_with_metadata(key, value, metadata)?);
     Ok(())
 }
 
-/// Inserts the member that the piece is, if it is one and is accepted. A piece that isn't accepted
-/// takes no memory.
-fn insert_piece(alloc: Global, baggage: &mut Baggage, piece: &str) -> Result<(), AllocError>
+/// Inserts the member that the piece is, if it is one and is accepted. Only then is memory asked
+/// for: whatever decides it has no allocator.
+fn insert_piece(
+    alloc: Global,
+    baggage: &mut Baggage,
+    piece: &str,
+    room: &mut Room,
+) -> Result<(), AllocError>
     ensures { OnOk result (baggage.new ≡ with_piece baggage.old piece.now) }
 {
     let Some((key, value, metadata)) = split_piece(piece) else {
         return Ok(());
     };
+    let Some(value) = decode(value, room) else {
+        return Ok(());
+    };
     if !accepts(baggage, key, value, metadata) {
         return Ok(());
     }
-    match decode(alloc, value)? {
-        Some(value) => insert_member(alloc, baggage, key, value, metadata),
-        None => Ok(()),
-    }
+    insert_member(alloc, baggage, key, value, metadata)
 }
 
 /// The baggage that the text is read as: the members of its pieces, in order, from the empty
@@ -105,8 +135,9 @@ pub(super) fn read_baggage(alloc: Global, text: &str) -> Result<Baggage, AllocEr
     ensures { IfOk result (λ baggage. baggage ≡ read_baggage text.now) }
 {
     let mut baggage = Baggage::new(alloc);
+    let mut room = [0; 8192];
     for piece in text.split(',') {
-        insert_piece(alloc, &mut baggage, piece)?;
+        insert_piece(alloc, &mut baggage, piece, &mut room)?;
     }
     Ok(baggage)
 }

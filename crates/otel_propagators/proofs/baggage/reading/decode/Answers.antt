@@ -1,20 +1,16 @@
-use Rattle.std.proofs.Common.{◌≡◌, true, Some, None, sym, ap, ◌∙◌}
-use Rattle.std.specs.Str.{is_utf8}
-use Rattle.std.proofs.lemmas.Bool.{cond-true, cond-false, false_from_ne_true}
-use Rattle.std.proofs.lemmas.Str.{is_utf8-from_IsUtf8, IsUtf8-from_is_utf8}
+use Rattle.std.proofs.Common.{◌≤◌, length, sym, ap, subst, ◌∙◌, arith}
+use Rattle.std.specs.Prelude.{IsUtf8}
+use Rattle.std.proofs.lemmas.List.{length-take-le}
 use Rattle.percent_encoding.specs.Percent.{percent_decode}
-use Rattle.percent_encoding.specs.Iter.{decoded_bytes}
+use Rattle.otel_context.specs.Baggage.{max_len_of_all_pairs}
+use Rattle.otel_propagators.proofs.PieceReads.{decoded_some, decoded_none}
 use Rattle.otel_propagators.proofs.baggage.reading.decode.Goals as goal
 
-pub returns-in_ok-into_owned-in-Ok : goal.returns-in_ok-into_owned-in-Ok
-returns-in_ok-into_owned-in-Ok c =
-    let decoded = percent_decode c.args.value.now in
-    let b : decoded_bytes c.percent_decode.result ≡ decoded = c.percent_decode.ensures.bytes ∙ ap percent_decode c.as_bytes.ensures.value in
-    let text : is_utf8 decoded ≡ true = ap is_utf8 (sym b) ∙ is_utf8-from_IsUtf8 _ c.in-Ok.ensures.ok_only_if_utf8 in
-    ap Some (c.from.ensures ∙ c.in_ok-into_owned-in-Ok.ensures.ok ∙ c.in-Ok.ensures.value ∙ b) ∙ sym (cond-true (is_utf8 decoded) (Some decoded) None text)
+pub returns-in-Ok : goal.returns-in-Ok
+returns-in-Ok c =
+    let front = c.in_ok-len.ensures in
+    let few : length (percent_decode c.args.value.now) ≤ max_len_of_all_pairs = omega (arith, ap length front.1, length-take-le c.in_ok-len.len c.fill.new.room front.0, front.0, c.fill.array_long) in
+    decoded_some _ (percent_decode c.args.value.now) (c.in-Ok.ensures.cases.0 ∙ front.1) (subst IsUtf8 front.1 c.in-Ok.ensures.cases.1) few
 
-pub returns-in-Err-Utf8 : goal.returns-in-Err-Utf8
-returns-in-Err-Utf8 c =
-    let decoded = percent_decode c.args.value.now in
-    let b : decoded_bytes c.percent_decode.result ≡ decoded = c.percent_decode.ensures.bytes ∙ ap percent_decode c.as_bytes.ensures.value in
-    sym (cond-false (is_utf8 decoded) (Some decoded) None (false_from_ne_true _ (λ t. let e = c.in-Err-Utf8.ensures.utf8 (IsUtf8-from_is_utf8 _ (ap is_utf8 b ∙ t)) in cc e)))
+pub returns-in-Err : goal.returns-in-Err
+returns-in-Err c = decoded_none (percent_decode c.args.value.now) (λ u. c.in-Err.ensures.cases.0 (subst IsUtf8 (sym c.in_ok-len.ensures.1) u))
