@@ -3,12 +3,14 @@ use crate::injections::{composite, let_go};
 use crate::operation::{Operation, Task, add, repeat};
 use opentelemetry::Context;
 use opentelemetry::carry::{self, StackEvent};
-use opentelemetry::propagation::TextMapCompositePropagator;
+use opentelemetry::propagation::{TextMapCompositePropagator, TextMapPropagator};
 use opentelemetry::trace::TraceState;
+use otel_propagators::BaggagePropagator;
 use std::alloc::{AllocError, Global};
 use std::collections::HashMap;
 
 pub fn play(task: &Task<'_>, alloc: Global) -> Result<Option<u64>, AllocError> {
+    let size = task.size;
     match task.name {
         "attack_state_blanks" => read(alloc, "a=1", " ", task),
         "attack_state_equals" => read(alloc, "a", "=", task),
@@ -17,12 +19,29 @@ pub fn play(task: &Task<'_>, alloc: Global) -> Result<Option<u64>, AllocError> {
             let detaching = Detaching {
                 alloc,
                 composite: composite(alloc)?,
-                size: task.size,
+                size,
             };
             repeat(detaching, task.times)
         }
+        "attack_baggage_commas" => extract(alloc, long(alloc, "a=1", ",", size)?, task.times),
+        "attack_baggage_key" => extract(alloc, long(alloc, "a=1,", "k", size)?, task.times),
+        "attack_baggage_long_key" => {
+            let mut text = long(alloc, "a=1,", "k", size)?;
+            text.push_str("=1")?;
+            extract(alloc, text, task.times)
+        }
+        "attack_baggage_percents" => extract(alloc, long(alloc, "a=1,b=", "%", size)?, task.times),
+        "attack_baggage_pairs" => extract(alloc, pairs(alloc, size)?, task.times),
         _ => Ok(None),
     }
+}
+
+/// A text that begins so and goes on with one sign, many times over.
+fn long(alloc: Global, begin: &str, sign: &str, size: usize) -> Result<String, AllocError> {
+    let mut text = String::from_str(alloc, begin)?;
+    let more = sign.repeat(alloc, size)?;
+    text.push_str(more.as_str())?;
+    Ok(text)
 }
 
 /// Reads a text that begins so and goes on with one sign, many times over, as a trace state.
@@ -32,9 +51,7 @@ fn read(
     sign: &str,
     task: &Task<'_>,
 ) -> Result<Option<u64>, AllocError> {
-    let mut text = String::from_str(alloc, begin)?;
-    let more = sign.repeat(alloc, task.size)?;
-    text.push_str(more.as_str())?;
+    let text = long(alloc, begin, sign, task.size)?;
     repeat(Reading { alloc, text }, task.times)
 }
 
@@ -56,6 +73,61 @@ struct Reading {
 impl Operation for Reading {
     fn once(&mut self, sum: &mut u64) -> Result<(), AllocError> {
         read_state(self.alloc, self.text.as_str(), sum);
+        Ok(())
+    }
+}
+
+/// A header of so many pairs, each of a key of its own.
+#[inline(never)]
+fn pairs(alloc: Global, size: usize) -> Result<String, AllocError> {
+    let mut text = String::new(alloc);
+    for number in 0..size {
+        let pair = format!(in alloc; "key{number}=v,")?;
+        text.push_str(pair.as_str())?;
+    }
+    Ok(text)
+}
+
+/// Extracts the baggage of the header.
+fn extract(alloc: Global, text: String, times: u64) -> Result<Option<u64>, AllocError> {
+    let mut carrier = HashMap::new(alloc);
+    carrier.insert(String::from_str(alloc, "baggage")?, text)?;
+    let propagator = BaggagePropagator::new(alloc)?;
+    let extracting = Extracting {
+        alloc,
+        propagator,
+        carrier,
+    };
+    repeat(extracting, times)
+}
+
+/// Adds how many members the extracted baggage has, or 7 where there is none.
+#[inline(never)]
+fn extract_baggage(
+    alloc: Global,
+    propagator: &BaggagePropagator,
+    carrier: &HashMap<String, String>,
+    sum: &mut u64,
+) {
+    match propagator.extract_with_context(alloc, &Context::new(), carrier) {
+        Ok(context) => match context.baggage() {
+            Some(baggage) => add(sum, baggage.len()),
+            None => add(sum, 7),
+        },
+        Err(_) => add(sum, 7),
+    }
+}
+
+#[derive(Drop)]
+struct Extracting {
+    alloc: Global,
+    propagator: BaggagePropagator,
+    carrier: HashMap<String, String>,
+}
+
+impl Operation for Extracting {
+    fn once(&mut self, sum: &mut u64) -> Result<(), AllocError> {
+        extract_baggage(self.alloc, &self.propagator, &self.carrier, sum);
         Ok(())
     }
 }
