@@ -21,6 +21,30 @@ pub enum ForwardError<S> {
     Refused(SpanRefused<S>),
 }
 
+impl<S> From<PropagationError> for ForwardError<S> {
+    fn from(error: PropagationError) -> ForwardError<S>
+        ensures { result ≡ ForwardError.Headers error }
+    {
+        ForwardError::Headers(error)
+    }
+}
+
+impl<S> From<AllocError> for ForwardError<S> {
+    fn from(error: AllocError) -> ForwardError<S>
+        ensures { result ≡ ForwardError.Start error }
+    {
+        ForwardError::Start(error)
+    }
+}
+
+impl<S> From<SpanRefused<S>> for ForwardError<S> {
+    fn from(refused: SpanRefused<S>) -> ForwardError<S>
+        ensures { result ≡ ForwardError.Refused refused }
+    {
+        ForwardError::Refused(refused)
+    }
+}
+
 /// Forwards a request: starts a span under the one that the received headers name, and sets the
 /// headers to be sent for it. Returns the number of the span in the table.
 ///
@@ -43,22 +67,10 @@ pub fn forward<T: Tracer, P: TextMapPropagator>(
         (P.pairs propagator.now) spans.old (state sent.old).texts number spans.new
         (state sent.new).texts) }
 {
-    let parent = match propagator.extract(alloc, stack, received) {
-        Ok(parent) => parent,
-        Err(error) => return Err(ForwardError::Headers(error)),
-    };
-    let name = StringValue::from("forward");
-    let span = match tracer.start_with_context(alloc, name, &parent) {
-        Ok(span) => span,
-        Err(error) => return Err(ForwardError::Start(error)),
-    };
+    let parent = propagator.extract(alloc, stack, received)?;
+    let span = tracer.start_with_context(alloc, StringValue::from("forward"), &parent)?;
     let number = spans.next_number();
-    let context = match parent.with_span(alloc, spans, span) {
-        Ok(context) => context,
-        Err(refused) => return Err(ForwardError::Refused(refused)),
-    };
-    match propagator.inject_context(&context, sent) {
-        Ok(()) => Ok(number),
-        Err(error) => Err(ForwardError::Headers(error)),
-    }
+    let context = parent.with_span(alloc, spans, span)?;
+    propagator.inject_context(&context, sent)?;
+    Ok(number)
 }
