@@ -44,7 +44,7 @@ unfolding IsDistinct
 distinct_unmap f e [] h = h
 distinct_unmap f e (x ∷ xs) h = (all_unmap f (λ y. e (f x) y ≡ false) xs h.0, distinct_unmap f e xs h.1)
 
-rising_map : {X Y : Type 0} (f : X → Y) (R : Y → Y → Ordering) (xs : List X) → IsStrictlySortedBy (λ x y. R (f x) (f y)) xs → IsStrictlySortedBy R (map f xs)
+pub rising_map : {X Y : Type 0} (f : X → Y) (R : Y → Y → Ordering) (xs : List X) → IsStrictlySortedBy (λ x y. R (f x) (f y)) xs → IsStrictlySortedBy R (map f xs)
 unfolding IsStrictlySortedBy
 rising_map f R [] h = h
 rising_map f R (x ∷ xs) h = (all_map f (λ y. R (f x) y ≡ Less) xs h.0, rising_map f R xs h.1)

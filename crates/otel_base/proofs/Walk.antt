@@ -6,6 +6,7 @@ use Rattle.std.proofs.Common.{add-one}
 use Rattle.std.specs.List.{slice_get, flat_map, AllZip}
 use Rattle.std.specs.Option.{option_eq}
 use Rattle.std.specs.Cmp.Lexicographic.{pointwise}
+use Rattle.std.proofs.Math.Bool.{and-false}
 use Rattle.std.proofs.Math.Seq.{drop-cons}
 use Rattle.std.proofs.lemmas.List.{take_more, length-map, drop_all}
 use Rattle.std.proofs.lemmas.List.Sums.{fold-append}
@@ -99,17 +100,13 @@ pub pointwise_step : {A : Type 0} (E : A → A → Bool) (f g : ℕ → A) (is j
     && pointwise E (map f (drop (i + 1) is)) (map g (drop (i + 1) js)))
 pointwise_step E f g is js i h k = rw (add-one, drop-cons is i 0 h, drop-cons js i 0 k) refl
 
-and_false : (b : Bool) → (b && false) ≡ false
-and_false true = refl
-and_false false = refl
-
 pub pointwise_length : {A : Type 0} (E : A → A → Bool) (f g : ℕ → A) (is js : List ℕ)
     → (length is ≡ length js → ⊥) → pointwise E (map f is) (map g js) ≡ false
 pointwise_length E f g [] [] h = absurd (h refl)
 pointwise_length E f g [] (j ∷ js) h = refl
 pointwise_length E f g (i ∷ is) [] h = refl
 pointwise_length E f g (i ∷ is) (j ∷ js) h =
-    rw (pointwise_length E f g is js (λ e. h (omega arith))) (and_false (E (f i) (g j)))
+    rw (pointwise_length E f g is js (λ e. h (omega arith))) (and-false (E (f i) (g j)))
 
 pub option_eq-seen : (r s : Option (Bor KeyValue))
     → option_eq (λ (x : Bor KeyValue) (y : Bor KeyValue). attribute.eq (attribute_of x.now)

@@ -20,7 +20,7 @@ escaped_other b bs e = ap (λ (x : List ℕ). x ++ escaped bs) (cond-false (is_u
 digit_apart : (d e : ℕ) → digit_glyph true d ≡ digit_glyph true e → d ≡ e
 digit_apart d e h = grind (arith, nat_tests)
 
-no_percent : (b : ℕ) → is_unreserved b ≡ true → b ≢ 37
+pub no_percent : (b : ℕ) → is_unreserved b ≡ true → b ≢ 37
 no_percent b h = grind (arith, nat_tests)
 
 same_byte : (b c : ℕ) → b / 16 ≡ c / 16 → b % 16 ≡ c % 16 → b ≡ c

@@ -9,6 +9,7 @@ use Rattle.std.specs.List.{IsDistinct, AllByRecursion, list_any}
 use Rattle.std.specs.Map.{keys_of, lookup, remove_entry}
 use Rattle.std.specs.Option.{option_map_or}
 use Rattle.std.specs.Str.{bytes_eq, is_utf8}
+use Rattle.std.proofs.Math.Bool.{and-true, and-false}
 use Rattle.std.proofs.lemmas.Option.{slice_get-map, get_or_from_slice_get}
 use Rattle.std.proofs.lemmas.Bool.{cases_Bool, and_parts, cond-true, cond-false, or_left, leb-true}
 use Rattle.std.proofs.lemmas.Bool.{ltb-true}
@@ -27,58 +28,14 @@ use Rattle.otel_context.specs.Baggage.{max_key_value_pairs, max_len_of_all_pairs
 use Rattle.otel_context.specs.Baggage.{get_with_metadata, put, accepts, insert, remove, IsBaggage}
 use Rattle.otel_context.specs.BaggageWeight.{weight_of_others, weight_after}
 use Rattle.otel_context.specs.BaggageView.{Entry, entry_member, entry_members}
-
-same_text : (xs ys : List ℕ) → bytes_eq xs ys ≡ true → xs ≡ ys
-same_text xs ys = (bytes_eq-Decides xs ys).0
-
-abbrev keys : List Member → List (List ℕ)
-keys ms = map (λ m. m.key) ms
-
-abbrev AreDistinct : List Member → Type 0
-AreDistinct ms = IsDistinct bytes_eq (keys ms)
-
--- no member has the key
-abbrev HasNone : List ℕ → List Member → Type 0
-HasNone key ms = AllByRecursion (λ other. bytes_eq key other ≡ false) (keys ms)
-
--- ---- where no member has the key
-
-map_others : (m : Member) (ms : List Member) → HasNone m.key ms → map (λ other. if has_key m.key other then m else other) ms ≡ ms
-map_others m [] h = refl
-map_others m (o ∷ ms) h = λ i. cond-false (has_key m.key o) m o h.0 i ∷ map_others m ms h.1 i
-
-filter_others : (key : List ℕ) (ms : List Member) → HasNone key ms → remove ms key ≡ ms
-filter_others key [] h = refl
-filter_others key (o ∷ ms) h =
-    cond-true (not (has_key key o)) (o ∷ remove ms key) (remove ms key) (ap not h.0) ∙ ap (λ (x : List Member). o ∷ x) (filter_others key ms h.1)
-
-none_after : (key : List ℕ) (o : Member) (ms : List Member) → bytes_eq key o.key ≡ true → AreDistinct (o ∷ ms) → HasNone key ms
-none_after key o ms e d = subst (λ k. HasNone k ms) (sym (same_text key o.key e)) (IsDistinct-head bytes_eq o.key (keys ms) d)
-
--- ---- put, member by member
-
-put_here : (m o : Member) (ms : List Member) → AreDistinct (o ∷ ms) → has_key m.key o ≡ true → put (o ∷ ms) m ≡ m ∷ ms
-put_here m o ms d e =
-    cond-true (list_any (has_key m.key) (o ∷ ms)) (map (λ other. if has_key m.key other then m else other) (o ∷ ms)) ((o ∷ ms) ++ m ∷ []) (or_left (has_key m.key o) (list_any (has_key m.key) ms) e)
-    ∙ (λ i. cond-true (has_key m.key o) m o e i ∷ map_others m ms (none_after m.key o ms e d) i)
-
-put_later : (m o : Member) (ms : List Member) → has_key m.key o ≡ false → put (o ∷ ms) m ≡ o ∷ put ms m
-put_later m o ms e =
-    ap (λ b. if b || list_any (has_key m.key) ms then map (λ other. if has_key m.key other then m else other) (o ∷ ms) else ((o ∷ ms) ++ m ∷ [])) e
-    ∙ by (list_any (has_key m.key) ms)
-  where
-    by : (b : Bool) → (if b then map (λ other. if has_key m.key other then m else other) (o ∷ ms) else ((o ∷ ms) ++ m ∷ [])) ≡ o ∷ (if b then map (λ other. if has_key m.key other then m else other) ms else (ms ++ m ∷ []))
-    by true = ap (λ x. x ∷ map (λ other. if has_key m.key other then m else other) ms) (cond-false (has_key m.key o) m o e)
-    by false = refl
+use Rattle.otel_context.proofs.BaggageLists.{same_text, keys, AreDistinct, filter_others, none_after}
+use Rattle.otel_context.proofs.BaggageLists.{put_here, put_later, remove_here, remove_later, tail}
 
 at_here : (key : List ℕ) (o : Member) (ms : List Member) → has_key key o ≡ true → member_at (o ∷ ms) key ≡ Some o
 at_here key o ms e = cond-true (has_key key o) (Some o) (member_at ms key) e
 
 at_later : (key : List ℕ) (o : Member) (ms : List Member) → has_key key o ≡ false → member_at (o ∷ ms) key ≡ member_at ms key
 at_later key o ms e = cond-false (has_key key o) (Some o) (member_at ms key) e
-
-tail : (o : Member) (ms : List Member) → AreDistinct (o ∷ ms) → AreDistinct ms
-tail o ms = IsDistinct-tail bytes_eq o.key (keys ms)
 
 has_key_is : (ms : List Member) (key : List ℕ) → list_any (has_key key) ms ≡ is_some (member_at ms key)
 has_key_is [] key = refl
@@ -117,11 +74,11 @@ remove_is (o ∷ es) key d =
     (λ t.
     ap entry_members (cond-true (bytes_eq key o.0) es (o ∷ remove_entry (bytes_eq key) es) t)
     ∙ sym (filter_others key ms (none_after key m ms t d))
-    ∙ sym (cond-false (not (has_key key m)) (m ∷ remove ms key) (remove ms key) (ap not t)))
+    ∙ sym (remove_here key m ms t))
     (λ t.
     ap entry_members (cond-false (bytes_eq key o.0) es (o ∷ remove_entry (bytes_eq key) es) t)
     ∙ ap (λ (x : List Member). m ∷ x) (remove_is es key (tail m ms d))
-    ∙ sym (cond-true (not (has_key key m)) (m ∷ remove ms key) (remove ms key) (ap not t)))
+    ∙ sym (remove_later key m ms t))
     (cases_Bool (bytes_eq key o.0))
 
 pub get_is : (es : List Entry) (key : List ℕ) → lookup (bytes_eq key) es ≡ get_with_metadata (entry_members es) key
@@ -262,14 +219,6 @@ module _ (ms : List Member) (m : Member) (held : IsBaggage ms) (text : is_utf8 m
 
 -- ---- the bytes that the code finds
 
-and_true : (x : Bool) → (x && true) ≡ x
-and_true true = refl
-and_true false = refl
-
-and_false : (x : Bool) → (x && false) ≡ false
-and_false true = refl
-and_false false = refl
-
 module _ (ms : List Member) (m : Member) where
   abbrev may_be_new : Bool
   may_be_new = is_key m.key && nat_lt (length ms) max_key_value_pairs
@@ -298,7 +247,7 @@ module _ (ms : List Member) (m : Member) where
 
   after_by : (n : ℕ) → weight (put ms m) ≡ n → accepts ms m ≡ (fits n && true) → (if fits n then Some n else None) ≡ weight_after ms m
   after_by n w a =
-      ap (λ x. if x then Some n else None) (sym (a ∙ and_true (fits n)))
+      ap (λ x. if x then Some n else None) (sym (a ∙ and-true (fits n)))
       ∙ ap (λ n. if accepts ms m then Some n else None) (sym w)
 
   -- from what the others weigh
@@ -331,7 +280,7 @@ module _ (ms : List Member) (m : Member) where
           (λ f. let k : None ≡ Some (weight ms) = i ∙ cond-true may_be_new (Some (weight ms)) None f in absurd (cc))
           (λ f.
           ap (λ x. if x then Some (weight (put ms m)) else None)
-          (accepts_new e ∙ ap (λ b. fits (weight ms + weight_of m) && b) f ∙ and_false (fits (weight ms + weight_of m))))
+          (accepts_new e ∙ ap (λ b. fits (weight ms + weight_of m) && b) f ∙ and-false (fits (weight ms + weight_of m))))
           (cases_Bool may_be_new)
 
   after_some : (n : ℕ) → weight_after ms m ≡ Some n → (accepts ms m ≡ true) × (n ≡ weight (put ms m))
@@ -413,7 +362,7 @@ without_none (o ∷ es) key h =
     ⊎_elim
     (λ t. let i : Some o.1 ≡ None = sym (cond-true (bytes_eq key o.0) (Some o.1) (lookup (bytes_eq key) es) t) ∙ h in absurd (cc))
     (λ t.
-    cond-true (not (has_key key m)) (m ∷ remove ms key) (remove ms key) (ap not t)
+    remove_later key m ms t
     ∙ ap (λ (x : List Member). m ∷ x) (without_none es key (sym (cond-false (bytes_eq key o.0) (Some o.1) (lookup (bytes_eq key) es) t) ∙ h)))
     (cases_Bool (bytes_eq key o.0))
 

@@ -17,6 +17,8 @@ use Rattle.std.proofs.lemmas.List.Sorted.{list_any-IsPermutation}
 use Rattle.std.proofs.lemmas.Slice.Eq.{bytes_eq-Decides}
 use Rattle.opentelemetry.specs.Carrier.{text_map, AreKeys, Sets}
 use Rattle.opentelemetry.proofs.Maps.{at-text_map}
+use Rattle.opentelemetry.proofs.Rising.{rising_map}
+use Rattle.opentelemetry.proofs.Union.{list_any-map}
 
 -- names with their values
 abbrev PairsOf : Type 0 → Type 0
@@ -137,19 +139,6 @@ module _ {A : Type 0} where
     | inr off_q ↦ rw off_q (some_value q es)
   ]
 
-all_map : {X Y : Type 0} (f : X → Y) (P : Y → Type 0) (xs : List X) → AllByRecursion (λ x. P (f x)) xs → AllByRecursion P (map f xs)
-all_map f P [] h = h
-all_map f P (x ∷ xs) h = (h.0, all_map f P xs h.1)
-
-rising_map : {X Y : Type 0} (f : X → Y) (R : Y → Y → Ordering) (xs : List X) → IsStrictlySortedBy (λ x y. R (f x) (f y)) xs → IsStrictlySortedBy R (map f xs)
-unfolding IsStrictlySortedBy
-rising_map f R [] h = h
-rising_map f R (x ∷ xs) h = (all_map f (λ y. R (f x) y ≡ Less) xs h.0, rising_map f R xs h.1)
-
-any-map : {X Y : Type 0} (p : Y → Bool) (f : X → Y) (xs : List X) → list_any p (map f xs) ≡ list_any (λ x. p (f x)) xs
-any-map p f [] = refl
-any-map p f (x ∷ xs) = ap (λ b. p (f x) || b) (any-map p f xs)
-
 or_twice : (a b : Bool) → a || b ≡ a || (a || b)
 or_twice true b = refl
 or_twice false b = refl
@@ -178,8 +167,8 @@ keys_once es xs ys zs names moved sorted once = record {
       (IsStrictlySortedBy-dedup (on_texts (λ x. x.now)) (λ x y. texts_ties x.now y.now) ys sorted));
   each = λ q.
       ap is_some (at-text_map es q) ∙ some_value q es ∙ ap (list_any (bytes_eq q)) (sym names)
-      ∙ any-map (bytes_eq q) (λ x. x.now) xs ∙ list_any-IsPermutation (λ x. bytes_eq q x.now) xs ys moved
+      ∙ list_any-map (bytes_eq q) (λ x. x.now) xs ∙ list_any-IsPermutation (λ x. bytes_eq q x.now) xs ys moved
       ∙ sym (any-dedup (λ x. bytes_eq q x.now) (λ x y. bytes_eq x.now y.now) (λ x y h. ap (bytes_eq q) ((bytes_eq-Decides x.now y.now).0 h)) ys)
-      ∙ sym (any-map (bytes_eq q) (λ x. x.now) (dedup (λ x y. bytes_eq x.now y.now) ys))
+      ∙ sym (list_any-map (bytes_eq q) (λ x. x.now) (dedup (λ x y. bytes_eq x.now y.now) ys))
       ∙ ap (λ l. list_any (bytes_eq q) (map (λ x. x.now) l)) (sym once);
 }

@@ -17,7 +17,7 @@ use Rattle.otel_propagators.specs.TraceParent.{Parent, IsParent, parent_text, pa
 use Rattle.otel_propagators.specs.TraceContext.{traceparent_key, tracestate_key, parent, is_valid, span_context_pairs, trace_pairs, state_of, remote, extracted_by, trace_extracted}
 use Rattle.otel_propagators.specs.BaggageReading.{read_baggage}
 use Rattle.otel_propagators.specs.BaggagePropagator.{baggage_key, members, baggage_pairs, baggage_extracted}
-use Rattle.otel_propagators.proofs.Injecting.{state_read}
+use Rattle.otel_propagators.proofs.Injecting.{state_read, valid_passes}
 use Rattle.otel_propagators.proofs.Parents.{parent_reads, parent_of_reads}
 use Rattle.otel_propagators.proofs.PieceReads.{baggage_reads}
 use Rattle.otel_propagators.specs.Laws.{IsSpanContext, IsContext, ArePairsOfBoth, BothExtract, arrived, ComesBack, ComesBackInTurn, ComesBackTogether}
@@ -73,14 +73,8 @@ module _ (context : ContextRecord) (old m : TextMap) where
 
 -- ---- validity, as a test and as a fact
 
-not_zero : (n : ℕ) → n ≢ 0 → not (n == 0) ≡ true
-not_zero n h = grind (arith, nat_tests)
-
-tested : (s : SpanContextRecord) → IsValidSpanContext s → is_valid s ≡ true
-tested s v = and_from (not (s.trace_id == 0)) (not (s.span_id == 0)) (not_zero s.trace_id v.0) (not_zero s.span_id v.1)
-
-not_tested : (s : SpanContextRecord) → (IsValidSpanContext s → ⊥) → is_valid s ≡ false
-not_tested s v = by (cases_Bool (is_valid s))
+invalid_fails : (s : SpanContextRecord) → (IsValidSpanContext s → ⊥) → is_valid s ≡ false
+invalid_fails s v = by (cases_Bool (is_valid s))
   where
     by : (is_valid s ≡ true) ⊎ (is_valid s ≡ false) → is_valid s ≡ false
     by (inl t) =
@@ -103,7 +97,7 @@ trace_back : (context : ContextRecord) (old m : TextMap) (a : ContextRecord) →
     → (trace_extracted a m).span ≡ Some (arrived (span_context context))
 trace_back context old m a i h v =
     let s = span_context context in
-    let t = tested s v in
+    let t = valid_passes s v in
     ap (λ (o : Option (List ℕ)). (extracted_by a o (at m tracestate_key)).span) (h.traceparent t)
     ∙ ap (λ (o : Option (List ℕ)). (extracted_by a (Some (parent_text (parent s))) o).span) (h.tracestate t)
     ∙ ap (λ (o : Option Parent). (option_map_or (λ (p : Parent). with_remote_span_context a (remote p (state_of (Some (header s.trace_state))))) o a).span) (parent_back s i.span_context v)
@@ -137,7 +131,7 @@ module _ (context : ContextRecord) (old m : TextMap) (i : IsContext context) (h 
   read = read_baggage (baggage_text (members context))
 
   no_traceparent : (IsValidSpanContext (span_context context) → ⊥) → at old traceparent_key ≡ None → at m traceparent_key ≡ None
-  no_traceparent n o = h.untouched (not_tested (span_context context) n) ∙ o
+  no_traceparent n o = h.untouched (invalid_fails (span_context context) n) ∙ o
 
   baggage_last : (back : ContextRecord) → back ≡ baggage_extracted (trace_extracted empty_context m) m → ComesBack context old back
   baggage_last back e =

@@ -8,6 +8,7 @@ use Rattle.std.proofs.lemmas.Bool.Decides.{nat_tests}
 use lib.Utf8.{scalar, scalars, encode, encodes, scalar_cases}
 use Rattle.percent_encoding.specs.Percent.{percent_encode_byte, percent_decode}
 use Rattle.percent_encoding.proofs.PercentLemmas.{percent_decode-nil, percent_decode-percent_encode_byte, percent_decode_not_percent}
+use Rattle.otel_context.proofs.BaggageEscapes.{no_percent}
 use Rattle.otel_context.specs.BaggageText.{is_unreserved, escape, escaped_byte, escaped}
 use Rattle.otel_context.proofs.BaggageCuts.{list_all-append}
 
@@ -69,9 +70,6 @@ escape_is b h =
     let e : b / 16 ≡ b / 16 % 16 = omega arith in
     ap (λ (d : ℕ). 37 ∷ digit_glyph true d ∷ digit_glyph true (b % 16) ∷ []) e
 
-plain_no_percent : (b : ℕ) → is_unreserved b ≡ true → b ≢ 37
-plain_no_percent b t e = grind (arith, nat_tests)
-
 bytes_decoded : (bs : List ℕ) → list_all is_byte bs ≡ true → percent_decode (escaped bs) ≡ bs
 bytes_decoded [] h = percent_decode-nil
 bytes_decoded (b ∷ bs) h =
@@ -80,7 +78,7 @@ bytes_decoded (b ∷ bs) h =
     let rest = ap (λ (x : List ℕ). b ∷ x) (bytes_decoded bs a.1) in
     elim (cases_Bool (is_unreserved b)) [
       | inl t ↦ ap (λ (x : List ℕ). percent_decode (x ++ escaped bs)) (cond-true (is_unreserved b) (b ∷ []) (escape b) t)
-          ∙ percent_decode_not_percent b (escaped bs) (plain_no_percent b t) ∙ rest
+          ∙ percent_decode_not_percent b (escaped bs) (no_percent b t) ∙ rest
       | inr f ↦ ap (λ (x : List ℕ). percent_decode (x ++ escaped bs)) (cond-false (is_unreserved b) (b ∷ []) (escape b) f ∙ escape_is b small)
           ∙ percent_decode-percent_encode_byte b (escaped bs) small ∙ rest
     ]

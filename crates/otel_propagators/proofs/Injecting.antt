@@ -39,7 +39,7 @@ two_sets (Err Refused) a b c p q s n t same m = record {
   count = omega arith;
 }
 
-valid_passes : (s : SpanContextRecord) → IsValidSpanContext s → is_valid s ≡ true
+pub valid_passes : (s : SpanContextRecord) → IsValidSpanContext s → is_valid s ≡ true
 valid_passes s v = let a = v.0 in let b = v.1 in grind (arith, nat_tests)
 
 pairs_are : (s : SpanContextRecord) (tp ts : List ℕ) → IsValidSpanContext s → tp ≡ parent_text (parent s) → ts ≡ header s.trace_state → (traceparent_key, tp) ∷ (tracestate_key, ts) ∷ [] ≡ span_context_pairs s

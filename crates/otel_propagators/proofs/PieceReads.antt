@@ -4,6 +4,7 @@ use Rattle.std.specs.Prelude.{◌&&◌, ◌||◌, nat_lt, nat_le, map, IsUtf8, i
 use Rattle.std.specs.List.{list_all, list_any, before_first, after_first, join_with_byte, AllByRecursion}
 use Rattle.std.specs.Str.{bytes_eq, trim, is_utf8}
 use Rattle.otel_ids.proofs.Turns.{next_piece}
+use Rattle.std.proofs.Math.Bool.{and-false}
 use Rattle.std.proofs.lemmas.Bool.{cases_Bool, and_parts, and_from, or_from, or_right, cond-true, cond-false, cond_both, le-leb, lt-ltb, eqb-true, false_from_ne_true}
 use Rattle.std.proofs.lemmas.Bool.Decides.{nat_tests}
 use Rattle.std.proofs.lemmas.List.{append-nil, length-append, drop_all}
@@ -23,7 +24,8 @@ use Rattle.otel_context.proofs.BaggageTrims.{trim_twice}
 use Rattle.otel_propagators.specs.BaggageReading.{is_semicolon, pieces, key_and_value, key_in, written_value, value_in, metadata_in, member_in, is_member, with_piece, with_pieces, BaggageReads, ReadsBaggage}
 use Rattle.otel_propagators.proofs.FirstCuts.{none_append, some_at, none_from_all, none_from_not, none_All, before_at, after_at, before_none, after_none, no_blanks, utf8_cut, utf8_after}
 use Rattle.otel_propagators.proofs.EscapedValues.{is_written, all_written, decoded}
-use Rattle.otel_propagators.proofs.PutMembers.{AreDistinct, HasNone, distinct_nil, turned, insert_baggage, and_false, too_long}
+use Rattle.otel_context.proofs.BaggageLists.{AreDistinct, HasNone}
+use Rattle.otel_propagators.proofs.PutMembers.{distinct_nil, turned, insert_baggage, too_long}
 
 -- ---- bytes that stand neither in keys nor in escaped values
 
@@ -234,7 +236,7 @@ not_few n h = grind (arith, nat_tests)
 
 -- without such a value no member is inserted
 not_inserted : (ms : List Member) (m : Member) (readable : Bool) → readable ≡ is_utf8 m.value → may_stand m.value ≡ false → (b : Bool) → (if b && readable then insert ms m else ms) ≡ ms
-not_inserted ms m false e h b = cond-false (b && false) (insert ms m) ms (and_false b)
+not_inserted ms m false e h b = cond-false (b && false) (insert ms m) ms (and-false b)
 not_inserted ms m true e h b =
     let long : nat_le (length m.value) max_len_of_all_pairs ≡ false = ap (λ u. u && nat_le (length m.value) max_len_of_all_pairs) e ∙ h in
     let same : insert ms m ≡ ms = cond-false (accepts ms m) (put ms m) ms (too_long m ms (not_few (length m.value) long)) in

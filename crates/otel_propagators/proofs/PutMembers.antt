@@ -5,6 +5,7 @@ use Rattle.std.specs.List.{IsDistinct, AllByRecursion, list_any}
 use Rattle.std.specs.Str.{bytes_eq, is_utf8}
 use Rattle.std.specs.Borrow.{Bor}
 use Rattle.std.specs.Option.{option_copied}
+use Rattle.std.proofs.Math.Bool.{and-true, and-false}
 use Rattle.std.proofs.lemmas.Bool.Decides.{nat_tests}
 use Rattle.std.proofs.lemmas.Bool.{cases_Bool, lt-ltb, cond-true, cond-false, cond_both, or_left, false_from_ne_true, both_ways}
 use Rattle.std.proofs.lemmas.Map.Keys.{IsDistinct-head, IsDistinct-tail}
@@ -13,40 +14,12 @@ use Rattle.std.proofs.lemmas.List.Sums.{sum_by-append, sum_by-cons}
 use Rattle.otel_context.specs.BaggageText.{is_key, IsTrimmed}
 use Rattle.otel_context.specs.BaggageMember.{Member, has_key, weight_of}
 use Rattle.otel_context.specs.Baggage.{max_key_value_pairs, max_len_of_all_pairs, weight, member_at, get, put, accepts, insert, remove, IsBaggage}
+use Rattle.otel_context.proofs.BaggageLists.{keys, AreDistinct, HasNone, filter_others, none_after}
+use Rattle.otel_context.proofs.BaggageLists.{put_here, put_later, remove_here, remove_later, tail}
 use Rattle.otel_context.proofs.BaggagePuts.{put_baggage}
-
-abbrev keys : List Member → List (List ℕ)
-keys ms = map (λ m. m.key) ms
-
-abbrev pub AreDistinct : List Member → Type 0
-AreDistinct ms = IsDistinct bytes_eq (keys ms)
-
--- no member has the key
-abbrev pub HasNone : List ℕ → List Member → Type 0
-HasNone key ms = AllByRecursion (λ other. bytes_eq key other ≡ false) (keys ms)
-
-same_text : (xs ys : List ℕ) → bytes_eq xs ys ≡ true → xs ≡ ys
-same_text xs ys = (bytes_eq-Decides xs ys).0
 
 pub turned : (a b : List ℕ) → bytes_eq a b ≡ false → bytes_eq b a ≡ false
 turned a b f = false_from_ne_true (bytes_eq b a) (λ t. both_ways (bytes_eq a b) f ((bytes_eq-Decides a b).1 (sym ((bytes_eq-Decides b a).0 t))))
-
--- ---- where no member has the key
-
-map_others : (m : Member) (ms : List Member) → HasNone m.key ms → map (λ other. if has_key m.key other then m else other) ms ≡ ms
-map_others m [] h = refl
-map_others m (o ∷ ms) h = λ i. cond-false (has_key m.key o) m o h.0 i ∷ map_others m ms h.1 i
-
-filter_others : (key : List ℕ) (ms : List Member) → HasNone key ms → remove ms key ≡ ms
-filter_others key [] h = refl
-filter_others key (o ∷ ms) h =
-    cond-true (not (has_key key o)) (o ∷ remove ms key) (remove ms key) (ap not h.0) ∙ ap (λ (x : List Member). o ∷ x) (filter_others key ms h.1)
-
-none_after : (key : List ℕ) (o : Member) (ms : List Member) → bytes_eq key o.key ≡ true → AreDistinct (o ∷ ms) → HasNone key ms
-none_after key o ms e d = subst (λ k. HasNone k ms) (sym (same_text key o.key e)) (IsDistinct-head bytes_eq o.key (keys ms) d)
-
-pub tail : (o : Member) (ms : List Member) → AreDistinct (o ∷ ms) → AreDistinct ms
-tail o ms = IsDistinct-tail bytes_eq o.key (keys ms)
 
 distinct_cons : (o : Member) (ms : List Member) → HasNone o.key ms → AreDistinct ms → AreDistinct (o ∷ ms)
 unfolding IsDistinct
@@ -55,28 +28,6 @@ distinct_cons o ms h d = (h, d)
 pub distinct_nil : AreDistinct []
 unfolding IsDistinct
 distinct_nil = tt
-
--- ---- member by member
-
-put_here : (m o : Member) (ms : List Member) → AreDistinct (o ∷ ms) → has_key m.key o ≡ true → put (o ∷ ms) m ≡ m ∷ ms
-put_here m o ms d e =
-    cond-true (list_any (has_key m.key) (o ∷ ms)) (map (λ other. if has_key m.key other then m else other) (o ∷ ms)) ((o ∷ ms) ++ m ∷ []) (or_left (has_key m.key o) (list_any (has_key m.key) ms) e)
-    ∙ (λ i. cond-true (has_key m.key o) m o e i ∷ map_others m ms (none_after m.key o ms e d) i)
-
-put_later : (m o : Member) (ms : List Member) → has_key m.key o ≡ false → put (o ∷ ms) m ≡ o ∷ put ms m
-put_later m o ms e =
-    ap (λ b. if b || list_any (has_key m.key) ms then map (λ other. if has_key m.key other then m else other) (o ∷ ms) else ((o ∷ ms) ++ m ∷ [])) e
-    ∙ by (list_any (has_key m.key) ms)
-  where
-    by : (b : Bool) → (if b then map (λ other. if has_key m.key other then m else other) (o ∷ ms) else ((o ∷ ms) ++ m ∷ [])) ≡ o ∷ (if b then map (λ other. if has_key m.key other then m else other) ms else (ms ++ m ∷ []))
-    by true = ap (λ x. x ∷ map (λ other. if has_key m.key other then m else other) ms) (cond-false (has_key m.key o) m o e)
-    by false = refl
-
-pub remove_here : (key : List ℕ) (o : Member) (ms : List Member) → has_key key o ≡ true → remove (o ∷ ms) key ≡ remove ms key
-remove_here key o ms e = cond-false (not (has_key key o)) (o ∷ remove ms key) (remove ms key) (ap not e)
-
-pub remove_later : (key : List ℕ) (o : Member) (ms : List Member) → has_key key o ≡ false → remove (o ∷ ms) key ≡ o ∷ remove ms key
-remove_later key o ms e = cond-true (not (has_key key o)) (o ∷ remove ms key) (remove ms key) (ap not e)
 
 -- ---- the bytes
 
@@ -184,14 +135,6 @@ copied_some : {X : Type 0} (r : Option (Bor X)) → is_some (option_copied r) �
 copied_some None = refl
 copied_some (Some x) = refl
 
-and_true : (x : Bool) → (x && true) ≡ x
-and_true true = refl
-and_true false = refl
-
-pub and_false : (x : Bool) → (x && false) ≡ false
-and_false true = refl
-and_false false = refl
-
 not_less : (n : ℕ) → max_key_value_pairs ≤ n → nat_lt n max_key_value_pairs ≡ false
 not_less n h = grind (arith, nat_tests)
 
@@ -207,15 +150,15 @@ module _ (ms : List Member) (key : List ℕ) (r : Option (Bor (List ℕ))) (foun
 
   pub takes_new : (n : ℕ) (valid : Bool) → n ≡ length ms → n < max_key_value_pairs → valid ≡ is_key key → found ≡ false → valid ≡ (is_held ms key || may_be_new ms key)
   takes_new n valid l few v f =
-      v ∙ sym (and_true (is_key key)) ∙ ap (λ b. is_key key && b) (sym (lt-ltb n max_key_value_pairs few) ∙ ap (λ k. nat_lt k max_key_value_pairs) l) ∙ new_is f
+      v ∙ sym (and-true (is_key key)) ∙ ap (λ b. is_key key && b) (sym (lt-ltb n max_key_value_pairs few) ∙ ap (λ k. nat_lt k max_key_value_pairs) l) ∙ new_is f
 
   pub takes_none : (n : ℕ) → n ≡ length ms → max_key_value_pairs ≤ n → found ≡ false → nat_lt n max_key_value_pairs ≡ (is_held ms key || may_be_new ms key)
   takes_none n l many f =
-      not_less n many ∙ sym (and_false (is_key key)) ∙ ap (λ b. is_key key && b) (sym (not_less n many) ∙ ap (λ k. nat_lt k max_key_value_pairs) l) ∙ new_is f
+      not_less n many ∙ sym (and-false (is_key key)) ∙ ap (λ b. is_key key && b) (sym (not_less n many) ∙ ap (λ k. nat_lt k max_key_value_pairs) l) ∙ new_is f
 
 -- whether a member that may be put is accepted, from the bytes
 pub accepts_light : (ms : List Member) (m : Member) → AreDistinct ms → (is_held ms m.key || may_be_new ms m.key) ≡ true → accepts ms m ≡ nat_le (weight (remove ms m.key) + weight_of m) max_len_of_all_pairs
-accepts_light ms m d t = accepts_is ms m d ∙ ap (λ b. nat_le (weight (remove ms m.key) + weight_of m) max_len_of_all_pairs && b) t ∙ and_true _
+accepts_light ms m d t = accepts_is ms m d ∙ ap (λ b. nat_le (weight (remove ms m.key) + weight_of m) max_len_of_all_pairs && b) t ∙ and-true _
 
 -- one turn of the sum over the members of other keys, those in `t` being left
 module _ (key : List ℕ) (m : Member) (s t : List Member) (bytes total : ℕ) (split : s ≡ m ∷ t) (so_far : bytes + weight (remove s key) ≡ total) where
