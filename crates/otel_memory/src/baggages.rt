@@ -1,5 +1,4 @@
 //! Calls on baggage.
-use crate::contexts::baggage;
 use otel_base::{Key, KeyValue, StringValue, Value};
 use otel_context::baggage::{Baggage, BaggageMetadata, KeyValueMetadata};
 use otel_memory_lines::Lines;
@@ -171,7 +170,8 @@ fn text_of(value: &Option<StringValue>) -> &str {
 /// Inserts that change no more than what is there, a replacement and a key that isn't accepted,
 /// look-ups and a removal.
 fn in_place<R: Print>(alloc: Global, lines: &Lines<'_, R>) -> Result<(), AllocError> {
-    let mut held = baggage(alloc, "k", "v")?;
+    let mut held = Baggage::new(alloc);
+    insert_key(&mut held, "k", false)?;
     replaced(lines, &mut held, "k", "v");
     replaced(lines, &mut held, "a b", "");
     looked_at(lines, &held);

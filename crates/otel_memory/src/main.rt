@@ -1,16 +1,13 @@
-//! Scenarios for runs in which requests for memory fail: each makes library calls on fixed values,
-//! and prints their answers and what became of what they were lent.
+//! Scenarios for runs in which requests for memory fail: each makes calls on texts, values, trace states
+//! and baggage, and prints their answers and what became of what they were lent.
 //!
 //! The name of a scenario is read from standard input; without one all of them run. Nothing here
 //! takes memory to print.
 #![tactic(auto)]
 
-mod attaches;
 mod baggages;
-mod contexts;
 mod scopes;
 mod shown;
-mod stacks;
 mod trace_states;
 mod values;
 
@@ -30,9 +27,6 @@ fn main(rt: HostRuntime) -> io::Result<()> {
     values::play(alloc, &lines);
     scopes::play(alloc, &lines);
     baggages::play(alloc, &lines);
-    contexts::play(alloc, &lines);
-    attaches::play(alloc, &lines);
-    stacks::play(alloc, &lines);
     if lines.is_written() {
         Ok(())
     } else {

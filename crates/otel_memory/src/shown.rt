@@ -1,6 +1,5 @@
 //! How values of the libraries are printed without taking memory.
 use otel_base::{AnyValue, InstrumentationScope, Key, KeyValue};
-use otel_context::Context;
 use otel_ids::TraceState;
 use otel_memory_lines::Lines;
 use std::collections::BTreeMap;
@@ -88,21 +87,11 @@ fn write_map<W: fmt::Write>(
 ) -> fmt::Result {
     f.write_str("{")?;
     for (key, value) in entries.iter() {
-        write_entry(f, "", key.as_str(), value)?;
+        write!(f, "{key}=")?;
+        write_leaf(f, value)?;
         f.write_str(";")?;
     }
     f.write_str("}")
-}
-
-/// An entry, after that text.
-fn write_entry<W: fmt::Write>(
-    f: &mut Formatter<W>,
-    before: &str,
-    key: &str,
-    value: &AnyValue,
-) -> fmt::Result {
-    write!(f, "{before}{key}=")?;
-    write_leaf(f, value)
 }
 
 /// A value tree, and of a list or map how long it is.
@@ -127,45 +116,4 @@ impl Shown for InstrumentationScope {
         }
         f.write_str("]")
     }
-}
-
-/// The entries `a` and `b` of a context, its baggage, the ids of its span context, and whether it
-/// is suppressed.
-impl Shown for Context {
-    fn show<W: fmt::Write>(&self, f: &mut Formatter<W>) -> fmt::Result {
-        write_held(f, "", "a", self)?;
-        write_held(f, " ", "b", self)?;
-        write_baggage(f, self)?;
-        write_span(f, self)?;
-        f.write_str(if self.is_telemetry_suppressed() {
-            " suppressed"
-        } else {
-            ""
-        })
-    }
-}
-
-/// The entry of that name, where there is one.
-fn write_held<W: fmt::Write>(
-    f: &mut Formatter<W>,
-    before: &str,
-    name: &str,
-    context: &Context,
-) -> fmt::Result {
-    match context.get(name) {
-        Some(value) => write_entry(f, before, name, value),
-        None => Ok(()),
-    }
-}
-
-fn write_baggage<W: fmt::Write>(f: &mut Formatter<W>, context: &Context) -> fmt::Result {
-    match context.baggage() {
-        Some(baggage) => write!(f, " baggage {baggage}"),
-        None => Ok(()),
-    }
-}
-
-fn write_span<W: fmt::Write>(f: &mut Formatter<W>, context: &Context) -> fmt::Result {
-    let span = context.span_context();
-    write!(f, " ids {} {}", span.trace_id(), span.span_id())
 }
