@@ -3,7 +3,7 @@ ghost use Rattle.std.specs.Prelude.{◌≡◌, length, IfOk, option_map};
 ghost use Rattle.std.specs.FinMap as map;
 ghost use Rattle.std.specs.List.Sorted.{IsSearchInRange, IsBinarySearchResult};
 ghost use Rattle.otel_base.specs.View.{tree};
-ghost use Rattle.otel_context.specs.View.{by_key, entries_seen};
+ghost use Rattle.otel_context.specs.View.{by_key, IsRising, entries_seen};
 
 use otel_base::{AnyValue, Key};
 use std::alloc::{AllocError, Global};
@@ -71,14 +71,8 @@ impl Entries {
     pub fn with(&self, alloc: Global, key: Key, value: AnyValue) -> Result<Entries, AllocError>
         ensures { IfOk result (λ es. es ≡ map.insert self.now key (tree value)) }
     {
-        let (before, after) = match search(&self.items, key.as_str()) {
-            Ok(at) => (at, at + 1),
-            Err(at) => (at, at),
-        };
-        let mut items = Vec::with_capacity(alloc, self.items.len().saturating_add(1))?;
-        items.extend_with_clones(&self.items[..before])?;
-        items.push(Rc::new(alloc, Entry { key, value })?)?;
-        items.extend_with_clones(&self.items[after..])?;
+        let entry = Rc::new(alloc, Entry { key, value })?;
+        let items = with_entry(alloc, &self.items, entry)?;
         Ok(Entries { items })
     }
 }
@@ -91,6 +85,28 @@ impl Clone for Entries {
             items: self.items.clone()?,
         })
     }
+}
+
+/// These entries and that one, in place of an older one of its name.
+fn with_entry(
+    alloc: Global,
+    items: &[Rc<Entry>],
+    entry: Rc<Entry>,
+) -> Result<Vec<Rc<Entry>>, AllocError>
+    requires { IsRising items.now }
+    ensures rising { IfOk result (λ es. IsRising es.items) }
+    ensures inserted { IfOk result (λ es. entries_seen es.items
+        ≡ map.insert (entries_seen items.now) entry.value.key (tree entry.value.value)) }
+{
+    let (before, after) = match search(items, entry.key.as_str()) {
+        Ok(at) => (at, at + 1),
+        Err(at) => (at, at),
+    };
+    let mut made = Vec::with_capacity(alloc, items.len().saturating_add(1))?;
+    made.extend_with_clones(&items[..before])?;
+    made.push(entry)?;
+    made.extend_with_clones(&items[after..])?;
+    Ok(made)
 }
 
 /// The value of that name, compared with each name in turn: with its length first.
