@@ -1,5 +1,5 @@
 //! A run of attaches and detaches over one stack, whose current context is then injected.
-ghost use Rattle.std.specs.Prelude.{◌≡◌, ◌≤◌, ◌∷◌, ◌++◌, [], List, IsTrue, IsOk, IfOk, OnErr};
+ghost use Rattle.std.specs.Prelude.{◌≡◌, ◌≤◌, ◌∷◌, ◌++◌, [], ℕ, List, Option, IsTrue, IsOk, IfOk, OnErr};
 ghost use Rattle.otel_context.specs.Stack.{newest_position, current, IsLawful};
 ghost use Rattle.opentelemetry.specs.Carrier.{map_state, text_map};
 ghost use Rattle.opentelemetry.specs.Composite.{members_of, pairs_of, may_refuse_of};
@@ -82,6 +82,42 @@ fn apply(
     }
 }
 
+/// Carries out the events in order.
+fn apply_all(
+    stack: &mut ContextStack,
+    positions: &mut Vec<Option<u16>>,
+    outcomes: &mut Vec<AttachOutcome>,
+    events: Vec<StackEvent>,
+) -> Result<(), AllocError>
+    ensures { IfOk result (λ _. (done : List EventValue)
+        → Stands done outcomes.old.items positions.old.items stack.old
+        → Stands (done ++ events.items) outcomes.new.items positions.new.items stack.new) }
+{
+    for event in events {
+        apply(stack, positions, outcomes, event)?;
+    }
+    Ok(())
+}
+
+/// What events leave.
+#[derive(Drop)]
+struct Played {
+    stack: ContextStack,
+    outcomes: Vec<AttachOutcome>,
+}
+
+/// Carries out the events in order, from an empty stack on.
+fn play(alloc: Global, events: Vec<StackEvent>) -> Result<Played, AllocError>
+    ensures { IfOk result (λ played. (kept : List (Option ℕ))
+        × Stands events.items played.outcomes.items kept played.stack) }
+{
+    let mut stack = ContextStack::new(alloc)?;
+    let mut outcomes = Vec::new(alloc);
+    let mut positions = Vec::new(alloc);
+    apply_all(&mut stack, &mut positions, &mut outcomes, events)?;
+    Ok(Played { stack, outcomes })
+}
+
 /// Injects the context into a map of texts.
 fn send(
     composite: &TextMapCompositePropagator,
@@ -137,12 +173,7 @@ pub fn run(
         × (text_map carrier.new.entries ≡ text_map carrier.old.entries) }
     ensures err { OnErr result (text_map carrier.new.entries ≡ text_map carrier.old.entries) }
 {
-    let mut stack = ContextStack::new(alloc)?;
-    let mut outcomes = Vec::new(alloc);
-    let mut positions = Vec::new(alloc);
-    for event in events {
-        apply(&mut stack, &mut positions, &mut outcomes, event)?;
-    }
+    let Played { stack, outcomes } = play(alloc, events)?;
     let injected = send(composite, stack.current(), carrier);
     Ok(RunReport {
         stack,
