@@ -30,16 +30,19 @@ pub fn play(task: &Task<'_>, alloc: Global) -> Result<Option<u64>, AllocError> {
             text.push_str("=1")?;
             extract(alloc, text, task.times)
         }
-        "attack_baggage_percents" => extract(alloc, long(alloc, "a=1,b=", "%", size)?, task.times),
+        "attack_baggage_percents" => {
+            let text = long(alloc, "a=1", ",b c=%%%%%%%%", size)?;
+            extract(alloc, text, task.times)
+        }
         "attack_baggage_pairs" => extract(alloc, pairs(alloc, size)?, task.times),
         _ => Ok(None),
     }
 }
 
-/// A text that begins so and goes on with one sign, many times over.
-fn long(alloc: Global, begin: &str, sign: &str, size: usize) -> Result<String, AllocError> {
+/// A text that begins so and goes on with one part, many times over.
+fn long(alloc: Global, begin: &str, part: &str, size: usize) -> Result<String, AllocError> {
     let mut text = String::from_str(alloc, begin)?;
-    let more = sign.repeat(alloc, size)?;
+    let more = part.repeat(alloc, size)?;
     text.push_str(more.as_str())?;
     Ok(text)
 }
