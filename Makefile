@@ -65,7 +65,7 @@ misuse:
 	@tests/misuse/run $(CASE)
 
 memory:
-	@for program in otel_carry otel_memory otel_memory_contexts otel_memory_tracing; do (cd crates/$$program && rt run < /dev/null > /dev/null) || exit; done
+	@for program in otel_carry otel_memory otel_memory_contexts otel_memory_propagators otel_memory_tracing; do (cd crates/$$program && rt run < /dev/null > /dev/null) || exit; done
 	@tests/memory/sweep
 
 long:

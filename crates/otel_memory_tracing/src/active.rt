@@ -44,14 +44,14 @@ const CALLS: [(&str, Call); 3] = [
     ("mark-span-as-active", Call::MarkSpanAsActive),
 ];
 
-/// A remote span context with that trace state.
-pub fn remote(state: TraceState) -> SpanContext {
+/// A remote span context.
+fn remote() -> SpanContext {
     SpanContext::new(
         TraceId::from(1),
         SpanId::from(1),
         TraceFlags::SAMPLED,
         true,
-        state,
+        TraceState::NONE,
     )
 }
 
@@ -61,7 +61,7 @@ pub fn stack(alloc: Global) -> Result<ContextStack, AllocError> {
     for _ in 1..ATTACHED {
         stack.push(Context::new())?;
     }
-    stack.push(Context::new().with_remote_span_context(alloc, remote(TraceState::NONE))?)?;
+    stack.push(Context::new().with_remote_span_context(alloc, remote())?)?;
     Ok(stack)
 }
 

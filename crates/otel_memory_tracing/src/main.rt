@@ -1,14 +1,11 @@
-//! Scenarios for runs in which requests for memory fail: each makes calls of spans, tracers, logs
-//! or propagators on fixed values, and prints their answers and what became of what they were lent.
+//! Scenarios for runs in which requests for memory fail: each makes calls of spans, tracers or
+//! logs on fixed values, and prints their answers and what became of what they were lent.
 //!
 //! The name of a scenario is read from standard input; without one all of them run. Nothing here
 //! takes memory to print.
 #![tactic(auto)]
 
 mod active;
-mod carriers;
-mod composites;
-mod headers;
 mod in_span;
 mod logs;
 mod noop;
@@ -29,9 +26,6 @@ fn main(rt: HostRuntime) -> io::Result<()> {
     let wanted = str::from_utf8(&room[..count]).unwrap_or("").trim_end();
     let lines = Lines::new(&rt, wanted);
     let alloc = rt.alloc();
-    carriers::play(alloc, &lines);
-    composites::play(alloc, &lines);
-    headers::play(alloc, &lines);
     parts::play(alloc, &lines);
     spans::play(alloc, &lines);
     references::play(alloc, &lines);

@@ -1,9 +1,9 @@
 //! Calls on propagators and on composites of them.
-use crate::active::stack;
 use crate::carriers::{carrier, injected};
-use crate::headers::TRACE_KEYS;
+use crate::headers::{TRACE_KEYS, with_remote_span};
 use opentelemetry::context::{Context, ContextStack};
 use opentelemetry::propagation::{PropagationError, TextMapCompositePropagator, TextMapPropagator};
+use opentelemetry::trace::TraceState;
 use otel_memory_lines::Lines;
 use otel_propagators::{BaggagePropagator, TraceContextPropagator};
 use std::alloc::{AllocError, Global};
@@ -106,6 +106,13 @@ fn extracted<R: Print>(lines: &Lines<'_, R>, answer: Result<Context, Propagation
         Ok(context) => lines.answer(&context.has_active_span()),
         Err(error) => lines.answer(&error),
     }
+}
+
+/// A stack whose current context has a remote span.
+fn stack(alloc: Global) -> Result<ContextStack, AllocError> {
+    let mut stack = ContextStack::new(alloc)?;
+    stack.push(with_remote_span(alloc, TraceState::NONE)?)?;
+    Ok(stack)
 }
 
 fn of_composite<R: Print>(

@@ -1,10 +1,9 @@
 //! Calls on the propagators of the W3C headers.
-use crate::active::remote;
 use crate::carriers::{carrier, injected};
 use opentelemetry::baggage::Baggage;
 use opentelemetry::context::Context;
 use opentelemetry::propagation::TextMapPropagator;
-use opentelemetry::trace::TraceState;
+use opentelemetry::trace::{SpanContext, SpanId, TraceFlags, TraceId, TraceState};
 use opentelemetry::{Key, StringValue};
 use otel_memory_lines::Lines;
 use otel_propagators::{BaggagePropagator, TraceContextPropagator};
@@ -72,12 +71,24 @@ fn inject<R: Print>(
     Ok(())
 }
 
+/// A context with a remote span of that trace state.
+pub fn with_remote_span(alloc: Global, state: TraceState) -> Result<Context, AllocError> {
+    let span = SpanContext::new(
+        TraceId::from(1),
+        SpanId::from(1),
+        TraceFlags::SAMPLED,
+        true,
+        state,
+    );
+    Context::new().with_remote_span_context(alloc, span)
+}
+
 fn inject_trace<R: Print>(alloc: Global, lines: &Lines<'_, R>) -> Result<(), AllocError> {
     let propagator = TraceContextPropagator::new(alloc)?;
     let Ok(state) = TraceState::from_str(alloc, "a=1,b=2") else {
         return Err(AllocError);
     };
-    let context = Context::new().with_remote_span_context(alloc, remote(state))?;
+    let context = with_remote_span(alloc, state)?;
     inject(alloc, lines, &propagator, &context, &TRACE_KEYS)
 }
 
