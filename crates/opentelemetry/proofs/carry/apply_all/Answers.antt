@@ -18,7 +18,7 @@ loop-event-preserved c = (
       (append_assoc done c.loop-event.yielded (c.in-Some.event ∷ []))
       (c.in_ok-apply.ensures (done ++ c.loop-event.yielded) (c.loop-event.invariant.0 done s)),
   c.loop-event.invariant.1 ∙ ap (λ (es : List StackEvent). c.loop-event.yielded ++ es) c.in-Some.ensures.steps.0
-  ∙ sym (append_assoc c.loop-event.yielded (c.in-Some.event ∷ []) (into_iter_items c.next.new.self)),
+      ∙ sym (append_assoc c.loop-event.yielded (c.in-Some.event ∷ []) (into_iter_items c.next.new.self)),
   omega (arith, ap length c.in-Some.ensures.steps.0),
 )
 
