@@ -13,8 +13,8 @@ abbrev pub members_of : {I : Type 0} {D : I → Type 0} → TextMapCompositeProp
     → List (DynBox I Global D)
 members_of c = c.members.items
 
--- the pairs that its members set for a context, those of the first member first (the crate's
--- `TextMapCompositePropagator`)
+-- the pairs that its members set for a context, those of the first member first
+-- (`TextMapCompositePropagator::inject_context`)
 abbrev pub pairs_of : {I : Type 0} {D : I → Type 0} → (DynBox I Global D → ContextRecord → Pairs)
     → TextMapCompositePropagator I D → ContextRecord → Pairs
 pairs_of pairs c context = flat_map (λ m. pairs m context) (members_of c)

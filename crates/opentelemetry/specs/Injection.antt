@@ -5,8 +5,8 @@ use Rattle.opentelemetry.specs.Carrier.{CarrierState, Pairs, Sets, SetsBeginning
 use Rattle.opentelemetry.specs.Refusal.{is_refused}
 
 -- The carrier went from `old` to `new` by an injection of the pairs, with this result; `may_refuse`
--- says whether who injects may refuse of itself (the crate's `TextMapPropagator`, whose calls return
--- nothing).
+-- says whether who injects may refuse of itself (`TextMapPropagator::inject_context`, which returns
+-- nothing in the Rust crate).
 pub record Injects {T : Type 0} (pairs : Pairs) (may_refuse : Bool) (old new : CarrierState)
     (result : Result T PropagationError) : Type 0 where
   -- after `Ok` all pairs are set

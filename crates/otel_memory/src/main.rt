@@ -1,5 +1,5 @@
-//! Scenarios for runs in which requests for memory fail: each makes calls on texts, values, trace states
-//! and baggage, and prints their answers and what became of what they were lent.
+//! Scenarios for runs in which requests for memory fail: each makes calls on texts, values, trace
+//! states and baggage, and prints their answers and what became of what they were lent.
 //!
 //! The name of a scenario is read from standard input; without one all of them run. Nothing here
 //! takes memory to print.
@@ -11,25 +11,16 @@ mod shown;
 mod trace_states;
 mod values;
 
-use otel_memory_lines::Lines;
-use std::io::{self, ErrorKind, Read};
-
-/// The longest name of a scenario, and its `\n`.
-const ROOM: usize = 64;
+use otel_memory_lines::{Lines, ROOM, wanted};
+use std::io;
 
 fn main(rt: HostRuntime) -> io::Result<()> {
-    let mut room = [0u8; ROOM];
-    let count = rt.stdin().read(&mut room)?;
-    let wanted = str::from_utf8(&room[..count]).unwrap_or("").trim_end();
-    let lines = Lines::new(&rt, wanted);
+    let mut room = [0; ROOM];
+    let lines = Lines::new(&rt, wanted(rt.stdin(), &mut room)?);
     let alloc = rt.alloc();
     trace_states::play(alloc, &lines);
     values::play(alloc, &lines);
     scopes::play(alloc, &lines);
     baggages::play(alloc, &lines);
-    if lines.is_written() {
-        Ok(())
-    } else {
-        Err(io::Error::from(ErrorKind::WriteZero))
-    }
+    lines.written()
 }

@@ -4,6 +4,21 @@
 use std::alloc::AllocError;
 use std::cell::Cell;
 use std::fmt::Display;
+use std::io::{self, ErrorKind, Read, Stdin};
+
+/// Room for the longest name of a scenario, and its `\n`.
+pub const ROOM: usize = 64;
+
+/// The name of the scenario that standard input asks for, which is read into the room: the empty
+/// one, where it asks for none.
+///
+/// # Errors
+///
+/// That of the read.
+pub fn wanted(mut input: Stdin, room: &mut [u8; ROOM]) -> io::Result<&str> {
+    let count = input.read(room)?;
+    Ok(str::from_utf8(&room[..count]).unwrap_or("").trim_end())
+}
 
 /// The output of scenarios, and the name of the one that is wanted. Nothing here takes memory.
 #[derive(Drop)]
@@ -23,9 +38,17 @@ impl<'a, R: Print> Lines<'a, R> {
         }
     }
 
-    /// Whether every line so far was written.
-    pub fn is_written(&self) -> bool {
-        self.is_written.get()
+    /// Reports whether every line so far was written.
+    ///
+    /// # Errors
+    ///
+    /// `WriteZero` where one was not.
+    pub fn written(&self) -> io::Result<()> {
+        if self.is_written.get() {
+            Ok(())
+        } else {
+            Err(io::Error::from(ErrorKind::WriteZero))
+        }
     }
 
     /// Prints the heading of a scenario, where it is wanted. Returns whether it is.

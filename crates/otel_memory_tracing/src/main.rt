@@ -14,17 +14,12 @@ mod references;
 mod spans;
 mod tracers;
 
-use otel_memory_lines::Lines;
-use std::io::{self, ErrorKind, Read};
-
-/// The longest name of a scenario, and its `\n`.
-const ROOM: usize = 64;
+use otel_memory_lines::{Lines, ROOM, wanted};
+use std::io;
 
 fn main(rt: HostRuntime) -> io::Result<()> {
-    let mut room = [0u8; ROOM];
-    let count = rt.stdin().read(&mut room)?;
-    let wanted = str::from_utf8(&room[..count]).unwrap_or("").trim_end();
-    let lines = Lines::new(&rt, wanted);
+    let mut room = [0; ROOM];
+    let lines = Lines::new(&rt, wanted(rt.stdin(), &mut room)?);
     let alloc = rt.alloc();
     parts::play(alloc, &lines);
     spans::play(alloc, &lines);
@@ -34,9 +29,5 @@ fn main(rt: HostRuntime) -> io::Result<()> {
     in_span::play(alloc, &lines);
     logs::play(alloc, &lines);
     noop::play(alloc, &lines);
-    if lines.is_written() {
-        Ok(())
-    } else {
-        Err(io::Error::from(ErrorKind::WriteZero))
-    }
+    lines.written()
 }
