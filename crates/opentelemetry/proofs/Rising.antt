@@ -1,7 +1,6 @@
 -- The keys of a map of strings in rising order.
-use Rattle.std.proofs.Common.{rules, ◌≡◌, ℕ, List, [], ◌∷◌, ◌++◌, Bool, true, false, cond, refl, sym, ap, subst, ◌∙◌, string_bytes, map, is_some, length, Bor, Option, None, Some}
-use Rattle.std.specs.Cmp.{IsTotalOrder}
-use Rattle.std.specs.Cmp.Lexicographic.{slice_cmp, nat_list_cmp_total, texts_ties, nat_list_eq_equiv, on_texts}
+use Rattle.std.proofs.Common.{◌≡◌, ℕ, List, [], ◌∷◌, Bool, false, cond, refl, sym, ap, subst, ◌∙◌, string_bytes, map, is_some, Bor, Option, None, Some}
+use Rattle.std.specs.Cmp.Lexicographic.{slice_cmp, texts_ties, nat_list_eq_equiv, on_texts}
 use Rattle.std.specs.List.{list_any, dedup, dedup_from, IsDistinct, AllByRecursion}
 use Rattle.std.specs.List.Sorted.{IsSorted, IsStrictlySortedBy, IsPermutation}
 use Rattle.std.specs.Ordering.{nat_cmp}
@@ -11,14 +10,14 @@ use Rattle.std.specs.Str.{bytes_eq}
 use Rattle.std.specs.String.{string_eq}
 use Rattle.std.specs.HashMap as hash
 use Rattle.std.specs.HashMap.{HashMap}
-use Rattle.std.specs.Map.{lookup, keys_of}
+use Rattle.std.specs.Map.{lookup}
 use Rattle.std.specs.Option.{option_map}
 use Rattle.std.specs.declared.string.String.{String}
 use Rattle.std.proofs.lemmas.List.Kept.{IsStrictlySortedBy-dedup}
 use Rattle.std.proofs.lemmas.List.Sorted.{IsPermutation-map, list_any-IsPermutation}
-use Rattle.std.proofs.lemmas.Map.Keys.{IsDistinct-IsPermutation}
+use Rattle.std.proofs.lemmas.Map.Keys.{IsDistinct-IsPermutation, IsDistinct-tail}
 use Rattle.std.proofs.lemmas.Map.Made.{is_some-lookup}
-use Rattle.opentelemetry.specs.Carrier.{at, text_map, AreKeys}
+use Rattle.opentelemetry.specs.Carrier.{text_map, AreKeys}
 use Rattle.opentelemetry.proofs.Maps.{at-text_map}
 use Rattle.opentelemetry.proofs.Union.{list_any-map}
 
@@ -53,15 +52,11 @@ first_false : {X : Type 0} (e : X → X → Bool) (k x : X) (xs : List X) → Is
 unfolding IsDistinct
 first_false e k x xs h = h.0.0
 
-rest_distinct : {X : Type 0} (e : X → X → Bool) (k : X) (xs : List X) → IsDistinct e (k ∷ xs) → IsDistinct e xs
-unfolding IsDistinct
-rest_distinct e k xs h = h.1
-
 dedup_from-distinct : {X : Type 0} (e : X → X → Bool) → ((x y : X) → e x y ≡ e y x) → (k : X) (xs : List X) → IsDistinct e (k ∷ xs) → dedup_from e k xs ≡ k ∷ xs
 dedup_from-distinct e flips k [] h = refl
 dedup_from-distinct e flips k (x ∷ xs) h =
     ap (λ b. cond b (dedup_from e k xs) (k ∷ dedup_from e x xs)) (flips x k ∙ first_false e k x xs h)
-    ∙ ap (λ r. k ∷ r) (dedup_from-distinct e flips x xs (rest_distinct e k (x ∷ xs) h))
+    ∙ ap (λ r. k ∷ r) (dedup_from-distinct e flips x xs (IsDistinct-tail e k (x ∷ xs) h))
 
 pub dedup-distinct : {X : Type 0} (e : X → X → Bool) → ((x y : X) → e x y ≡ e y x) → (xs : List X) → IsDistinct e xs → dedup e xs ≡ xs
 dedup-distinct e flips [] h = refl

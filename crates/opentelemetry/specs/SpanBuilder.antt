@@ -1,8 +1,7 @@
 -- What a span starts with.
-use Rattle.std.specs.Prelude.{◌≡◌, ℕ, zero, suc, Bool, true, false, ◌&&◌, List, Option, Some, None}
+use Rattle.std.specs.Prelude.{ℕ, zero, suc, Bool, true, false, ◌&&◌, List, Option, Some, None}
 use Rattle.std.specs.List.{filter}
 use Rattle.otel_base.specs.KeyValue.{Attribute}
-use Rattle.otel_ids.specs.SpanContext.{SpanContextRecord}
 use Rattle.otel_context.specs.declared.status.SpanKind.{SpanKind}
 use Rattle.opentelemetry.specs.Event.{EventRecord, LinkRecord}
 

@@ -1,5 +1,5 @@
 -- What stands at each key determines a map's tree.
-use Rattle.std.proofs.Common.{◌≡◌, ℕ, List, [], ◌∷◌, Bool, true, false, ◌&&◌, cond, T, Option, Some}
+use Rattle.std.proofs.Common.{◌≡◌, ℕ, List, [], ◌∷◌, ◌&&◌, cond, T, Option, Some}
 use Rattle.std.proofs.Common.{nat_cmp, refl, sym, ap, ◌∙◌, subst}
 use Rattle.std.specs.Cmp.Lexicographic.{slice_cmp}
 use Rattle.std.specs.List.{AllByRecursion}
@@ -8,6 +8,7 @@ use Rattle.std.specs.Ordering.{is_eq, is_lt, match_ordering}
 use Rattle.std.specs.declared.cmp.Ordering.{Ordering}
 use Rattle.std.specs.declared.cmp.Ordering.TheVariants.{Less, Equal, Greater}
 use Rattle.std.specs.FinMap.Entries.{find, is_sorted, below_all, same_entries}
+use Rattle.std.proofs.Math.Facts.{yes_and}
 use Rattle.std.proofs.lemmas.Cmp.{nat_list_cmp_total}
 use Rattle.std.proofs.lemmas.Map.Lookups.{exact_bytes}
 use Rattle.otel_base.specs.AnyValue.{Tree, Entries, no_entries, more_entries, map, entry_at}
@@ -37,10 +38,6 @@ found k (more_entries l e es) =
     by_cases (by_bytes k l) (entry_at k es) (Some e)
     ∙ ap (cond (is_eq (by_bytes k l)) (Some e)) (found k es)
 
-both : (a b : Bool) → T a → T b → T (a && b)
-both true b p q = q
-both false b p q = p
-
 below : (k : List ℕ) (es : Entries) → AllByRecursion (λ l. by_bytes k l ≡ Less) (keys_of_entries es)
     → T (below_all by_bytes k (listed es))
 below k no_entries h = tt
@@ -51,7 +48,7 @@ rising : (es : Entries) → IsStrictlySortedBy by_bytes (keys_of_entries es)
     → T (is_sorted by_bytes (listed es))
 unfolding IsStrictlySortedBy
 rising no_entries h = tt
-rising (more_entries l e es) h = both _ _ (below l es h.0) (rising es h.1)
+rising (more_entries l e es) h = yes_and _ _ (below l es h.0) (rising es h.1)
 
 pub same_map : SameMap
 same_map ps qs s t m n agree =

@@ -11,7 +11,7 @@ use Rattle.std.proofs.Math.Seq.{drop-cons}
 use Rattle.std.proofs.lemmas.List.{take_more, length-map, drop_all}
 use Rattle.std.proofs.lemmas.List.Sums.{fold-append}
 use Rattle.std.proofs.lemmas.List.Concat.{flat_map-append}
-use Rattle.std.proofs.lemmas.Option.{slice_get-map, slice_get-get_or, slice_get_within}
+use Rattle.std.proofs.lemmas.Option.{same_Some, slice_get-map, slice_get-get_or, slice_get_within}
 use Rattle.otel_base.specs.Value.{boolean}
 use Rattle.otel_base.specs.KeyValue as attribute
 use Rattle.otel_base.specs.View.{attribute_of}
@@ -25,9 +25,6 @@ use Rattle.otel_base.specs.KeyOrder.{in_key_order, IsKeyOrder}
 use denote.Ref.{Bor}
 
 -- ---- one element
-one_some : (x y : Option Attribute) → Some x ≡ Some y → x ≡ y
-one_some x y h = cc
-
 same_length : (g : ℕ → Option Attribute) (is : List ℕ) (cs : List Attribute)
     → map g is ≡ map (λ p. Some p) cs → length is ≡ length cs
 same_length g is cs h = sym (length-map is g) ∙ ap length h ∙ length-map cs (λ p. Some p)
@@ -41,7 +38,7 @@ read_at g is cs h i d below =
     ap (option_map g) (sym (slice_get-get_or is i 0 below)) ∙ sym (slice_get-map g is i)
     ∙ ap (λ os. slice_get os i) h ∙ slice_get-map (λ p. Some p) cs i
     ∙ ap (option_map (λ p. Some p)) (slice_get-get_or cs i d within) in
-    one_some (g (get_or is i 0)) (Some (get_or cs i d)) both
+    same_Some (g (get_or is i 0)) (Some (get_or cs i d)) both
 
 pub in_order_length : (ps : List Attribute) (is : List ℕ) → IsKeyOrder ps is
     → length is ≡ length (in_key_order ps)
@@ -60,9 +57,6 @@ in_order_below xs is h i below =
       length-map xs attribute_of,
     )
 
-some_pair : (x y : Attribute) → Some x ≡ Some y → x ≡ y
-some_pair x y h = cc
-
 pub in_order_at : (xs : List KeyValue) (is : List ℕ) → IsKeyOrder (map attribute_of xs) is → (i : ℕ)
     → i < length is → (a : KeyValue) → a ≡ get_or xs (get_or is i 0) a
     → attribute_of a ≡ get_or (in_key_order (map attribute_of xs)) i (attribute_of a)
@@ -73,7 +67,7 @@ in_order_at xs is h i below a e =
     read_at (slice_get (map attribute_of xs)) is cs h i (attribute_of a) below in
     let there : slice_get xs k ≡ Some (get_or xs k a) =
     slice_get-get_or xs k a (in_order_below xs is h i below) in
-    some_pair (attribute_of a) (get_or cs i (attribute_of a)) (ap (λ x. Some (attribute_of x)) e
+    same_Some (attribute_of a) (get_or cs i (attribute_of a)) (ap (λ x. Some (attribute_of x)) e
     ∙ ap (option_map attribute_of) (sym there) ∙ sym (slice_get-map attribute_of xs k) ∙ got)
 
 -- ---- what is hashed
@@ -154,12 +148,6 @@ cloned_pairs [] [] h = refl
 cloned_pairs [] (y ∷ ys) h = elim h [ ]
 cloned_pairs (x ∷ xs) [] h = elim h [ ]
 cloned_pairs (x ∷ xs) (y ∷ ys) h = λ i. h.0 i ∷ cloned_pairs xs ys h.1 i
-
-pub cloned_numbers : (xs ys : List ℕ) → AllZip (λ x y. y ≡ x) xs ys → ys ≡ xs
-cloned_numbers [] [] h = refl
-cloned_numbers [] (y ∷ ys) h = elim h [ ]
-cloned_numbers (x ∷ xs) [] h = elim h [ ]
-cloned_numbers (x ∷ xs) (y ∷ ys) h = λ i. h.0 i ∷ cloned_numbers xs ys h.1 i
 
 pub walk_done : (xs ys : List Attribute) (is js : List ℕ) (i : ℕ) → length is ≤ i → length js ≤ i
     → pointwise (option_eq attribute.eq) (map (slice_get xs) (drop i is))

@@ -7,7 +7,7 @@ use Rattle.std.proofs.lemmas.Bool.{cases_Bool, and_from, cond-true, cond-false, 
 use Rattle.std.proofs.lemmas.Bool.Decides.{nat_tests}
 use Rattle.std.specs.Fmt.{digit_glyph}
 use Rattle.otel_context.specs.BaggageText.{is_unreserved, escape, escaped_byte, escaped}
-use Rattle.otel_context.proofs.BaggageCuts.{Lacks, list_all-append}
+use Rattle.otel_context.proofs.BaggageCuts.{Lacks, list_all-both}
 
 -- ---- one byte
 
@@ -88,7 +88,7 @@ escaped_lacks c plain digit percent [] = refl
 escaped_lacks c plain digit percent (b ∷ bs) =
     let rest = escaped_lacks c plain digit percent bs in
     let p = λ (x : ℕ). not (x == c) in
-    list_all-append p (escaped_byte b) (escaped bs)
+    list_all-both p (escaped_byte b) (escaped bs)
     (cond_both (is_unreserved b) (b ∷ []) (escape b) (λ (xs : List ℕ). list_all p xs ≡ true)
     (λ e. and_from (p b) true (plain b e) refl)
     (λ e. and_from (p 37) (list_all p (digit_glyph true (b / 16) ∷ digit_glyph true (b % 16) ∷ [])) percent (and_from (p (digit_glyph true (b / 16))) (list_all p (digit_glyph true (b % 16) ∷ [])) (digit (b / 16)) (and_from (p (digit_glyph true (b % 16))) true (digit (b % 16)) refl))))

@@ -8,12 +8,13 @@ use Rattle.std.proofs.lemmas.Bool.Decides.{nat_tests}
 use Rattle.std.proofs.lemmas.List.{append-nil}
 use Rattle.std.proofs.lemmas.List.Elements.{All-head, All-tail}
 use Rattle.std.proofs.lemmas.List.Sums.{sum_by-cons}
+use Rattle.otel_ids.proofs.Cuts.{list_all-weaker}
 use Rattle.otel_context.specs.BaggageText.{is_key_byte, is_key, escaped}
 use Rattle.otel_context.specs.BaggageMember.{Member, member_of, weight_of, IsValidMember}
 use Rattle.otel_context.specs.Baggage.{weight}
 use Rattle.otel_context.specs.BaggageHeader.{metadata_text, member_text, header}
 use Rattle.otel_context.specs.BaggageLaws.{HasNoComma, HeaderDetermines, HeaderIsShort}
-use Rattle.otel_context.proofs.BaggageCuts.{Lacks, list_all-append, list_all-weaker, no_cut}
+use Rattle.otel_context.proofs.BaggageCuts.{Lacks, list_all-both, no_cut}
 use Rattle.otel_context.proofs.BaggageCuts.{same_cut}
 use Rattle.otel_context.proofs.BaggageEscapes.{escaped-injective, escaped_no_comma}
 use Rattle.otel_context.proofs.BaggageEscapes.{escaped_no_semicolon, length-escaped}
@@ -39,8 +40,8 @@ metadata_lacks_comma (b ∷ bs) h = h
 member_lacks_comma : (t : Member) → IsValidMember t → HasNoComma t → Lacks 44 (member_text t)
 member_lacks_comma t good none =
     let p = λ (b : ℕ). not (b == 44) in
-    list_all-append p t.key (61 ∷ escaped t.value ++ metadata_text t.metadata) (key_lacks_comma t.key good.0)
-    (list_all-append p (escaped t.value) (metadata_text t.metadata) (escaped_no_comma t.value) (metadata_lacks_comma t.metadata none))
+    list_all-both p t.key (61 ∷ escaped t.value ++ metadata_text t.metadata) (key_lacks_comma t.key good.0)
+    (list_all-both p (escaped t.value) (metadata_text t.metadata) (escaped_no_comma t.value) (metadata_lacks_comma t.metadata none))
 
 -- ---- the text of a member determines it
 

@@ -1,12 +1,9 @@
 -- How attributes that are set in turn make up those that were set so far, and what makes the event of an error.
-use Rattle.std.proofs.Common.{◌≡◌, ℕ, List, ◌++◌, length, take, fold, sym, ap, ◌∙◌, arith, length-append, Bool, true}
-use Rattle.std.proofs.lemmas.Grind.{common_steps}
+use Rattle.std.proofs.Common.{◌≡◌, ℕ, List, length, take, fold, sym, ap, ◌∙◌, arith, length-append, Bool, true}
+use Rattle.std.proofs.Math.Seq.{take-append_seam}
 use Rattle.std.specs.Prelude.{Option, Result, Ok, Err, OnOk, OnErr, IfSome, codes}
 use Rattle.otel_base.specs.KeyValue.{Attribute}
 use Rattle.otel_context.specs.SpanEffects.{message, RecordsError, SetSoFar, SetsBeginning}
-
-take_append : {A : Type 0} (xs ys : List A) → take (length xs) (xs ++ ys) ≡ xs
-take_append xs ys = grind (arith, common_steps)
 
 module _ {S : Type 0} (after : S → Attribute → S) (old : S) (attributes : List Attribute) where
   -- those set so far are a beginning
@@ -14,7 +11,7 @@ module _ {S : Type 0} (after : S → Attribute → S) (old : S) (attributes : Li
   set_some now done left h = record {
     count = length done;
     within = omega (arith, ap length h.parts, length-append done left);
-    set = h.set ∙ ap (fold after old) (sym (ap (take (length done)) h.parts ∙ take_append done left));
+    set = h.set ∙ ap (fold after old) (sym (ap (take (length done)) h.parts ∙ take-append_seam done left));
   }
 
   pub set_some_err : {A E : Type 0} (r : Result A E) (now new : S) (done left : List Attribute) → SetSoFar after old attributes now done left → new ≡ now

@@ -1,11 +1,12 @@
 -- The digits that the crate `hex` writes and reads.
-use Rattle.std.proofs.Common.{◌≡◌, ℕ, zero, suc, ◌+◌, ◌-◌, ◌*◌, ◌/◌, ◌%◌, ◌^◌, ◌<◌, ◌==◌, Bool, true, false, ◌&&◌, List, [], ◌∷◌, length, drop, get_or, slice_index, Option, Some, None, unwrap_or, Result, Ok, Err, refl, sym, ap, ◌∙◌, arith, inl, inr, pow-suc}
+use Rattle.std.proofs.Common.{◌≡◌, ℕ, zero, suc, ◌+◌, ◌-◌, ◌*◌, ◌/◌, ◌%◌, ◌^◌, ◌<◌, ◌==◌, true, false, List, [], ◌∷◌, length, drop, get_or, slice_index, Option, Some, None, unwrap_or, Result, Ok, Err, refl, sym, ap, ◌∙◌, arith, inl, pow-suc}
 use Rattle.std.specs.Char.{digit_value}
 use Rattle.std.specs.Int.{byte_worth, sum_through}
 use Rattle.std.specs.List.{flat_map}
 use Rattle.std.specs.Str.Parse.{AllDigits}
 use Rattle.std.specs.Result.{result_unwrap_or}
-use Rattle.std.proofs.lemmas.Bool.{and_parts, cases_lt, eqb-true}
+use Rattle.std.proofs.lemmas.Bool.{agree_below_at, eqb-true}
+use Rattle.std.proofs.lemmas.Nat.{mul-add-lt}
 use Rattle.std.proofs.lemmas.List.{drop_all, drop_more, length-drop}
 use Rattle.hex.specs.declared.error.FromHexError.{FromHexError}
 use Rattle.hex.specs.Hex.{lower_digits, encode_with, encode_lower, decode_pairs, decode_sized, digit_or_error, hex_digit_value, pair_value, value_at, ◌>>=◌}
@@ -17,22 +18,8 @@ use Rattle.otel_ids.proofs.Numerals.{powers}
 
 -- ---- digits that are written
 
--- whether all numbers below n pass the test, which computes
-abbrev all_below : (ℕ → Bool) → ℕ → Bool
-all_below test zero = true
-all_below test (suc n) = test n && all_below test n
-
-passes : (test : ℕ → Bool) (n i : ℕ) → all_below test n ≡ true → i < n → test i ≡ true
-passes test zero i h below = absurd (omega arith)
-passes test (suc n) i h below =
-    let parts = and_parts (test n) (all_below test n) h in
-    elim (cases_lt i n) [
-      | inl less ↦ passes test n i parts.1 less
-      | inr top ↦ let e : i ≡ n = omega arith in rw e parts.0
-    ]
-
 spelled : (d : ℕ) → d < 16 → slice_index lower_digits d ≡ digit_glyph false d
-spelled d below = eqb-true (slice_index lower_digits d) (digit_glyph false d) (passes (λ n. slice_index lower_digits n == digit_glyph false n) 16 d refl below)
+spelled d below = eqb-true (slice_index lower_digits d) (digit_glyph false d) (agree_below_at (λ n. slice_index lower_digits n == digit_glyph false n) (λ n. true) 16 d refl below)
 
 -- two digits for each byte
 pub encoded : (bytes : List ℕ) → ((i : ℕ) → get_or bytes i 0 < 256) → encode_lower bytes ≡ flat_map two_digits bytes
@@ -65,7 +52,7 @@ low_code c v h = grind (arith)
 
 digit_is : (c v : ℕ) → hex_digit_value c ≡ Some v → digit_value c ≡ v
 digit_is c v h =
-    let same = eqb-true (unwrap_or (hex_digit_value c) (digit_value c)) (digit_value c) (passes (λ n. unwrap_or (hex_digit_value n) (digit_value n) == digit_value n) 103 c refl (low_code c v h)) in
+    let same = eqb-true (unwrap_or (hex_digit_value c) (digit_value c)) (digit_value c) (agree_below_at (λ n. unwrap_or (hex_digit_value n) (digit_value n) == digit_value n) (λ n. true) 103 c refl (low_code c v h)) in
     sym (ap (λ o. unwrap_or o (digit_value c)) (sym h) ∙ same)
 
 digit_small : (c v : ℕ) → hex_digit_value c ≡ Some v → v < 16
@@ -82,9 +69,6 @@ record AreRead (text bytes : List ℕ) : Type 0 where
 
 joined : (high low byte p q r number worth : ℕ) → high * 16 + low ≡ byte → q ≡ p * 16 → r ≡ p → number ≡ worth → high * q + (low * p + number) ≡ byte * r + worth
 joined high low byte p q r number worth e f g h = rw (← e, f, g, h) (grind arith)
-
-below_all : (byte p rest : ℕ) → byte < 256 → rest < p → byte * p + rest < p * 256
-below_all byte p rest h k = grind arith
 
 pairs_read : (i : ℕ) (text bytes : List ℕ) → decode_pairs i text ≡ Ok bytes → AreRead text bytes
 unfolding decode_pairs
@@ -107,7 +91,7 @@ pairs_read i (a ∷ b ∷ text) bytes h =
       hex = (omega (arith, d), (omega (arith, e), r.hex));
       twice = let t = r.twice in omega arith;
       is = rw (d.0, e.0) (joined high.0 low.0 pair.0 _ _ _ _ _ byte (pow-suc 16 (length text)) p r.is);
-      fits = rw (pow-suc 256 (length rest.0)) (below_all _ _ _ (omega (arith, byte, d, e)) r.fits);
+      fits = rw (pow-suc 256 (length rest.0)) (mul-add-lt _ _ _ _ (omega (arith, byte, d, e)) r.fits);
     })
 
 byte_worth_is : (k b : ℕ) → b * 256 ^ k ≡ byte_worth k b

@@ -10,7 +10,7 @@ use Rattle.percent_encoding.specs.Percent.{percent_encode_byte, percent_decode}
 use Rattle.percent_encoding.proofs.PercentLemmas.{percent_decode-nil, percent_decode-percent_encode_byte, percent_decode_not_percent}
 use Rattle.otel_context.proofs.BaggageEscapes.{no_percent}
 use Rattle.otel_context.specs.BaggageText.{is_unreserved, escape, escaped_byte, escaped}
-use Rattle.otel_context.proofs.BaggageCuts.{list_all-append}
+use Rattle.otel_context.proofs.BaggageCuts.{list_all-both}
 
 abbrev is_byte : ℕ → Bool
 is_byte b = nat_lt b 256
@@ -28,7 +28,7 @@ all_chars : (cs : List ℕ) → scalars cs ≡ true → list_all is_byte (encode
 all_chars [] h = refl
 all_chars (c ∷ cs) h =
     let a = and_parts (scalar c) (scalars cs) h in
-    list_all-append is_byte (encode c) (encodes cs) (one_char c a.0) (all_chars cs a.1)
+    list_all-both is_byte (encode c) (encodes cs) (one_char c a.0) (all_chars cs a.1)
 
 utf8_bytes : (bs : List ℕ) → IsUtf8 bs → list_all is_byte bs ≡ true
 utf8_bytes bs u = subst (λ (x : List ℕ). list_all is_byte x ≡ true) u.1.1 (all_chars u.0 u.1.0)
@@ -57,7 +57,7 @@ bytes_written : (bs : List ℕ) → list_all is_byte bs ≡ true → list_all is
 bytes_written [] h = refl
 bytes_written (b ∷ bs) h =
     let a = and_parts (is_byte b) (list_all is_byte bs) h in
-    list_all-append is_written (escaped_byte b) (escaped bs) (byte_written b (ltb-true b 256 a.0)) (bytes_written bs a.1)
+    list_all-both is_written (escaped_byte b) (escaped bs) (byte_written b (ltb-true b 256 a.0)) (bytes_written bs a.1)
 
 pub all_written : (bs : List ℕ) → IsUtf8 bs → list_all is_written (escaped bs) ≡ true
 all_written bs u = bytes_written bs (utf8_bytes bs u)

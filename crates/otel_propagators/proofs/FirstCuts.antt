@@ -1,21 +1,15 @@
 -- Where a text is cut at the first byte that passes a test, and a text that has no such byte.
-use Rattle.std.proofs.Common.{◌≡◌, ℕ, suc, ◌+◌, ◌<◌, Bool, true, false, List, [], ◌∷◌, ◌++◌, length, take, drop, get_or, refl, subst, sym, ap, ◌∙◌, arith, All, inl, inr}
+use Rattle.std.proofs.Common.{◌≡◌, ℕ, ◌+◌, ◌<◌, Bool, true, false, List, [], ◌∷◌, ◌++◌, length, take, drop, get_or, refl, subst, sym, ap, ◌∙◌, arith, All, inl, inr}
 use Rattle.std.specs.Prelude.{not, IsUtf8}
 use Rattle.std.specs.List.{list_all, list_any, position_or_len, before_first, after_first}
-use Rattle.std.proofs.lemmas.Bool.{cases_Bool, and_parts, and_from, or_parts, or_from, or_left, or_right, not-true, not_from_false, false≢true}
+use Rattle.std.proofs.lemmas.Bool.{cases_Bool, and_parts, and_from, or_parts, or_from, or_left, or_right, not-true, not_from_false}
+use Rattle.std.proofs.Math.Seq.{take-append_seam, drop-append-add, get_or-append_seam}
 use Rattle.std.proofs.lemmas.List.{take_all, drop_all}
 use Rattle.std.proofs.lemmas.List.Sums.{AllPass-from_list_all, split_at_first, passes_at_first}
 use Rattle.std.proofs.lemmas.Str.{IsUtf8-nil, IsUtf8-take, IsUtf8-drop, IsCharBoundary-before_ascii, IsCharBoundary-after_ascii}
 use Rattle.otel_ids.specs.Text.{is_blank, ends_in_blank, cut_front, cut_end, cut_blanks}
 use Rattle.otel_ids.proofs.Cuts.{cut_end-kept}
-
-take_front : (xs ys : List ℕ) → take (length xs) (xs ++ ys) ≡ xs
-take_front [] ys = refl
-take_front (x ∷ xs) ys = ap (λ (r : List ℕ). x ∷ r) (take_front xs ys)
-
-drop_front : (xs : List ℕ) (y : ℕ) (ys : List ℕ) → drop (length xs + 1) (xs ++ y ∷ ys) ≡ ys
-drop_front [] y ys = refl
-drop_front (x ∷ xs) y ys = let e : length (x ∷ xs) + 1 ≡ suc (length xs + 1) = omega arith in rw e (drop_front xs y ys)
+use Rattle.otel_ids.proofs.Readings.{place_of_any}
 
 module _ (p : ℕ → Bool) where
   pub none_append : (xs ys : List ℕ) → list_any p xs ≡ false → list_any p ys ≡ false → list_any p (xs ++ ys) ≡ false
@@ -48,22 +42,11 @@ module _ (p : ℕ → Bool) where
   place_at [] y ys h t = rw t refl
   place_at (x ∷ xs) y ys h t = let a = or_parts (p x) (list_any p xs) h in let e = place_at xs y ys a.1 t in rw a.0 (omega arith)
 
-  pub place_some : (xs : List ℕ) → list_any p xs ≡ true → position_or_len p xs < length xs
-  place_some [] h = absurd (false≢true h)
-  place_some (x ∷ xs) h =
-      elim (cases_Bool (p x)) [
-        | inl t ↦ let e : position_or_len p (x ∷ xs) ≡ 0 = rw t refl in omega arith
-        | inr f ↦ let e : position_or_len p (x ∷ xs) ≡ 1 + position_or_len p xs = rw f refl in
-            let more : list_any p xs ≡ true = rw f at h in
-            let rest = place_some xs more in
-            omega arith
-      ]
-
   pub before_at : (xs : List ℕ) (y : ℕ) (ys : List ℕ) → list_any p xs ≡ false → p y ≡ true → before_first p (xs ++ y ∷ ys) ≡ xs
-  before_at xs y ys h t = ap (λ (n : ℕ). take n (xs ++ y ∷ ys)) (place_at xs y ys h t) ∙ take_front xs (y ∷ ys)
+  before_at xs y ys h t = ap (λ (n : ℕ). take n (xs ++ y ∷ ys)) (place_at xs y ys h t) ∙ take-append_seam xs (y ∷ ys)
 
   pub after_at : (xs : List ℕ) (y : ℕ) (ys : List ℕ) → list_any p xs ≡ false → p y ≡ true → after_first p (xs ++ y ∷ ys) ≡ ys
-  after_at xs y ys h t = ap (λ (n : ℕ). drop (n + 1) (xs ++ y ∷ ys)) (place_at xs y ys h t) ∙ drop_front xs y ys
+  after_at xs y ys h t = ap (λ (n : ℕ). drop (n + 1) (xs ++ y ∷ ys)) (place_at xs y ys h t) ∙ drop-append-add xs (y ∷ ys) 1
 
   pub before_none : (xs : List ℕ) → list_any p xs ≡ false → before_first p xs ≡ xs
   before_none xs h = let e = place_none xs h in take_all (position_or_len p xs) xs (omega arith)
@@ -87,10 +70,6 @@ no_blanks xs h = ap cut_end (no_blank_front xs h) ∙ cut_end-kept xs (no_blank_
 
 -- ---- a text that is cut at an ASCII byte
 
-byte_at : (xs : List ℕ) (y : ℕ) (ys : List ℕ) → get_or (xs ++ y ∷ ys) (length xs) 0 ≡ y
-byte_at [] y ys = refl
-byte_at (x ∷ xs) y ys = byte_at xs y ys
-
 inside : (xs : List ℕ) (y : ℕ) (ys : List ℕ) → length xs < length (xs ++ y ∷ ys)
 inside [] y ys = omega arith
 inside (x ∷ xs) y ys = let h = inside xs y ys in omega arith
@@ -99,17 +78,17 @@ inside (x ∷ xs) y ys = let h = inside xs y ys in omega arith
 pub utf8_cut : (xs : List ℕ) (y : ℕ) (ys : List ℕ) → y < 128 → IsUtf8 (xs ++ y ∷ ys) → IsUtf8 xs × IsUtf8 ys
 utf8_cut xs y ys small u =
     let all = xs ++ y ∷ ys in
-    let ascii : get_or all (length xs) 0 < 128 = omega (arith, byte_at xs y ys) in
+    let ascii : get_or all (length xs) 0 < 128 = omega (arith, get_or-append_seam xs y ys 0) in
     let l = inside xs y ys in (
-      subst IsUtf8 (take_front xs (y ∷ ys)) (IsUtf8-take all (length xs) u (IsCharBoundary-before_ascii all (length xs) l ascii)),
-      subst IsUtf8 (drop_front xs y ys) (IsUtf8-drop all (length xs + 1) u (IsCharBoundary-after_ascii all (length xs) u l ascii)),
+      subst IsUtf8 (take-append_seam xs (y ∷ ys)) (IsUtf8-take all (length xs) u (IsCharBoundary-before_ascii all (length xs) l ascii)),
+      subst IsUtf8 (drop-append-add xs (y ∷ ys) 1) (IsUtf8-drop all (length xs + 1) u (IsCharBoundary-after_ascii all (length xs) u l ascii)),
     )
 
 -- what stands after the first such byte is UTF-8
 pub utf8_after : (p : ℕ → Bool) (small : (b : ℕ) → p b ≡ true → b < 128) (xs : List ℕ) → IsUtf8 xs → IsUtf8 (after_first p xs)
 utf8_after p small xs u =
     elim (cases_Bool (list_any p xs)) [
-      | inl t ↦ let place = place_some p xs t in
+      | inl t ↦ let place = place_of_any p xs t in
           let y = get_or xs (position_or_len p xs) 0 in
           (utf8_cut (before_first p xs) y (after_first p xs) (small y (passes_at_first p xs 0 place)) (subst IsUtf8 (split_at_first p xs 0 place) u)).1
       | inr f ↦ subst IsUtf8 (sym (after_none p xs f)) IsUtf8-nil

@@ -9,11 +9,6 @@ use Rattle.std.proofs.lemmas.List.Sums.{AllPass-from_list_all}
 use Rattle.otel_ids.specs.Ids.{id_text}
 use Rattle.otel_propagators.specs.Digits.{is_digit, IsDigitOf, IsNumberOf}
 
-pub length_text : (k n : ℕ) → length (id_text k n) ≡ k
-unfolding id_text
-length_text zero n = refl
-length_text (suc k) n = ap suc (length_text k n)
-
 digit_shown : (d : ℕ) → d < 16 → is_digit (digit_glyph false d) ≡ true
 digit_shown d h = agree_below_at (λ (x : ℕ). is_digit (digit_glyph false x)) (λ (x : ℕ). true) 16 d refl h
 

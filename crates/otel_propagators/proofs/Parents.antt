@@ -1,22 +1,22 @@
 -- The text of ids and flags, and its reading.
-use Rattle.std.proofs.Common.{◌≡◌, ℕ, zero, suc, ◌+◌, ◌/◌, ◌%◌, ◌^◌, ◌<◌, Bool, true, false, ◌&&◌, List, [], ◌∷◌, ◌++◌, length, take, drop, refl, sym, ap, subst, ◌∙◌, arith, Option, Some, None, inl, inr}
+use Rattle.std.proofs.Common.{◌≡◌, ℕ, suc, ◌+◌, ◌/◌, ◌%◌, ◌^◌, ◌<◌, Bool, true, false, ◌&&◌, List, [], ◌∷◌, ◌++◌, length, take, drop, refl, sym, ap, subst, ◌∙◌, arith, Option, Some, None, inl, inr}
 use Rattle.std.specs.declared.string.String.{String}
 use Rattle.std.specs.Prelude.{Result, IfOk, string_bytes, ◌==◌}
 use Rattle.std.specs.Fmt.{digit_glyph}
 use Rattle.std.specs.List.{IsSplitAt}
 use Rattle.std.specs.Str.{bytes_eq}
+use Rattle.std.proofs.Math.Seq.{drop-append-add}
 use Rattle.std.proofs.lemmas.Bool.{and_parts, eqb-true, false≢true}
 use Rattle.std.proofs.lemmas.Bool.Decides.{nat_tests}
-use Rattle.std.proofs.lemmas.List.{length-append, append-nil, take-append-drop}
+use Rattle.std.proofs.lemmas.List.{length-append, append-nil, take-append-drop, take_all, take_at}
 use Rattle.std.proofs.lemmas.Option.{cond_some}
 use Rattle.std.proofs.lemmas.Slice.Eq.{bytes_eq-Decides}
 use Rattle.otel_ids.specs.Text.{is_blank, ends_in_blank, cut_front, cut_end, cut_blanks}
 use Rattle.otel_ids.specs.Ids.{number_of, id_text, ReadsId}
 use Rattle.otel_ids.proofs.Cuts.{cut_end-kept}
-use Rattle.otel_ids.proofs.Numerals.{reads_text}
+use Rattle.otel_ids.proofs.Numerals.{length_text, reads_text}
 use Rattle.otel_propagators.specs.TraceParent.{Parent, parent_with, IsParent, parent_text, ReadsParent, numbers_in, is_parent, parent_in, parent_of, ParentsAgree, ParentReads, OneParent, ParentLength}
 use Rattle.otel_propagators.specs.Digits.{IsNumberOf, AreNumbersOf, IsParentFrom}
-use Rattle.otel_propagators.proofs.Numbering.{length_text}
 
 -- ---- one number for a text of digits
 
@@ -79,30 +79,18 @@ past_span p = 45 ∷ id_text 2 p.flags
 digits_same : (k m n : ℕ) (xs ys : List ℕ) → id_text k m ++ xs ≡ id_text k n ++ ys → (id_text k m ≡ id_text k n) × (xs ≡ ys)
 digits_same k m n xs ys e = split_same (id_text k m) (id_text k n) xs ys (length_text k m ∙ sym (length_text k n)) e
 
-take_front : (xs ys : List ℕ) (n : ℕ) → length xs ≡ n → take n (xs ++ ys) ≡ xs
-take_front [] ys n e = ap (λ (k : ℕ). take k ys) (sym e)
-take_front (x ∷ xs) ys zero e = absurd (omega arith)
-take_front (x ∷ xs) ys (suc n) e = ap (λ (r : List ℕ). x ∷ r) (take_front xs ys n (omega arith))
-
 drop_front : (xs ys : List ℕ) (n m : ℕ) → length xs ≡ n → drop (n + m) (xs ++ ys) ≡ drop m ys
-drop_front [] ys n m e = let z : n + m ≡ m = omega arith in ap (λ (k : ℕ). drop k ys) z
-drop_front (x ∷ xs) ys zero m e = absurd (omega arith)
-drop_front (x ∷ xs) ys (suc n) m e = let s : suc n + m ≡ suc (n + m) = omega arith in rw s (drop_front xs ys n m (omega arith))
+drop_front xs ys n m e = ap (λ (k : ℕ). drop (k + m) (xs ++ ys)) (sym e) ∙ drop-append-add xs ys m
 
 trace_place : (p : Parent) → take 32 (drop 3 (parent_text p)) ≡ id_text 32 p.trace_id
 unfolding parent_text
-trace_place p = take_front (id_text 32 p.trace_id) (past_trace p) 32 (length_text 32 p.trace_id)
+trace_place p = take_at (id_text 32 p.trace_id) (past_trace p) 32 (length_text 32 p.trace_id)
 
 span_place : (p : Parent) → take 16 (drop 36 (parent_text p)) ≡ id_text 16 p.span_id
 unfolding parent_text
 span_place p =
     ap (take 16) (drop_front (id_text 32 p.trace_id) (past_trace p) 32 1 (length_text 32 p.trace_id))
-    ∙ take_front (id_text 16 p.span_id) (past_span p) 16 (length_text 16 p.span_id)
-
-take_whole : (xs : List ℕ) (n : ℕ) → length xs ≡ n → take n xs ≡ xs
-take_whole [] n e = let z : n ≡ 0 = omega arith in rw z refl
-take_whole (x ∷ xs) zero e = absurd (omega arith)
-take_whole (x ∷ xs) (suc n) e = ap (λ (r : List ℕ). x ∷ r) (take_whole xs n (omega arith))
+    ∙ take_at (id_text 16 p.span_id) (past_span p) 16 (length_text 16 p.span_id)
 
 flags_place : (p : Parent) → take 2 (drop 53 (parent_text p)) ≡ id_text 2 p.flags
 unfolding parent_text
@@ -110,7 +98,7 @@ flags_place p =
     ap (take 2)
     (drop_front (id_text 32 p.trace_id) (past_trace p) 32 18 (length_text 32 p.trace_id)
     ∙ drop_front (id_text 16 p.span_id) (past_span p) 16 1 (length_text 16 p.span_id))
-    ∙ take_whole (id_text 2 p.flags) 2 (length_text 2 p.flags)
+    ∙ take_all 2 (id_text 2 p.flags) (omega (arith, length_text 2 p.flags))
 
 parent_parts : (t s f : ℕ) (p : Parent) → t ≡ p.trace_id → s ≡ p.span_id → f ≡ p.flags → parent_with t s f ≡ p
 parent_parts t s f p a b c =

@@ -1,4 +1,4 @@
-use Rattle.std.proofs.Common.{rules, ◌≡◌, ◌++◌, map, string_bytes, sym, ap, ◌∙◌}
+use Rattle.std.proofs.Common.{◌++◌, map, string_bytes, sym, ap, ◌∙◌}
 use Rattle.std.proofs.lemmas.List.{append-nil}
 use Rattle.opentelemetry.proofs.Rising.{keys_sorted}
 use Rattle.opentelemetry.proofs.propagation.HashMapStringStringExtractor.keys.Goals as goal

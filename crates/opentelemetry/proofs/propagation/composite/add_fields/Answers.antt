@@ -1,4 +1,4 @@
-use Rattle.std.proofs.Common.{rules, ap, ◌∙◌, sym, map, string_bytes}
+use Rattle.std.proofs.Common.{ap, ◌∙◌, sym, map, string_bytes}
 use Rattle.std.specs.Str.{bytes_eq}
 use Rattle.indexmap.specs.IndexSet.{insert_key, insert_all}
 use Rattle.opentelemetry.proofs.Union.{texts-insert_key}

@@ -1,4 +1,4 @@
-use Rattle.std.proofs.Common.{◌≡◌, take, [], map, string_bytes}
+use Rattle.std.proofs.Common.{◌≡◌, map, string_bytes}
 use Rattle.std.specs.Str.{bytes_eq}
 use Rattle.indexmap.specs.IndexSet.{insert_all}
 use Rattle.opentelemetry.proofs.propagation.composite.add_fields.Given as goal

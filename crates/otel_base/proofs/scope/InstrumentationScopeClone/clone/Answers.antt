@@ -1,8 +1,8 @@
 use Rattle.std.proofs.Common.{◌≡◌, map, ◌∙◌, rules}
-use Rattle.std.specs.List.{AllZip}
+use Rattle.std.specs.List.{AllZip, each_same}
 use Rattle.otel_base.specs.View.{attribute_of}
 use Rattle.otel_base.specs.InstrumentationScope.{Scope}
-use Rattle.otel_base.proofs.Walk.{cloned_pairs, cloned_numbers}
+use Rattle.otel_base.proofs.Walk.{cloned_pairs}
 use Rattle.otel_base.proofs.scope.InstrumentationScopeClone.clone.Goals as goal
 
 pub invariant_of-result : goal.invariant_of-result
@@ -13,7 +13,7 @@ invariant_of-result c =
     let pairs : map attribute_of c.in_ok-clone-4.field-0.items
     ≡ map attribute_of c.self.inside.attributes.items = cloned_pairs _ _ zip in
     let places : c.in_ok-clone-5.field-0.items ≡ c.self.inside.positions.items =
-    cloned_numbers _ _ c.in_ok-clone-5.ensures.cases.0 in
+    each_same _ _ c.in_ok-clone-5.ensures.cases.0 in
     rw (pairs, places) c.self.invariant
 
 pub returns : goal.returns

@@ -1,6 +1,4 @@
-use Rattle.std.proofs.Common.{rules, ap, ◌∙◌, sym}
-use Rattle.std.specs.List.{flat_map}
-use Rattle.opentelemetry.proofs.Union.{insert_all-first_appearances, names_all}
+use Rattle.opentelemetry.proofs.Union.{names_all}
 use Rattle.opentelemetry.proofs.propagation.composite.TextMapCompositePropagator.new.Goals as goal
 
 pub returns-clause-fields : goal.returns-clause-fields
