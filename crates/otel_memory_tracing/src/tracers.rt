@@ -1,10 +1,10 @@
 //! Calls that start spans.
 use crate::active::stack;
+use opentelemetry::StringValue;
 use opentelemetry::context::{Context, ContextStack};
-use opentelemetry::trace::{SpanBuilder, Tracer};
-use opentelemetry::{StringValue, TraceId};
+use opentelemetry::trace::{SpanBuilder, SpanContext, Tracer};
 use otel_memory_lines::Lines;
-use otel_recording::{RecordingSpan, RecordingTracer};
+use otel_recording::RecordingSpan;
 use std::alloc::{AllocError, Global};
 
 /// A tracer that takes memory for the name of each span.
@@ -20,17 +20,10 @@ impl Tracer for NamingTracer {
         &self,
         alloc: Global,
         builder: SpanBuilder,
-        parent: &Context,
+        _parent: &Context,
     ) -> Result<RecordingSpan, AllocError> {
-        let name = builder.name.into_string(alloc)?;
-        let tracer = RecordingTracer {
-            trace_id: TraceId::INVALID,
-        };
-        tracer.build_with_context(
-            alloc,
-            SpanBuilder::from_name(StringValue::from(name)),
-            parent,
-        )
+        let name = StringValue::from(builder.name.into_string(alloc)?);
+        Ok(RecordingSpan::new(alloc, SpanContext::NONE, name))
     }
 }
 

@@ -1,29 +1,8 @@
 //! Bodies of `in_span` that change what they are lent in odd ways.
-use opentelemetry::trace::{Run, Spans, TraceId, Tracer};
-use opentelemetry::{Key, StringValue};
-use otel_base::AnyValue;
-use otel_context::{Context, ContextStack, HasCurrent};
-use otel_recording::{RecordingSpan, RecordingTracer};
-use std::alloc::{AllocError, Global};
+use crate::{in_span, name_of, named};
+use opentelemetry::trace::Spans;
+use otel_context::{ContextStack, HasCurrent};
 use std::test::Fail;
-
-fn tracer() -> RecordingTracer {
-    RecordingTracer {
-        trace_id: TraceId::from(7),
-    }
-}
-
-fn named(alloc: Global, name: &'static str) -> Result<Context, AllocError> {
-    Context::new().with_value(alloc, Key::from("name"), AnyValue::from(name))
-}
-
-/// The entry `name`, or `base`.
-fn name_of(context: &Context) -> &str {
-    match context.get("name") {
-        Some(AnyValue::String(name)) => name.as_str(),
-        _ => "base",
-    }
-}
 
 /// What a body puts in the place of its own context is removed with it.
 #[test]
@@ -32,18 +11,11 @@ fn what_stands_in_place_of_the_bodys_context_is_removed(rt: HostRuntime) -> Resu
     let mut stack = ContextStack::new(alloc)?;
     let mut spans = Spans::new(alloc);
     let other = named(alloc, "other")?;
-    let result = tracer().in_span(
-        alloc,
-        &mut stack,
-        &mut spans,
-        StringValue::from("work"),
-        Run(|stack: &mut ContextStack, spans: &mut Spans<RecordingSpan>, context: Context| {
-            let _ = (spans, context);
-            let is_popped = stack.pop_id(1).is_some();
-            let position = stack.push(other);
-            (is_popped, position, name_of(stack.current()) == "other")
-        }),
-    );
+    let result = in_span(alloc, &mut stack, &mut spans, |stack, _spans, _context| {
+        let is_popped = stack.pop_id(1).is_some();
+        let position = stack.push(other);
+        (is_popped, position, name_of(stack.current()) == "other")
+    });
     assert!(rt; matches!(result, Ok(((true, Ok(1), true), 0))));
     assert_eq!(rt; stack.newest_position(), 0);
     assert_eq!(rt; name_of(stack.current()), "base");
@@ -58,21 +30,14 @@ fn a_body_may_remove_what_stood_before_it(rt: HostRuntime) -> Result<(), Fail> {
     let mut stack = ContextStack::new(alloc)?;
     let mut spans = Spans::new(alloc);
     stack.push(named(alloc, "a")?)?;
-    let result = tracer().in_span(
-        alloc,
-        &mut stack,
-        &mut spans,
-        StringValue::from("work"),
-        Run(|stack: &mut ContextStack, spans: &mut Spans<RecordingSpan>, context: Context| {
-            let _ = spans;
-            let given = stack.pop_id(1);
-            let is_a = given
-                .as_ref()
-                .is_some_and(|context| name_of(context) == "a");
-            let is_current = stack.current().span_number() == context.span_number();
-            (is_a, is_current, stack.newest_position())
-        }),
-    );
+    let result = in_span(alloc, &mut stack, &mut spans, |stack, _spans, context| {
+        let given = stack.pop_id(1);
+        let is_a = given
+            .as_ref()
+            .is_some_and(|context| name_of(context) == "a");
+        let is_current = stack.current().span_number() == context.span_number();
+        (is_a, is_current, stack.newest_position())
+    });
     assert!(rt; matches!(result, Ok(((true, true, 2), 0))));
     assert_eq!(rt; stack.newest_position(), 0);
     assert_eq!(rt; name_of(stack.current()), "base");
@@ -90,17 +55,10 @@ fn a_body_may_replace_what_it_is_lent(rt: HostRuntime) -> Result<(), Fail> {
     fresh.push(named(alloc, "x")?)?;
     fresh.push(named(alloc, "y")?)?;
     fresh.push(named(alloc, "z")?)?;
-    let result = tracer().in_span(
-        alloc,
-        &mut stack,
-        &mut spans,
-        StringValue::from("work"),
-        Run(|stack: &mut ContextStack, spans: &mut Spans<RecordingSpan>, context: Context| {
-            let _ = context;
-            *stack = fresh;
-            *spans = Spans::starting_at(alloc, 9);
-        }),
-    );
+    let result = in_span(alloc, &mut stack, &mut spans, |stack, spans, _context| {
+        *stack = fresh;
+        *spans = Spans::starting_at(alloc, 9);
+    });
     // Its context was attached at position 2, where `y` is live now.
     assert!(rt; matches!(result, Ok(((), 0))));
     assert_eq!(rt; stack.newest_position(), 3);

@@ -1,34 +1,15 @@
 //! Work that runs in a span.
-use crate::span_context;
+use crate::{InSpan, in_span, name_of, named, span_context, tracer};
 use opentelemetry::context::{Context, ContextStack};
-use opentelemetry::logs::AnyValue;
 use opentelemetry::trace::{
     Event, Link, Run, Span, SpanBuilder, SpanCause, SpanId, SpanKind, Spans, StartError, Status,
     TraceId, Tracer,
 };
 use opentelemetry::{Key, KeyValue, StringValue, Value};
-use otel_recording::{Effect, RecordingSpan, RecordingTracer};
+use otel_recording::{Effect, RecordingSpan};
 use std::alloc::{AllocError, Global};
 use std::process::Abort;
 use std::test::Fail;
-
-fn tracer() -> RecordingTracer {
-    RecordingTracer {
-        trace_id: TraceId::from(7),
-    }
-}
-
-fn named(alloc: Global, name: &'static str) -> Result<Context, AllocError> {
-    Context::new().with_value(alloc, Key::from("name"), AnyValue::from(name))
-}
-
-/// The name of the context, or the empty text.
-fn name_of(context: &Context) -> &str {
-    match context.get("name") {
-        Some(AnyValue::String(name)) => name.as_str(),
-        _ => "",
-    }
-}
 
 /// The span id of the context's span as a number.
 fn span_id_of(context: &Context) -> u64 {
@@ -39,48 +20,21 @@ fn work() -> StringValue {
     StringValue::from("work")
 }
 
-/// Runs a body in a span, and returns the span's id and number.
-fn innermost(
-    alloc: Global,
-    stack: &mut ContextStack,
-    spans: &mut Spans<RecordingSpan>,
-) -> (u64, u64) {
-    let result = tracer().in_span(
-        alloc,
-        stack,
-        spans,
-        work(),
-        Run(|stack: &mut ContextStack, spans: &mut Spans<RecordingSpan>, context: Context| {
-            let _ = (stack, spans);
-            span_id_of(&context)
-        }),
-    );
-    match result {
-        Ok((id, number)) => (id, number),
-        Err(_) => (0, 0),
-    }
-}
-
-/// The same, with a span inside.
+/// The span ids of a span and of one inside it, each with the span's number.
 fn middle(
     alloc: Global,
     stack: &mut ContextStack,
     spans: &mut Spans<RecordingSpan>,
-) -> (u64, u64, u64, u64) {
-    let result = tracer().in_span(
-        alloc,
-        stack,
-        spans,
-        work(),
-        Run(|stack: &mut ContextStack, spans: &mut Spans<RecordingSpan>, context: Context| {
-            let (inner_id, inner_number) = innermost(alloc, stack, spans);
-            (span_id_of(&context), inner_id, inner_number)
-        }),
-    );
-    match result {
-        Ok(((id, inner_id, inner_number), number)) => (id, number, inner_id, inner_number),
-        Err(_) => (0, 0, 0, 0),
-    }
+) -> InSpan<(u64, InSpan<u64>)> {
+    in_span(alloc, stack, spans, |stack, spans, context| {
+        let inner = in_span(
+            alloc,
+            stack,
+            spans,
+            |_stack, _spans, context| span_id_of(&context),
+        );
+        (span_id_of(&context), inner)
+    })
 }
 
 #[test]
@@ -88,26 +42,11 @@ fn spans_three_deep_are_children_of_each_other(rt: HostRuntime) -> Result<(), Fa
     let alloc = rt.alloc();
     let mut stack = ContextStack::new(alloc)?;
     let mut spans = Spans::new(alloc);
-    let result = tracer().in_span(
-        alloc,
-        &mut stack,
-        &mut spans,
-        work(),
-        Run(|stack: &mut ContextStack, spans: &mut Spans<RecordingSpan>, context: Context| {
-            (span_id_of(&context), middle(alloc, stack, spans))
-        }),
-    );
-    match result {
-        Ok(((outer_id, (id, number, inner_id, inner_number)), outer_number)) => {
-            assert_eq!(rt; outer_id, 1);
-            assert_eq!(rt; outer_number, 0);
-            assert_eq!(rt; id, 2);
-            assert_eq!(rt; number, 1);
-            assert_eq!(rt; inner_id, 3);
-            assert_eq!(rt; inner_number, 2);
-        }
-        Err(_) => assert!(rt; false),
-    }
+    let outer = in_span(alloc, &mut stack, &mut spans, |stack, spans, context| {
+        (span_id_of(&context), middle(alloc, stack, spans))
+    });
+    // Each span's id, what ran inside it, and its number.
+    assert!(rt; matches!(outer, Ok(((1, Ok(((2, Ok((3, 2))), 1))), 0))));
     assert_eq!(rt; stack.newest_position(), 0);
     assert_eq!(rt; spans.len(), 3);
     Ok(())
@@ -119,20 +58,10 @@ fn what_a_body_leaves_on_the_stack_stays(rt: HostRuntime) -> Result<(), Fail> {
     let mut stack = ContextStack::new(alloc)?;
     let mut spans = Spans::new(alloc);
     let left = named(alloc, "X")?;
-    let result = tracer().in_span(
-        alloc,
-        &mut stack,
-        &mut spans,
-        work(),
-        Run(|stack: &mut ContextStack, spans: &mut Spans<RecordingSpan>, context: Context| {
-            let _ = (spans, context);
-            stack.push(left).is_ok()
-        }),
-    );
-    match result {
-        Ok((is_pushed, _)) => assert!(rt; is_pushed),
-        Err(_) => assert!(rt; false),
-    }
+    let result = in_span(alloc, &mut stack, &mut spans, |stack, _spans, _context| {
+        stack.push(left).is_ok()
+    });
+    assert!(rt; matches!(result, Ok((true, _))));
     assert_eq!(rt; stack.newest_position(), 2);
     assert_eq!(rt; name_of(stack.current()), "X");
     assert_eq!(rt; stack.push(Context::new())?, 3);
@@ -145,20 +74,10 @@ fn a_body_may_detach_its_own_context(rt: HostRuntime) -> Result<(), Fail> {
     let mut stack = ContextStack::new(alloc)?;
     let mut spans = Spans::new(alloc);
     stack.push(named(alloc, "base")?)?;
-    let result = tracer().in_span(
-        alloc,
-        &mut stack,
-        &mut spans,
-        work(),
-        Run(|stack: &mut ContextStack, spans: &mut Spans<RecordingSpan>, context: Context| {
-            let _ = (spans, context);
-            stack.pop_id(2).is_some()
-        }),
-    );
-    match result {
-        Ok((is_popped, _)) => assert!(rt; is_popped),
-        Err(_) => assert!(rt; false),
-    }
+    let result = in_span(alloc, &mut stack, &mut spans, |stack, _spans, _context| {
+        stack.pop_id(2).is_some()
+    });
+    assert!(rt; matches!(result, Ok((true, _))));
     assert_eq!(rt; stack.newest_position(), 1);
     assert_eq!(rt; name_of(stack.current()), "base");
     Ok(())
@@ -169,19 +88,12 @@ fn a_body_may_take_its_span(rt: HostRuntime) -> Result<(), Fail> {
     let alloc = rt.alloc();
     let mut stack = ContextStack::new(alloc)?;
     let mut spans = Spans::starting_at(alloc, 5);
-    let result = tracer().in_span(
-        alloc,
-        &mut stack,
-        &mut spans,
-        work(),
-        Run(|stack: &mut ContextStack, spans: &mut Spans<RecordingSpan>, context: Context| {
-            let _ = stack;
-            match context.span_number() {
-                Some(number) => spans.take(number),
-                None => None,
-            }
-        }),
-    );
+    let result = in_span(alloc, &mut stack, &mut spans, |_stack, spans, context| {
+        match context.span_number() {
+            Some(number) => spans.take(number),
+            None => None,
+        }
+    });
     match result {
         Ok((Some(span), number)) => {
             assert_eq!(rt; span.name(), "work");
@@ -199,24 +111,11 @@ fn what_a_body_returns_is_handed_on(rt: HostRuntime) -> Result<(), Fail> {
     let alloc = rt.alloc();
     let mut stack = ContextStack::new(alloc)?;
     let mut spans = Spans::new(alloc);
-    let result = tracer().in_span(
-        alloc,
-        &mut stack,
-        &mut spans,
-        work(),
-        Run(|stack: &mut ContextStack, spans: &mut Spans<RecordingSpan>, context: Context| {
-            let _ = (stack, spans, context);
-            let answer: Result<(), u32> = Err(42);
-            answer
-        }),
-    );
-    match result {
-        Ok((answer, number)) => {
-            assert!(rt; answer == Err(42));
-            assert_eq!(rt; number, 0);
-        }
-        Err(_) => assert!(rt; false),
-    }
+    let result = in_span(alloc, &mut stack, &mut spans, |_stack, _spans, _context| {
+        let answer: Result<(), u32> = Err(42);
+        answer
+    });
+    assert!(rt; matches!(result, Ok((Err(42), 0))));
     Ok(())
 }
 
@@ -240,20 +139,12 @@ fn a_parent_that_is_not_current_is_the_parent(rt: HostRuntime) -> Result<(), Fai
             (
                 name_of(inside) == "parent",
                 span_id_of(inside),
-                inside.span_context().trace_id(),
+                inside.span_context().trace_id() == TraceId::from(40),
                 inside.span_number(),
             )
         }),
     );
-    match result {
-        Ok(((is_parent, span_id, trace_id, number), _)) => {
-            assert!(rt; is_parent);
-            assert_eq!(rt; span_id, 41);
-            assert!(rt; trace_id == TraceId::from(40));
-            assert!(rt; number == Some(0));
-        }
-        Err(_) => assert!(rt; false),
-    }
+    assert!(rt; matches!(result, Ok(((true, 41, true, Some(0)), 0))));
     assert_eq!(rt; name_of(stack.current()), "current");
     Ok(())
 }
@@ -271,28 +162,14 @@ fn at_the_greatest_position_the_body_runs_unattached(rt: HostRuntime) -> Result<
     let mut stack = ContextStack::new(alloc)?;
     let mut spans = Spans::new(alloc);
     fill(&mut stack)?;
-    let result = tracer().in_span(
-        alloc,
-        &mut stack,
-        &mut spans,
-        work(),
-        Run(|stack: &mut ContextStack, spans: &mut Spans<RecordingSpan>, context: Context| {
-            let _ = spans;
-            (
-                context.span_number(),
-                stack.current().has_active_span(),
-                stack.newest_position(),
-            )
-        }),
-    );
-    match result {
-        Ok(((number, is_attached, newest), span)) => {
-            assert!(rt; number == Some(span));
-            assert!(rt; !is_attached);
-            assert_eq!(rt; newest, 65534);
-        }
-        Err(_) => assert!(rt; false),
-    }
+    let result = in_span(alloc, &mut stack, &mut spans, |stack, _spans, context| {
+        (
+            context.span_number(),
+            stack.current().has_active_span(),
+            stack.newest_position(),
+        )
+    });
+    assert!(rt; matches!(result, Ok(((Some(0), false, 65534), 0))));
     assert_eq!(rt; stack.newest_position(), 65534);
     assert_eq!(rt; spans.len(), 1);
     Ok(())
@@ -304,16 +181,9 @@ fn a_table_at_its_last_number_refuses(rt: HostRuntime) -> Result<(), Fail> {
     let mut stack = ContextStack::new(alloc)?;
     let mut spans = Spans::starting_at(alloc, u64::MAX);
     let mut calls = 0;
-    let result = tracer().in_span(
-        alloc,
-        &mut stack,
-        &mut spans,
-        work(),
-        Run(|stack: &mut ContextStack, spans: &mut Spans<RecordingSpan>, context: Context| {
-            let _ = (stack, spans, context);
-            calls += 1;
-        }),
-    );
+    let result = in_span(alloc, &mut stack, &mut spans, |_stack, _spans, _context| {
+        calls += 1;
+    });
     match result {
         Err(StartError::Refused(refused)) => {
             assert!(rt; matches!(&refused.cause, SpanCause::NumbersUsedUp));
@@ -397,17 +267,10 @@ fn a_body_tells_its_span_what_happens(rt: HostRuntime) -> Result<(), Fail> {
     let alloc = rt.alloc();
     let mut stack = ContextStack::new(alloc)?;
     let mut spans = Spans::new(alloc);
-    let result = tracer().in_span(
-        alloc,
-        &mut stack,
-        &mut spans,
-        work(),
-        Run(|stack: &mut ContextStack, spans: &mut Spans<RecordingSpan>, context: Context| {
-            let _ = stack;
-            let attribute = KeyValue::new(Key::from("k"), Value::from(true));
-            context.span(spans).set_attribute(alloc, attribute)
-        }),
-    );
+    let result = in_span(alloc, &mut stack, &mut spans, |_stack, spans, context| {
+        let attribute = KeyValue::new(Key::from("k"), Value::from(true));
+        context.span(spans).set_attribute(alloc, attribute)
+    });
     match result {
         Ok((told, number)) => {
             assert!(rt; told.is_ok());
