@@ -1,8 +1,12 @@
 //! Callers of both propagators, proved from their contracts and the law alone.
-ghost use Rattle.std.specs.Prelude.{IfOk, OnOk};
-ghost use Rattle.opentelemetry.specs.Carrier.{Sets, text_map};
+ghost use Rattle.std.specs.Prelude.{◌≡◌, ◌++◌, IfOk, OnErr, false};
+ghost use Rattle.opentelemetry.specs.Carrier.{SetsBeginning, map_state, text_map};
 ghost use Rattle.opentelemetry.specs.Extraction.{Extracts};
+ghost use Rattle.opentelemetry.specs.Injection.{Injects};
+ghost use Rattle.opentelemetry.specs.Refusal.{is_refused};
+ghost use Rattle.otel_propagators.specs.BaggagePropagator.{baggage_pairs};
 ghost use Rattle.otel_propagators.specs.Laws.{ComesBack};
+ghost use Rattle.otel_propagators.specs.TraceContext.{trace_pairs};
 
 use crate::baggage::BaggagePropagator;
 use crate::laws::{every_context, headers_there_and_back};
@@ -18,8 +22,8 @@ fn inject<P: TextMapPropagator>(
     context: &Context,
     carrier: &mut HashMap<String, String>,
 ) -> Result<(), PropagationError>
-    ensures { OnOk result (Sets (text_map carrier.old.entries)
-        (P.pairs propagator.now context.now) (text_map carrier.new.entries)) }
+    ensures { Injects (P.pairs propagator.now context.now) (P.may_refuse propagator.now)
+        (map_state carrier.old.entries) (map_state carrier.new.entries) result }
 {
     propagator.inject_context(context, carrier)
 }
@@ -50,7 +54,12 @@ pub fn there_and_back(
     context: &Context,
     carrier: &mut HashMap<String, String>,
 ) -> Result<Context, PropagationError>
-    ensures { IfOk result (λ back. ComesBack context.now (text_map carrier.old.entries) back) }
+    ensures back { IfOk result (λ back.
+        ComesBack context.now (text_map carrier.old.entries) back) }
+    ensures err { OnErr result (SetsBeginning (text_map carrier.old.entries)
+        (trace_pairs context.now ++ baggage_pairs context.now) (text_map carrier.new.entries)) }
+    // Neither a propagator of these nor a map refuses.
+    ensures refused { is_refused result ≡ false }
 {
     every_context(context);
     headers_there_and_back();

@@ -13,4 +13,4 @@ returns g c =
     (carried_sameᵐ _ _ own.entry-1-1 (own.own-1.entry own.at-1-1) own.same-1-1 CarrierState (λ j r. j.1.state r.now) _)
     (after ∙ sym (ap (λ m. map_state m.entries) (c.carrier-2-1.given.1 refl)))
     c.inject_context.ensures in
-    moved.ok
+    moved
