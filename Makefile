@@ -4,14 +4,14 @@
 #   make run INPUT=F                on the file F; INPUT=- is standard input
 #   make try                        the same in seconds and unproved
 #   make example                    a service at work: the headers that it sends on, for those of examples/service and for none
-#   make test                       every proof, must-fail edit, test, vector, misuse case and failing request for memory
+#   make test                       every proof, wrong body, test, vector, misuse case and failing request for memory
 #
 # Small loops, each a part of the above:
 #
 #   make check CRATE=C              proves one crate over what earlier checks kept
 #   make tests                      the tests; CRATE=C those of one crate; TEST=T those whose path holds T
-#   make edit CRATE=C EDIT=E        sees that the prover refuses one edit, in seconds after a check of the crate
-#   make mutants                    the edits outside the gate; CRATE=C those of one crate
+#   make edit CRATE=C EDIT=E        sees that the prover refuses one wrong body, in seconds after a check of the crate
+#   make mutants                    the wrong bodies of tests/mutants; CRATE=C those of one crate
 #   make vectors                    the answers of the Rust crate
 #   make misuse                     what must not compile; CASE=NAME one case
 #   make memory                     the runs in which requests for memory fail
@@ -65,7 +65,7 @@ misuse:
 	@tests/misuse/run $(CASE)
 
 memory:
-	@for program in otel_carry otel_memory otel_memory_contexts otel_memory_propagators otel_memory_tracing; do (cd crates/$$program && rt run < /dev/null > /dev/null) || exit; done
+	@cd crates/otel_carry && rt run < /dev/null > /dev/null
 	@tests/memory/sweep
 
 long:

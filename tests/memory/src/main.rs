@@ -1,0 +1,27 @@
+//! Scenarios for runs in which memory runs out: each makes calls on fixed values, and prints their
+//! answers and what became of what they were lent.
+//!
+//! The name of a scenario is read from standard input; without one all of them run. Nothing here
+//! takes memory to print.
+#![tactic(auto)]
+
+mod context;
+mod lines;
+mod propagators;
+mod shown;
+mod tracing;
+mod values;
+
+use lines::{Lines, ROOM, wanted};
+use std::io;
+
+fn main(rt: HostRuntime) -> io::Result<()> {
+    let mut room = [0; ROOM];
+    let lines = Lines::new(&rt, wanted(rt.stdin(), &mut room)?);
+    let alloc = rt.alloc();
+    values::play(alloc, &lines);
+    context::play(alloc, &lines);
+    propagators::play(alloc, &lines);
+    tracing::play(alloc, &lines);
+    lines.written()
+}

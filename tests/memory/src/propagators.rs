@@ -1,0 +1,13 @@
+//! Carriers, propagators and composites of them.
+mod carriers;
+mod composites;
+mod headers;
+
+use crate::lines::Lines;
+use std::alloc::Global;
+
+pub fn play<R: Print>(alloc: Global, lines: &Lines<'_, R>) {
+    carriers::play(alloc, lines);
+    composites::play(alloc, lines);
+    headers::play(alloc, lines);
+}

@@ -1,0 +1,141 @@
+//! Calls on the propagators of the W3C headers.
+use crate::context::contexts::remote;
+use crate::lines::Lines;
+use crate::propagators::carriers::{carrier, injected};
+use crate::shown::Show;
+use opentelemetry::baggage::Baggage;
+use opentelemetry::context::Context;
+use opentelemetry::propagation::TextMapPropagator;
+use opentelemetry::trace::TraceState;
+use opentelemetry::{Key, StringValue};
+use otel_propagators::{BaggagePropagator, TraceContextPropagator};
+use std::alloc::{AllocError, Global};
+use std::collections::HashMap;
+
+/// The fields of a carrier that has a text of its own, and those that the propagators set.
+pub const TRACE_KEYS: [&str; 3] = ["kept", "traceparent", "tracestate"];
+
+const BAGGAGE_KEYS: [&str; 2] = ["kept", "baggage"];
+
+/// A header of each propagator.
+const TRACE_TEXTS: [(&str, &str); 2] = [
+    (
+        "traceparent",
+        "00-00000000000000000000000000000001-0000000000000002-01",
+    ),
+    ("tracestate", "a=1,b=2"),
+];
+
+const BAGGAGE_TEXTS: [(&str, &str); 1] = [("baggage", "k=v,j=w;m")];
+
+pub fn play<R: Print>(alloc: Global, lines: &Lines<'_, R>) {
+    if lines.begin("trace-context-new") {
+        match TraceContextPropagator::new(alloc) {
+            Ok(propagator) => lines.answer(&propagator.fields().count()),
+            Err(error) => lines.answer(&error),
+        }
+    }
+    if lines.begin("trace-context-inject") {
+        lines.end(inject_trace(alloc, lines));
+    }
+    if lines.begin("trace-context-extract") {
+        lines.end(extract_trace(alloc, lines));
+    }
+    play_baggage(alloc, lines);
+}
+
+fn play_baggage<R: Print>(alloc: Global, lines: &Lines<'_, R>) {
+    if lines.begin("baggage-propagator-new") {
+        match BaggagePropagator::new(alloc) {
+            Ok(propagator) => lines.answer(&propagator.fields().count()),
+            Err(error) => lines.answer(&error),
+        }
+    }
+    if lines.begin("baggage-propagator-inject") {
+        lines.end(inject_baggage(alloc, lines));
+    }
+    if lines.begin("baggage-propagator-extract") {
+        lines.end(extract_baggage(alloc, lines));
+    }
+}
+
+/// Injects into a carrier.
+fn inject<R: Print>(
+    alloc: Global,
+    lines: &Lines<'_, R>,
+    propagator: &dyn TextMapPropagator,
+    context: &Context,
+    keys: &[&str],
+) -> Result<(), AllocError> {
+    let mut carrier = carrier(alloc)?;
+    let answer = propagator.inject_context(context, &mut carrier);
+    injected(lines, answer, &carrier, keys);
+    Ok(())
+}
+
+/// A context whose remote span has the trace state.
+pub fn with_remote_span(alloc: Global, state: TraceState) -> Result<Context, AllocError> {
+    Context::new().with_remote_span_context(alloc, remote(1, state))
+}
+
+fn inject_trace<R: Print>(alloc: Global, lines: &Lines<'_, R>) -> Result<(), AllocError> {
+    let propagator = TraceContextPropagator::new(alloc)?;
+    let Ok(state) = TraceState::from_str(alloc, "a=1,b=2") else {
+        return Err(AllocError);
+    };
+    let context = with_remote_span(alloc, state)?;
+    inject(alloc, lines, &propagator, &context, &TRACE_KEYS)
+}
+
+/// A context with the pair `k=v`.
+fn with_pair(alloc: Global) -> Result<Context, AllocError> {
+    let mut baggage = Baggage::new(alloc);
+    let _ = baggage.insert(Key::from("k"), StringValue::from("v"))?;
+    Context::new().with_baggage(alloc, baggage)
+}
+
+fn inject_baggage<R: Print>(alloc: Global, lines: &Lines<'_, R>) -> Result<(), AllocError> {
+    let propagator = BaggagePropagator::new(alloc)?;
+    let context = with_pair(alloc)?;
+    inject(alloc, lines, &propagator, &context, &BAGGAGE_KEYS)
+}
+
+/// A carrier of these texts.
+fn carrier_of(
+    alloc: Global,
+    texts: &[(&str, &str)],
+) -> Result<HashMap<String, String>, AllocError> {
+    let mut carrier: HashMap<String, String> = HashMap::new(alloc);
+    for (key, value) in texts {
+        let value = String::from_str(alloc, value)?;
+        carrier.insert(String::from_str(alloc, key)?, value)?;
+    }
+    Ok(carrier)
+}
+
+fn extract_trace<R: Print>(alloc: Global, lines: &Lines<'_, R>) -> Result<(), AllocError> {
+    let propagator = TraceContextPropagator::new(alloc)?;
+    let carrier = carrier_of(alloc, &TRACE_TEXTS)?;
+    match propagator.extract_with_context(alloc, &Context::new(), &carrier) {
+        Ok(context) => lines.answer(&Show(context.span_context())),
+        Err(error) => lines.answer(&error),
+    }
+    Ok(())
+}
+
+fn extract_baggage<R: Print>(alloc: Global, lines: &Lines<'_, R>) -> Result<(), AllocError> {
+    let propagator = BaggagePropagator::new(alloc)?;
+    let carrier = carrier_of(alloc, &BAGGAGE_TEXTS)?;
+    match propagator.extract_with_context(alloc, &Context::new(), &carrier) {
+        Ok(context) => baggage_answer(lines, &context),
+        Err(error) => lines.answer(&error),
+    }
+    Ok(())
+}
+
+fn baggage_answer<R: Print>(lines: &Lines<'_, R>, context: &Context) {
+    match context.baggage() {
+        Some(baggage) => lines.answer(&Show(baggage)),
+        None => lines.answer(&"no baggage"),
+    }
+}

@@ -1,0 +1,151 @@
+//! Calls on a table of spans, and those that make its spans the active ones.
+use crate::context::contexts::remote;
+use crate::lines::Lines;
+use opentelemetry::context::{Context, ContextStack};
+use opentelemetry::trace::noop::NoopSpan;
+use opentelemetry::trace::{
+    Span, SpanCause, SpanContext, SpanRefused, Spans, TraceState, mark_span_as_active,
+};
+use std::alloc::{AllocError, Global};
+
+/// So many spans that a table takes room for them more than once.
+const MANY: u64 = 40;
+
+/// How many attachments a stack has, as many as a new one has room for.
+pub const ATTACHED: u16 = 8;
+
+pub fn play<R: Print>(alloc: Global, lines: &Lines<'_, R>) {
+    if lines.begin("spans-insert") {
+        insert(alloc, lines);
+    }
+    if lines.begin("spans-looks") {
+        lines.end(looks(alloc, lines));
+    }
+    for (name, call) in CALLS {
+        if lines.begin(name) {
+            lines.end(of_stack(alloc, lines, call));
+        }
+    }
+}
+
+/// What is asked.
+#[derive(Clone, Copy)]
+enum Call {
+    WithSpan,
+    CurrentWithSpan,
+    MarkSpanAsActive,
+}
+
+/// The scenarios, each of which begins with a stack that has to ask for more room at the next
+/// attach.
+const CALLS: [(&str, Call); 3] = [
+    ("context-with-span", Call::WithSpan),
+    ("stack-current-with-span", Call::CurrentWithSpan),
+    ("mark-span-as-active", Call::MarkSpanAsActive),
+];
+
+/// A stack that has to ask for more room at the next attach. The current context has a remote span.
+pub fn stack(alloc: Global) -> Result<ContextStack, AllocError> {
+    let mut stack = ContextStack::new(alloc)?;
+    for _ in 1..ATTACHED {
+        stack.push(Context::new())?;
+    }
+    stack.push(Context::new().with_remote_span_context(alloc, remote(1, TraceState::NONE))?)?;
+    Ok(stack)
+}
+
+/// The error of a failed request; numbers never run out here.
+pub fn error_of(cause: SpanCause) -> Result<u64, AllocError> {
+    match cause {
+        SpanCause::Memory(error) => Err(error),
+        SpanCause::NumbersUsedUp => Ok(0),
+    }
+}
+
+/// Puts in numbers, as spans, each the number that it gets, until an insert fails or so many are
+/// there. Returns the number that came back, which is how many are there, and the error.
+fn inserted(spans: &mut Spans<u64>) -> (u64, Result<u64, AllocError>) {
+    for count in 0..MANY {
+        if let Err(refused) = spans.insert(count) {
+            return (refused.span, error_of(refused.cause));
+        }
+    }
+    (MANY, Ok(MANY))
+}
+
+fn insert<R: Print>(alloc: Global, lines: &Lines<'_, R>) {
+    let mut spans = Spans::new(alloc);
+    let (count, answer) = inserted(&mut spans);
+    lines.answer_of(answer);
+    lines.due(spans.next_number() == count && spans.get(count).is_none());
+}
+
+fn looks<R: Print>(alloc: Global, lines: &Lines<'_, R>) -> Result<(), AllocError> {
+    let mut spans: Spans<u64> = Spans::new(alloc);
+    if let Err(refused) = spans.insert(7) {
+        error_of(refused.cause)?;
+    }
+    lines.free("Spans::get", &spans.get(0).is_some());
+    lines.free("Spans::get_mut", &spans.get_mut(1).is_some());
+    lines.free("Spans::take", &spans.take(0).unwrap_or(0));
+    lines.free("Spans::len", &spans.len());
+    lines.free("Spans::next_number", &spans.next_number());
+    Ok(())
+}
+
+fn of_stack<R: Print>(alloc: Global, lines: &Lines<'_, R>, call: Call) -> Result<(), AllocError> {
+    let mut stack = stack(alloc)?;
+    let mut spans = Spans::new(alloc);
+    let answer = put(alloc, &mut stack, &mut spans, call);
+    let is_put = answer.is_ok();
+    refused(lines, answer);
+    lines.due(
+        stack.newest_position() == ATTACHED
+            && spans.get(0).is_some() == is_put
+            && spans.next_number() < 2,
+    );
+    Ok(())
+}
+
+/// Makes that call, detaches what it attached, and returns the span's number.
+fn put(
+    alloc: Global,
+    stack: &mut ContextStack,
+    spans: &mut Spans<NoopSpan>,
+    call: Call,
+) -> Result<u64, SpanRefused<NoopSpan>> {
+    let span = NoopSpan::DEFAULT;
+    match call {
+        Call::WithSpan => {
+            stack.current().with_span(alloc, spans, span)?;
+            Ok(0)
+        }
+        Call::CurrentWithSpan => {
+            stack.current_with_span(spans, span)?;
+            Ok(0)
+        }
+        Call::MarkSpanAsActive => match mark_span_as_active(stack, spans, span) {
+            Ok((guard, number)) => {
+                stack.detach(guard);
+                Ok(number)
+            }
+            Err(refused) => Err(refused),
+        },
+    }
+}
+
+/// Prints the number, or the error and whether the span that came back is the one that was handed
+/// in.
+fn refused<R: Print>(lines: &Lines<'_, R>, answer: Result<u64, SpanRefused<NoopSpan>>) {
+    match answer {
+        Ok(number) => {
+            lines.answer(&number);
+            lines.due(true);
+        }
+        Err(refused) => {
+            let is_given = *refused.span.span_context() == SpanContext::NONE;
+            lines.answer_of(error_of(refused.cause));
+            lines.due(is_given);
+        }
+    }
+}
