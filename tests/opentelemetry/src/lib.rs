@@ -1,14 +1,11 @@
 //! What no clause says: worked runs, odd carriers, odd members, texts, and each call once.
 #![tactic(auto)]
 
-mod builders;
-mod extraction;
-mod injection;
-mod joins;
-mod limits;
+// Depends on: otel_recording test_support
+
+mod carry;
 mod logs;
 mod members;
-mod noop;
-mod odd;
 mod paths;
-mod runs;
+mod propagation;
+mod trace;

@@ -13,6 +13,7 @@ use opentelemetry::{Key, StringValue};
 use std::alloc::{AllocError, Global};
 use std::collections::HashMap;
 use std::process::Abort;
+use test_support::held;
 
 /// Sets the same pairs for each context, in order. Its fields are their keys.
 #[derive(Drop)]
@@ -188,6 +189,24 @@ impl Injector for CarrierRefusingOne {
     }
 }
 
+/// A carrier that refuses each text, and counts how often it was asked.
+#[derive(Drop)]
+pub struct RefusingCarrier {
+    pub texts: HashMap<String, String>,
+    pub asked: u64,
+}
+
+impl Injector for RefusingCarrier {
+    ghost use Rattle.opentelemetry.specs.Carrier.{text_map};
+
+    ghost state = { λ c. record { texts = text_map c.texts.entries; refusals = c.asked } };
+
+    fn set(&mut self, _key: &str, _value: String) -> Result<(), PropagationError> {
+        self.asked += 1;
+        Err(PropagationError::Refused)
+    }
+}
+
 /// A member that sets these pairs.
 pub fn stamps_of(alloc: Global, pairs: &[(&str, &str)]) -> Result<Stamps, AllocError> {
     let mut copies = Vec::new(alloc);
@@ -211,14 +230,6 @@ pub fn carrier_refusing_after(alloc: Global, before: usize) -> CarrierRefusingOn
         texts: HashMap::new(alloc),
         before,
         has_refused: false,
-    }
-}
-
-/// What a carrier holds under a key as it stands, or `none`.
-pub fn held<'a>(texts: &'a HashMap<String, String>, key: &str) -> &'a str {
-    match texts.get(key) {
-        Some(value) => value.as_str(),
-        None => "none",
     }
 }
 
@@ -260,31 +271,6 @@ pub fn entry<'a>(context: &'a Context, name: &str) -> &'a str {
     }
 }
 
-/// A map of these texts, put in directly.
-pub fn map_of(
-    alloc: Global,
-    pairs: &[(&str, &str)],
-) -> Result<HashMap<String, String>, AllocError> {
-    let mut texts: HashMap<String, String> = HashMap::new(alloc);
-    for (key, value) in pairs {
-        texts.insert(
-            String::from_str(alloc, key)?,
-            String::from_str(alloc, value)?,
-        )?;
-    }
-    Ok(texts)
-}
-
-/// The composite of one member that sets these pairs.
-pub fn composite_of(
-    alloc: Global,
-    pairs: &[(&str, &str)],
-) -> Result<TextMapCompositePropagator, AllocError> {
-    let mut members: Vec<Box<dyn TextMapPropagator>> = Vec::new(alloc);
-    members.push(Box::new(alloc, stamps_of(alloc, pairs)?)?)?;
-    TextMapCompositePropagator::new(alloc, members)
-}
-
 /// Asserts the names of a composite's fields, in order.
 pub fn assert_fields(rt: &impl Abort, composite: &TextMapCompositePropagator, wanted: &[&str]) {
     let mut fields = composite.fields();
@@ -292,4 +278,16 @@ pub fn assert_fields(rt: &impl Abort, composite: &TextMapCompositePropagator, wa
         assert_eq!(rt; fields.next(), Some(*name));
     }
     assert_eq!(rt; fields.next(), None);
+}
+
+/// The composite of a member for each of these lists of pairs.
+pub fn composite_of(
+    alloc: Global,
+    members: &[&[(&str, &str)]],
+) -> Result<TextMapCompositePropagator, AllocError> {
+    let mut boxed: Vec<Box<dyn TextMapPropagator>> = Vec::new(alloc);
+    for pairs in members {
+        boxed.push(Box::new(alloc, stamps_of(alloc, pairs)?)?)?;
+    }
+    TextMapCompositePropagator::new(alloc, boxed)
 }

@@ -1,5 +1,4 @@
 //! Each item under the path that the Rust crate has it at, or that the documents name.
-use std::process::Abort;
 use std::test::Fail;
 
 mod root {

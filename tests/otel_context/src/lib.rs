@@ -1,7 +1,13 @@
 //! What no clause says: worked rows, limits, printed texts, and each public call with ample memory.
 #![tactic(auto)]
 
-mod baggages;
-mod contexts;
-mod limits_of_baggages;
-mod odd_guards;
+// Depends on: otel_recording test_support
+
+mod active;
+mod baggage;
+mod context;
+mod span;
+mod span_ref;
+mod spans;
+mod stack;
+mod status;

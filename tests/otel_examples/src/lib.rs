@@ -1,30 +1,14 @@
-//! The callers at work.
+//! The callers at work, once each with ample memory.
 #![tactic(auto)]
 
-mod callers;
+// Depends on: test_support
+
+mod baggage;
 mod headers;
+mod in_span;
+mod log_bridge;
 mod mover;
-
-use opentelemetry::context::ContextStack;
-use opentelemetry::trace::Spans;
-use opentelemetry::trace::noop::NoopTracer;
-use otel_examples::in_span::handle;
-use std::process::Abort;
-use std::test::Fail;
-
-#[test]
-fn a_request_and_its_query_have_spans(rt: HostRuntime) -> Result<(), Fail> {
-    let alloc = rt.alloc();
-    let mut stack = ContextStack::new(alloc)?;
-    let mut spans = Spans::new(alloc);
-    match handle(alloc, &NoopTracer::new(), &mut stack, &mut spans) {
-        Ok((child, parent)) => {
-            assert!(rt; child == Some(1));
-            assert_eq!(rt; parent, 0);
-        }
-        Err(_) => assert!(rt; false),
-    }
-    assert_eq!(rt; spans.len(), 2);
-    assert_eq!(rt; stack.newest_position(), 0);
-    Ok(())
-}
+mod scope;
+mod service;
+mod there_and_back;
+mod trace_state;

@@ -254,3 +254,33 @@ fn lower_hex_of_a_trace_id_obeys_its_options(rt: HostRuntime) -> Result<(), Fail
     assert_eq!(rt; text.as_str(), "    ff|ff    |0000ff|0xff|0x0000ff|+ff");
     Ok(())
 }
+
+/// A number, and its text of 16 digits or more.
+const SIXTEEN: &[(u64, &str)] = &[
+    (0, "0000000000000000"),
+    (1, "0000000000000001"),
+    (0xff, "00000000000000ff"),
+    (0x4c721bf33e3caf8f, "4c721bf33e3caf8f"),
+    (u64::MAX, "ffffffffffffffff"),
+];
+
+#[test]
+fn ids_and_flags_are_printed_in_16_digits(rt: HostRuntime) -> Result<(), Fail> {
+    let alloc = rt.alloc();
+    for (number, text) in SIXTEEN {
+        let (trace, span) = (TraceId::from(*number as u128), SpanId::from(*number));
+        let printed = format!(in alloc; "{trace:016x} {span:016x}")?;
+        let want = format!(in alloc; "{text} {text}")?;
+        assert_eq!(rt; printed.as_str(), want.as_str());
+        let (trace, span) = (Lower(trace), Lower(span));
+        let printed = format!(in alloc; "{trace:016} {span:016}")?;
+        assert_eq!(rt; printed.as_str(), want.as_str());
+    }
+    let wide = TraceId::from(u128::MAX);
+    let printed = format!(in alloc; "{wide:016x}")?;
+    assert_eq!(rt; printed.as_str(), "ffffffffffffffffffffffffffffffff");
+    let (flags, lower) = (TraceFlags::new(0xa1), Lower(TraceFlags::new(0xa1)));
+    let printed = format!(in alloc; "{flags:016x} {lower:016}")?;
+    assert_eq!(rt; printed.as_str(), "00000000000000a1 00000000000000a1");
+    Ok(())
+}

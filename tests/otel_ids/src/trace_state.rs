@@ -1,10 +1,48 @@
 //! Trace states that are made, changed and walked.
+mod error;
+mod limits;
+mod reading;
+mod repeated_keys;
 
-use crate::{has_bad_key, has_bad_value, header_or_error, numbered};
 use otel_ids::{TraceState, TraceStateError};
 use std::alloc::{AllocError, Global};
 use std::hash::{DefaultHasher, Hash, Hasher};
 use std::test::Fail;
+
+/// The header of the trace state, or the text of the error.
+fn header_or_error(
+    alloc: Global,
+    outcome: Result<TraceState, TraceStateError>,
+) -> Result<String, AllocError> {
+    match outcome {
+        Ok(state) => state.header(alloc),
+        Err(TraceStateError::Memory(error)) => Err(error),
+        Err(error) => format!(in alloc; "{error}"),
+    }
+}
+
+/// The pairs `key0=value0` to one before `count`, joined by commas.
+fn numbered(alloc: Global, count: u32) -> Result<String, AllocError> {
+    let mut text = String::new(alloc);
+    for i in 0..count {
+        if i > 0 {
+            text.push(',')?;
+        }
+        let pair = format!(in alloc; "key{i}=value{i}")?;
+        text.push_str(pair.as_str())?;
+    }
+    Ok(text)
+}
+
+/// Whether the answer is the error on that key.
+fn has_bad_key(answer: &Result<TraceState, TraceStateError>, key: &str) -> bool {
+    matches!(answer, Err(TraceStateError::Key(text)) if text.as_str() == key)
+}
+
+/// Whether the answer is the error on that value.
+fn has_bad_value(answer: &Result<TraceState, TraceStateError>, value: &str) -> bool {
+    matches!(answer, Err(TraceStateError::Value(text)) if text.as_str() == value)
+}
 
 const KEYS: &[(&str, bool)] = &[
     ("123", true),

@@ -1,24 +1,14 @@
 //! The propagator of `baggage`: what is set, what is extracted.
-use opentelemetry::baggage::{Baggage, BaggageMetadata};
+mod sizes;
+
 use opentelemetry::logs::AnyValue;
 use opentelemetry::propagation::{PropagationError, TextMapPropagator};
-use opentelemetry::{Context, Key, StringValue};
+use opentelemetry::{Context, Key};
 use otel_propagators::BaggagePropagator;
 use std::alloc::{AllocError, Global};
 use std::collections::HashMap;
 use std::test::Fail;
-
-/// A key, its value and its metadata.
-pub type Member = (&'static str, &'static str, &'static str);
-
-fn baggage_of(alloc: Global, members: &[Member]) -> Result<Baggage, AllocError> {
-    let mut baggage = Baggage::new(alloc);
-    for (key, value, metadata) in members {
-        let metadata = BaggageMetadata::new(alloc, *metadata)?;
-        drop(baggage.insert_with_metadata(Key::from(*key), StringValue::from(*value), metadata)?);
-    }
-    Ok(baggage)
-}
+use test_support::{Member, baggage_of, map_of};
 
 fn memory_of(error: PropagationError) -> AllocError {
     drop(error);
@@ -37,11 +27,7 @@ pub fn injected(alloc: Global, context: &Context) -> Result<String, AllocError> 
 
 /// What is extracted into the context of a carrier with this header.
 pub fn extracted(alloc: Global, context: &Context, header: &str) -> Result<Context, AllocError> {
-    let mut carrier: HashMap<String, String> = HashMap::new(alloc);
-    carrier.insert(
-        String::from_str(alloc, "baggage")?,
-        String::from_str(alloc, header)?,
-    )?;
+    let carrier = map_of(alloc, &[("baggage", header)])?;
     let propagator = BaggagePropagator::new(alloc)?;
     propagator
         .extract_with_context(alloc, context, &carrier)
@@ -183,15 +169,7 @@ fn a_comma_in_metadata_divides(rt: HostRuntime) -> Result<(), Fail> {
 fn the_empty_text_is_set_without_a_baggage(rt: HostRuntime) -> Result<(), Fail> {
     let alloc = rt.alloc();
     assert!(rt; injected(alloc, &Context::new())?.is_empty());
-    let mut carrier: HashMap<String, String> = HashMap::new(alloc);
-    carrier.insert(
-        String::from_str(alloc, "baggage")?,
-        String::from_str(alloc, "old=1")?,
-    )?;
-    carrier.insert(
-        String::from_str(alloc, "other")?,
-        String::from_str(alloc, "stays")?,
-    )?;
+    let mut carrier = map_of(alloc, &[("baggage", "old=1"), ("other", "stays")])?;
     let propagator = BaggagePropagator::new(alloc)?;
     propagator
         .inject_context(&Context::new(), &mut carrier)
@@ -243,11 +221,7 @@ fn without_the_header_the_given_context_comes_back(rt: HostRuntime) -> Result<()
     let propagator = BaggagePropagator::new(alloc)?;
     // A map of texts holds its keys as they stand, and `Baggage` isn't the lower case.
     for key in ["Baggage", "baggages", "tracestate"] {
-        let mut carrier: HashMap<String, String> = HashMap::new(alloc);
-        carrier.insert(
-            String::from_str(alloc, key)?,
-            String::from_str(alloc, "a=1")?,
-        )?;
+        let carrier = map_of(alloc, &[(key, "a=1")])?;
         let context = propagator
             .extract_with_context(alloc, &given, &carrier)
             .map_err(memory_of)?;

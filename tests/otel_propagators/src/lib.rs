@@ -1,8 +1,9 @@
 //! What no clause says: the headers' worked rows, and each call once.
 #![tactic(auto)]
 
+// Depends on: test_support
+
 mod baggage;
-mod baggage_sizes;
+mod service;
 mod there_and_back;
 mod trace_context;
-mod trace_context_form;

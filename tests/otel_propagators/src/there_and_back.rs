@@ -4,7 +4,6 @@ use opentelemetry::baggage::{Baggage, BaggageMetadata};
 use opentelemetry::propagation::{PropagationError, TextMapCompositePropagator, TextMapPropagator};
 use opentelemetry::trace::{SpanContext, SpanId, TraceFlags, TraceId, TraceState};
 use opentelemetry::{Context, Key, StringValue};
-use otel_propagators::there_and_back::there_and_back;
 use otel_propagators::{BaggagePropagator, TraceContextPropagator};
 use std::alloc::{AllocError, Global};
 use std::collections::HashMap;
@@ -259,21 +258,6 @@ fn what_is_extracted_is_injected_again_as_the_same_headers(rt: HostRuntime) -> R
     Ok(())
 }
 
-#[test]
-fn the_proved_caller_gives_the_context_back(rt: HostRuntime) -> Result<(), Fail> {
-    let alloc = rt.alloc();
-    let trace = TraceContextPropagator::new(alloc)?;
-    let baggage = BaggagePropagator::new(alloc)?;
-    for row in ROWS {
-        let sent = context_of(alloc, row)?;
-        let mut carrier = HashMap::new(alloc);
-        let back = given(there_and_back(alloc, &trace, &baggage, &sent, &mut carrier))?;
-        assert_headers(&rt, &carrier, row.headers, Way::InTurn);
-        assert_comes_back(&rt, alloc, &back, row)?;
-    }
-    Ok(())
-}
-
 /// Blanks at the end of a trace state's value are cut by reading (RFC 7230, section 3.2.3), so they
 /// don't come back, and the second header is shorter than the first.
 #[test]
@@ -320,9 +304,10 @@ fn a_comma_in_metadata_begins_another_member(rt: HostRuntime) -> Result<(), Fail
 fn an_older_traceparent_stays_without_a_valid_span(rt: HostRuntime) -> Result<(), Fail> {
     let alloc = rt.alloc();
     let older = &ROWS[0];
-    let trace = TraceContextPropagator::new(alloc)?;
-    let baggage = BaggagePropagator::new(alloc)?;
     let mut carrier = inject(alloc, Way::InTurn, false, &context_of(alloc, older)?)?;
-    let back = there_and_back(alloc, &trace, &baggage, &Context::new(), &mut carrier);
-    assert_comes_back(&rt, alloc, &given(back)?, older)
+    for composite in &composites(alloc, Way::InTurn, false)? {
+        given(composite.inject_context(&Context::new(), &mut carrier))?;
+    }
+    let back = extract(alloc, Way::InTurn, false, &carrier)?;
+    assert_comes_back(&rt, alloc, &back, older)
 }

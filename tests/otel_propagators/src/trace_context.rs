@@ -1,4 +1,6 @@
 //! The propagator of `traceparent` and `tracestate`: what is set, what is extracted.
+mod traceparent;
+
 use opentelemetry::logs::AnyValue;
 use opentelemetry::propagation::{PropagationError, TextMapPropagator};
 use opentelemetry::trace::{SpanContext, SpanId, TraceFlags, TraceId, TraceState};
@@ -8,20 +10,10 @@ use std::alloc::{AllocError, Global};
 use std::collections::HashMap;
 use std::process::Abort;
 use std::test::Fail;
+use test_support::{held, map_of};
 
 /// Trace id 1, span id 1, and the flag `sampled`.
 pub const TRACEPARENT: &str = "00-00000000000000000000000000000001-0000000000000001-01";
-
-fn map_of(alloc: Global, texts: &[(&str, &str)]) -> Result<HashMap<String, String>, AllocError> {
-    let mut map = HashMap::new(alloc);
-    for (key, value) in texts {
-        map.insert(
-            String::from_str(alloc, *key)?,
-            String::from_str(alloc, *value)?,
-        )?;
-    }
-    Ok(map)
-}
 
 /// A context with an entry and a span context of ids 7 and 7 with a trace state.
 fn given(alloc: Global) -> Result<Context, AllocError> {
@@ -115,13 +107,6 @@ fn inject(alloc: Global, span_context: SpanContext) -> Result<HashMap<String, St
         Ok(()) => Ok(carrier),
         Err(PropagationError::Memory(error)) => Err(error),
         Err(PropagationError::Refused) => Err(AllocError),
-    }
-}
-
-fn held<'a>(carrier: &'a HashMap<String, String>, key: &str) -> &'a str {
-    match carrier.get(key) {
-        Some(value) => value.as_str(),
-        None => "none",
     }
 }
 
@@ -244,5 +229,33 @@ fn the_fields_are_in_order(rt: HostRuntime) -> Result<(), Fail> {
     assert_eq!(rt; fields.next(), Some("traceparent"));
     assert_eq!(rt; fields.next(), Some("tracestate"));
     assert_eq!(rt; fields.next(), None);
+    Ok(())
+}
+
+/// 32 pairs with keys and values of 256 bytes, and the commas between them: the longest header.
+fn longest(alloc: Global) -> Result<String, AllocError> {
+    let key = "k".repeat(alloc, 254)?;
+    let value = "v".repeat(alloc, 256)?;
+    let mut text = String::new(alloc);
+    for number in 10..42u32 {
+        let comma = if number == 10 { "" } else { "," };
+        text.push_str(format!(in alloc; "{comma}{number}{key}={value}")?.as_str())?;
+    }
+    Ok(text)
+}
+
+#[test]
+fn the_longest_tracestate_goes_there_and_back(rt: HostRuntime) -> Result<(), Fail> {
+    let alloc = rt.alloc();
+    let text = longest(alloc)?;
+    assert_eq!(rt; text.len(), 16447);
+    let sent = inject(alloc, remote(alloc, (1, 1, 1), text.as_str())?)?;
+    assert_eq!(rt; held(&sent, "traceparent"), TRACEPARENT);
+    assert_eq!(rt; held(&sent, "tracestate"), text.as_str());
+    let texts = [("traceparent", TRACEPARENT), ("tracestate", text.as_str())];
+    assert_extracted(&rt, alloc, texts.as_slice(), Some((1, 1, 1, text.as_str())))?;
+    let arrived = extract(alloc, &Context::new(), texts.as_slice())?;
+    let sent_on = inject(alloc, arrived.span_context().clone()?)?;
+    assert_eq!(rt; held(&sent_on, "tracestate"), text.as_str());
     Ok(())
 }

@@ -1,0 +1,26 @@
+//! Maps of texts.
+use std::alloc::{AllocError, Global};
+use std::collections::HashMap;
+
+/// A map of these texts, put in directly.
+pub fn map_of(
+    alloc: Global,
+    pairs: &[(&str, &str)],
+) -> Result<HashMap<String, String>, AllocError> {
+    let mut texts: HashMap<String, String> = HashMap::new(alloc);
+    for (key, value) in pairs {
+        texts.insert(
+            String::from_str(alloc, key)?,
+            String::from_str(alloc, value)?,
+        )?;
+    }
+    Ok(texts)
+}
+
+/// What a map holds under a key as it stands, or `none`.
+pub fn held<'a>(texts: &'a HashMap<String, String>, key: &str) -> &'a str {
+    match texts.get(key) {
+        Some(value) => value.as_str(),
+        None => "none",
+    }
+}
