@@ -15,7 +15,7 @@ Left = Option (ℕ × ContextRecord)
 abbrev last_context : ContextRecord → List Left → ContextRecord
 last_context base lefts = last_or base (map (λ a. a.1) (filter_map (λ left. left) lefts))
 
--- what stands last in a list of what is left, where anything is left
+-- the last of a list of what is left, if anything is left
 record IsLast (lefts : List Left) (context : ContextRecord) : Type 0 where
   number : ℕ
   position : ℕ

@@ -1,4 +1,4 @@
--- Runs of as many attaches as there are positions.
+-- Runs with as many attaches as there are positions.
 use Rattle.std.proofs.Common.{◌≡◌, ℕ, zero, suc, ◌+◌, ◌≤◌, false, List, [], ◌∷◌, ◌++◌, length, Some, None, refl, sym, ap, ◌∙◌, subst, arith, append_assoc, append-nil, add-zero, zero-add}
 use Rattle.std.specs.Prelude.{◌↔◌, map, slice_set}
 use Rattle.std.specs.List.{list_any, enumerate_from, range_with_len}
@@ -83,7 +83,7 @@ in_order_is contexts few = record {
   legal : Legal (attaches contexts) (in_order (length contexts))
   legal = legal-attaches contexts few
 
--- the places from `a` on, so many, without what stands there
+-- the list with the `n` places from `a` on cleared
 abbrev clear_from : ℕ → ℕ → List Left → List Left
 clear_from a zero lefts = lefts
 clear_from a (suc n) lefts = clear_from (a + 1) n (slice_set lefts a None)

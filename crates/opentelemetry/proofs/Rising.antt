@@ -1,4 +1,4 @@
--- The keys of a map of strings in rising order.
+-- The keys of a map of strings in ascending order.
 use Rattle.std.proofs.Common.{◌≡◌, ℕ, List, [], ◌∷◌, Bool, false, cond, refl, sym, ap, subst, ◌∙◌, string_bytes, map, is_some, Bor, Option, None, Some}
 use Rattle.std.specs.Cmp.Lexicographic.{slice_cmp, texts_ties, nat_list_eq_equiv, on_texts}
 use Rattle.std.specs.List.{list_any, dedup, dedup_from, IsDistinct, AllByRecursion}
@@ -62,7 +62,7 @@ pub dedup-distinct : {X : Type 0} (e : X → X → Bool) → ((x y : X) → e x 
 dedup-distinct e flips [] h = refl
 dedup-distinct e flips (x ∷ xs) h = dedup_from-distinct e flips x xs h
 
--- what a sort of the keys, lent as texts, leaves
+-- what a sort of the keys, borrowed as texts, leaves
 pub keys_sorted : {A S : Type 0} (m : HashMap (String A) (String A) S) (xs ys : List (Bor (List ℕ))) →
     hash.IsUnique string_eq m → map (λ x. x.now) xs ≡ map string_bytes (hash.keys m) →
     IsPermutation xs ys → IsSorted (λ x y. slice_cmp nat_cmp x.now y.now) ys →

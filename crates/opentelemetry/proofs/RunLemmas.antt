@@ -19,7 +19,7 @@ use Rattle.opentelemetry.specs.declared.carry.event.AttachOutcome.TheVariants.{A
 use Rattle.otel_context.proofs.LiveLemmas.{detach-above}
 use Rattle.opentelemetry.proofs.CurrentLemmas.{current_is}
 
--- an attachment, or the lack of one
+-- an attachment, or none
 abbrev pub Left : Type 0
 Left = Option (ℕ × ContextRecord)
 
@@ -46,7 +46,7 @@ left_by-more k (Attach c ∷ events) [] more n = absurd (let h : suc (attaches_o
 left_by-more k (Attach c ∷ events) (x ∷ outcomes) more n =
     ap (λ (l : List Left). (if list_any (detaches k) events then None else attachment_of x c) ∷ l) (left_by-more (k + 1) events outcomes more (let h : suc (attaches_of events) ≤ suc (length outcomes) = n in omega arith))
 
--- the list without what stands at `n`, where its first place is `k`
+-- the list without what stands at `n`, if its first place is `k`
 abbrev cleared : ℕ → ℕ → List Left → List Left
 cleared n k [] = []
 cleared n k (x ∷ xs) = (if n == k then None else x) ∷ cleared n (k + 1) xs
@@ -217,7 +217,7 @@ stands-attach done outcomes places stack context o place s allowed lawful is = r
 pub left_by-detached : (n : ℕ) (done : List StackEvent) (outcomes : List AttachOutcome) → left_by 0 (done ++ Detach n ∷ []) outcomes ≡ slice_set (left_by 0 done outcomes) n None
 left_by-detached n done outcomes = left_by-detach 0 n done outcomes ∙ cleared-at n 0 n (left_by 0 done outcomes) (omega arith)
 
--- where a place is kept, an attachment at it is left
+-- if a place is kept, an attachment at it is left
 at_place : (xs : List Left) (n p : ℕ) → slice_get (map (option_map (λ a. a.0)) xs) n ≡ Some (Some p) → (context : ContextRecord) × (slice_get xs n ≡ Some (Some (p, context)))
 at_place [] n p e = absurd (cc)
 at_place (None ∷ xs) zero p e = absurd (cc)

@@ -6,8 +6,6 @@ use Rattle.std.proofs.lemmas.List.Concat.{flat_map-append}
 use Rattle.std.specs.List.{flat_map, list_any}
 use Rattle.std.specs.Option.{option_or}
 use Rattle.std.specs.Str.{bytes_eq, str_to_ascii_lowercase}
-use Rattle.std.specs.FinMap as fin
-use Rattle.std.specs.Cmp.Lexicographic.{nat_list_cmp_total}
 use Rattle.opentelemetry.specs.Carrier.{CarrierState, Pairs, TextMap, at, last_value, Sets, SetsBeginning}
 use Rattle.opentelemetry.specs.Injection.{Injects}
 use Rattle.opentelemetry.specs.declared.propagation.error.PropagationError.{PropagationError}
@@ -46,7 +44,7 @@ module _ {X A : Type 0} (f : X → List A) where
       ap (flat_map f) (sym (take-append-drop (i + 1) xs)) ∙ flat_map-append f (take (i + 1) xs) (drop (i + 1) xs)
       ∙ ap (λ r. r ++ flat_map f (drop (i + 1) xs)) (flat_map-take_more xs i x h is)
 
--- a member that fails leaves a beginning of what all would set
+-- a member that fails leaves a prefix of what all would set
 pub begins_all : {X : Type 0} (f : X → Pairs) (xs ys : List X) (i : ℕ) (x : X) (a b c : TextMap) → xs ≡ ys → i < length xs → x ≡ get_or xs i x →
     Sets a (flat_map f (take i xs)) b → SetsBeginning b (f x) c → SetsBeginning a (flat_map f ys) c
 begins_all f xs ys i x a b c same h is s t =
@@ -94,18 +92,10 @@ injects_all f may xs ys i a b t same h sets le = record {
   count = le;
 }
 
--- the same where the carrier is known by another name
+-- the same if the carrier is known by another name
 pub injects_moved : {T : Type 0} (r : Result T PropagationError) (a b c d : CarrierState) (ps : Pairs) (may : Bool) → a ≡ c → b ≡ d → Injects ps may a b r → Injects ps may c d r
 injects_moved r a b c d ps may p q h = subst (λ x. Injects ps may c x r) q (subst (λ x. Injects ps may x b r) p h)
 
--- where no pair is set the map stays
-pub sets_none : (a b : TextMap) → Sets a [] b → b ≡ a
-sets_none a b s = fin.same_map nat_list_cmp_total (fin.slice_cmp-IsAntisymmetric fin.nat_cmp-IsAntisymmetric) b a (λ q. s.at_key q)
-
--- past the last of no members the map is as it was
-pub sets_without : {X : Type 0} (f : X → Pairs) (xs ys : List X) (i : ℕ) (a b : TextMap) → xs ≡ ys → length xs ≤ i → Sets a (flat_map f (take i xs)) b → ys ≡ [] → b ≡ a
-sets_without f xs ys i a b same h s none = sets_none a b (rw none at (sets_all f xs ys i a b same h s))
-
--- texts that stay do so where the carrier is known by another name
+-- texts that stay do so if the carrier is known by another name
 pub texts_moved : (a b c d : CarrierState) → a ≡ c → b ≡ d → b.texts ≡ a.texts → d.texts ≡ c.texts
 texts_moved a b c d p q h = ap (λ s. s.texts) (sym q) ∙ h ∙ ap (λ s. s.texts) p

@@ -10,7 +10,7 @@ use Rattle.opentelemetry.specs.declared.carry.event.StackEvent.TheVariants.{Atta
 use Rattle.opentelemetry.specs.declared.carry.event.AttachOutcome.{AttachOutcome}
 use Rattle.opentelemetry.specs.declared.carry.event.AttachOutcome.TheVariants.{Attached, Full, NoMemory}
 
--- `Survives` where the first attach of the events has the number `k`
+-- `Survives` if the first attach of the events has the number `k`
 record Kept (k : ℕ) (events : List StackEvent) (outcomes : List AttachOutcome) (j position : ℕ) (context : ContextRecord) : Type 0 where
   index : ℕ
   attach : slice_get events index ≡ Some (Attach context)
@@ -44,7 +44,8 @@ left_is false (Attached p) c context position e = let h : (p, c) ≡ (position, 
 left_is false Full c context position e = absurd (cc)
 left_is false NoMemory c context position e = absurd (cc)
 
--- what holds of the events after `index` holds of those after the next index, once there is one more event before
+-- what holds of the events after `index` holds of those after the next index, once there is one
+-- more event before
 later-suc : (e : StackEvent) (events : List StackEvent) (index m : ℕ) → ((l : ℕ) → index < l → slice_get events l ≡ Some (Detach m) → ⊥) → (later : ℕ) → suc index < later → slice_get (e ∷ events) later ≡ Some (Detach m) → ⊥
 later-suc e events index m kept zero h d = omega arith
 later-suc e events index m kept (suc l) h d = kept l (omega arith) d

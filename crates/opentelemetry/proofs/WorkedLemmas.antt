@@ -1,4 +1,4 @@
--- The runs that are worked by hand.
+-- The runs worked by hand.
 use Rattle.std.proofs.Common.{ℕ, ◌+◌, ◌<◌, List, [], ◌∷◌, refl, arith}
 use Rattle.otel_context.specs.Stack.{last_position}
 use Rattle.otel_context.specs.Context.{ContextRecord}
@@ -16,7 +16,7 @@ legal-none = record { one_each = refl; each = λ place context at. cc }
 next : (newest : ℕ) → newest < last_position → IsOutcome newest (Attached (newest + 1))
 next newest h = (h, refl)
 
--- after attaches alone
+-- after attaches only
 one : (a : ContextRecord) → Legal (Attach a ∷ []) (Attached 1 ∷ [])
 one a = legal-attach [] [] a (Attached 1) legal-none (next 0 (omega arith))
 

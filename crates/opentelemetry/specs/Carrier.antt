@@ -13,11 +13,12 @@ use Rattle.std.specs.declared.string.String.{String}
 abbrev pub Pairs : Type 0
 Pairs = List (List ℕ × List ℕ)
 
+-- a finite map from texts to texts, in the order of the bytes of its keys
 abbrev pub TextMap : Type 0
 TextMap = fin.FinMap (slice_cmp nat_cmp) (List ℕ)
 
--- What a carrier that texts are put into means: its texts, and how often it has refused one of
--- itself. No running program holds the count: contracts alone see it. Not in the Rust crate.
+-- What a carrier that texts are written to means: its texts, and how often it has itself refused
+-- one. The count exists only in contracts. Not in the Rust crate.
 pub record CarrierState : Type 0 where
   pub texts : TextMap
   pub refusals : ℕ
@@ -39,27 +40,29 @@ last_value (p ∷ ps) k =
     option_or (last_value ps k) (if bytes_eq (lower p.0) k then Some p.1 else None)
 
 -- `new` is `old` with the pairs set: a key that is the lower case of a pair's key has the value of
--- the last such pair, and every other key stays (the crate's `Injector`, for ASCII letters).
+-- the last such pair, and every other key is unchanged (the Rust crate's `Injector`, for ASCII
+-- letters).
 pub record Sets (old : TextMap) (pairs : Pairs) (new : TextMap) : Type 0 where
   pub at_key : (k : List ℕ) → at new k ≡ option_or (last_value pairs k) (at old k)
 
--- `new` is `old` with a beginning of the pairs set. Not in the Rust crate.
+-- `new` is `old` with a prefix of the pairs set. Not in the Rust crate.
 pub record SetsBeginning (old : TextMap) (pairs : Pairs) (new : TextMap) : Type 0 where
   pub done : Pairs
   pub left : Pairs
   pub split : pairs ≡ done ++ left
   pub sets : Sets old done new
 
--- what an extractor has under a key: the value of its lower case (the crate's `Extractor`, for ASCII
--- letters). Of the texts `foo` = 1 and `Bar` = 2 there is 1 under `Foo`, and none under `Bar`.
+-- the value that an extractor has for a key: that of its lower case (the Rust crate's `Extractor`,
+-- for ASCII letters). Of the texts `foo` = 1 and `Bar` = 2 there is 1 for `Foo`, and none for
+-- `Bar`.
 abbrev pub get : TextMap → List ℕ → Option (List ℕ)
 get m k = at m (lower k)
 
--- all values that an extractor has under a key: the one, or none (the crate's `Extractor`)
+-- all values that an extractor has for a key: the one, or none (the Rust crate's `Extractor`)
 abbrev pub get_all : TextMap → List ℕ → Option (List (List ℕ))
 get_all m k = option_map (λ v. v ∷ []) (get m k)
 
--- the texts are the keys of the map, as they stand, in rising order of their bytes
+-- the texts are the keys of the map, as they are stored, in ascending order of their bytes
 pub record AreKeys (m : TextMap) (keys : List (List ℕ)) : Type 0 where
   pub rising : IsStrictlySortedBy (slice_cmp nat_cmp) keys
   pub each : (k : List ℕ) → is_some (at m k) ≡ list_any (bytes_eq k) keys
@@ -72,6 +75,6 @@ text_pair p = (string_bytes p.0, string_bytes p.1)
 abbrev pub text_map : {A : Type 0} → List (String A × String A) → TextMap
 text_map es = fin.from_entries (map text_pair es)
 
--- a map of strings as a carrier: it never refuses a text of itself
+-- a map of strings as a carrier: it never itself refuses a text
 abbrev pub map_state : {A : Type 0} → List (String A × String A) → CarrierState
 map_state es = record { texts = text_map es; refusals = 0 }

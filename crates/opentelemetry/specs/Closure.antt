@@ -1,18 +1,19 @@
--- What a closure leaves that runs in a span.
+-- What a closure that runs in a span leaves.
 use Rattle.std.specs.Prelude.{◌≡◌}
 use Rattle.std.specs.Borrow.{MutBor}
 use Rattle.std.specs.Fn.{Once}
 
 module _ (Stack Spans Context : Type 0) where
-  -- what the closure is lent: a stack and a table for writing, and a context
+  -- what the closure is given: mutable borrows of a stack and a table, and a context
   abbrev pub Lent : Type 0
   Lent = MutBor Stack × (MutBor Spans × (Context × Unit {0}))
 
-  -- what it gives back: what it returns, and what it was lent for writing
+  -- what it leaves: what it returns, and the two mutable borrows
   abbrev pub Left : Type 0 → Type 0
   Left Out = Out × (MutBor Stack × (MutBor Spans × Unit {0}))
 
--- called once on this stack, this table and this context, the closure returns that and leaves these
+-- called once on this stack, this table and this context, the closure returns `out` and leaves
+-- `left` and `left_spans`
 pub record CallLeaves {F Out Stack Spans Context : Type 0}
     (g : Once F (Lent Stack Spans Context) (Left Stack Spans Context Out)) (f : F)
     (stack : Stack) (spans : Spans) (context : Context)

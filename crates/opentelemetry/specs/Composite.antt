@@ -19,32 +19,32 @@ abbrev pub pairs_of : {I : Type 0} {D : I → Type 0} → (DynBox I Global D →
     → TextMapCompositePropagator I D → ContextRecord → Pairs
 pairs_of pairs c context = flat_map (λ m. pairs m context) (members_of c)
 
--- it may refuse where some member may (not in the Rust crate)
+-- it may refuse if one of its members may (not in the Rust crate)
 abbrev pub may_refuse_of : {I : Type 0} {D : I → Type 0} → (DynBox I Global D → Bool)
     → TextMapCompositePropagator I D → Bool
 may_refuse_of may_refuse c = list_any may_refuse (members_of c)
 
 -- The context that its members extract from the texts, each starting from the context of the one
--- before, the first from the given one (the crate's `TextMapCompositePropagator`).
+-- before, the first from the given one (the Rust crate's `TextMapCompositePropagator`).
 abbrev pub extracted_of : {I : Type 0} {D : I → Type 0}
     → (DynBox I Global D → ContextRecord → TextMap → ContextRecord)
     → TextMapCompositePropagator I D → ContextRecord → TextMap → ContextRecord
 extracted_of extracted c context texts =
     fold (λ given m. extracted m given texts) context (members_of c)
 
--- The texts without those that stand before, so in order of first appearance: of (`b`, `a`, `a`,
--- `c`, `b`) these are `b`, `a`, `c`.
+-- The texts, each once, in order of first appearance: of (`b`, `a`, `a`, `c`, `b`) these are `b`,
+-- `a`, `c`.
 abbrev pub first_appearances : List (List ℕ) → List (List ℕ)
 first_appearances [] = []
 first_appearances (x ∷ xs) = x ∷ filter (λ y. not (bytes_eq x y)) (first_appearances xs)
 
--- the fields of its members, in order of first appearance (the crate's `TextMapCompositePropagator`,
--- which leaves the order open)
+-- the fields of its members, in order of first appearance (the Rust crate's
+-- `TextMapCompositePropagator`, which leaves the order open)
 abbrev pub fields_of : {I : Type 0} {D : I → Type 0} → (DynBox I Global D → List (List ℕ))
     → TextMapCompositePropagator I D → List (List ℕ)
 fields_of fields c = first_appearances (flat_map (λ m. fields m) (members_of c))
 
--- the names of fields that it keeps, in order
+-- the names of the fields that it keeps, in order
 abbrev pub kept_fields : {I : Type 0} {D : I → Type 0} → TextMapCompositePropagator I D
     → List (List ℕ)
 kept_fields c = map string_bytes c.fields.keys

@@ -13,7 +13,7 @@ use Rattle.otel_base.specs.KeyValueLaws.{attribute_eq-Decides}
 use Rattle.otel_ids.specs.SpanContext.{SpanContextRecord}
 use Rattle.otel_ids.specs.Equal.{contexts_eq, contexts_eq-Decides}
 
--- the name, the moment in nanoseconds since 1970, the attributes in order, and how many were left out
+-- the name, the time in nanoseconds since 1970, the attributes in order, and how many were dropped
 -- [the Rust crate's `Event`]
 pub record EventRecord : Type 0 where
   pub name : List ℕ
@@ -21,8 +21,8 @@ pub record EventRecord : Type 0 where
   pub attributes : List Attribute
   pub dropped_attributes_count : ℕ
 
--- the span context of the other span, the attributes in order, and how many were left out
--- [the Rust crate's `Link`]
+-- the span context of the other span, the attributes in order, and how many were dropped [the Rust
+-- crate's `Link`]
 pub record LinkRecord : Type 0 where
   pub span_context : SpanContextRecord
   pub attributes : List Attribute
@@ -50,7 +50,7 @@ link_eq a b =
     && (attributes_eq a.attributes b.attributes
     && nat_eq a.dropped_attributes_count b.dropped_attributes_count)
 
--- ---- each test holds just where the records are equal
+-- ---- each test holds exactly if the records are equal
 abbrev HasSameParts : EventRecord → EventRecord → Type 0
 HasSameParts a b =
     (a.name ≡ b.name) × ((a.timestamp ≡ b.timestamp)

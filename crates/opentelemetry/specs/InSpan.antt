@@ -9,23 +9,24 @@ use Rattle.otel_context.specs.Spans.{SpansState, HasSameSpans, insert, refusal}
 use Rattle.opentelemetry.specs.declared.trace.in_span.StartError.{StartError}
 use Rattle.opentelemetry.specs.declared.trace.in_span.StartError.TheVariants.{Build, Refused}
 
--- what a call of a body may leave: by the stack, the table and the context that it is lent, what it
--- returns, and the stack and the table that it leaves
+-- what a call of a body may leave: a relation between the stack, the table and the context that it
+-- is given, what it returns, and the stack and the table that it leaves
 abbrev pub MayLeave : Type 0 → Type 0 → Type 1
 MayLeave S Out =
     StackState → SpansState S → ContextRecord → Out → StackState → SpansState S → Type 0
 
 module _ {S : Type 0} where
-  -- a body ran once in a span, of the given parent, and its context was detached
-  -- [the Rust crate's `Tracer::in_span_with_builder_and_context`]
+  -- a body ran once in a span under the given parent, and its context was then detached [the Rust
+  -- crate's `Tracer::in_span_with_builder_and_context`]
   pub record RanInSpan {Out : Type 0} (MayBuild : S → Type 0) (context_of : S → SpanContextRecord)
       (may_leave : MayLeave S Out) (parent : ContextRecord)
       (old : StackState) (spans : SpansState S)
       (answer : Out × ℕ) (new : StackState) (new_spans : SpansState S) : Type 0 where
-    -- the span is one that the tracer may give
+    -- the span is one that the tracer may start
     pub span : S
     pub built : MayBuild span
-    -- the parent's context with it was attached, or the greatest position was live and the stack stayed
+    -- the parent's context with the span was attached, or the greatest position was live and the
+    -- stack didn't change
     pub position : ℕ
     pub lent : StackState
     pub context : ContextRecord
@@ -34,12 +35,12 @@ module _ {S : Type 0} where
     -- the body ran on that stack, on the table with the span, and on that context
     pub left : StackState
     pub ran : may_leave lent (insert spans span) context answer.0 left new_spans
-    -- what is live at that position then was removed, and the number is the span's
+    -- what was then live at that position was removed, and the number is the span's
     pub removed : Option ContextRecord
     pub detached : Detaches position left new removed
     pub number : answer.1 ≡ spans.next_number
 
-  -- a span that was built comes back, and the table has the same spans
+  -- the span that was built comes back, and the table has the same spans
   pub record IsRefused (MayBuild : S → Type 0) (old new : SpansState S) (refused : SpanRefused S)
       : Type 0 where
     pub span : S
@@ -47,7 +48,8 @@ module _ {S : Type 0} where
     pub comes_back : refused ≡ refusal old span
     pub spans : HasSameSpans old new
 
-  -- why no body ran: no span was built, and the table is as it was; or the span that was built was refused
+  -- why no body ran: no span was built and the table is unchanged, or the span that was built was
+  -- refused
   abbrev pub NotStarted : (S → Type 0) → SpansState S → SpansState S → StartError S → Type 0
   NotStarted MayBuild old new (Build e) = new ≡ old
   NotStarted MayBuild old new (Refused refused) = IsRefused MayBuild old new refused

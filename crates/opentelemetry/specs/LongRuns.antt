@@ -1,4 +1,4 @@
--- Runs of as many attaches as there are positions. Not in the Rust crate.
+-- Runs with as many attaches as there are positions. Not in the Rust crate.
 use Rattle.std.specs.Prelude.{◌≡◌, ◌↔◌, ℕ, ◌+◌, ◌≤◌, List, [], ◌∷◌, ◌++◌, length, map}
 use Rattle.std.specs.List.{enumerate_from, range_with_len}
 use Rattle.otel_context.specs.Context.{ContextRecord}
@@ -13,16 +13,16 @@ use Rattle.opentelemetry.specs.Run.{survivors, Legal}
 abbrev pub attaches : List ContextRecord → List StackEvent
 attaches contexts = map (λ context. Attach context) contexts
 
--- the detaches of so many numbers, from 0 on
+-- the detaches of the first `n` numbers, in order
 abbrev pub detaches_below : ℕ → List StackEvent
 detaches_below n = map (λ number. Detach number) (range_with_len 0 n)
 
--- so many accepted attaches, at the positions from 1 on
+-- the outcomes of `n` accepted attaches, at the positions from 1 on
 abbrev pub in_order : ℕ → List AttachOutcome
 in_order n = map (λ position. Attached position) (range_with_len 1 n)
 
--- Attaches alone, up to the limit: each is accepted, at the positions from 1 on, and all survive.
--- One more attach is `Full` exactly where they are 65534.
+-- Only attaches, up to the limit: each is accepted, at the positions from 1 on, and all survive.
+-- One more attach is `Full` exactly if there are 65534.
 pub record IsInOrder (contexts : List ContextRecord) : Type 0 where
   pub legal : Legal (attaches contexts) (in_order (length contexts))
   pub all : survivors (attaches contexts) (in_order (length contexts)) ≡ enumerate_from 1 contexts
@@ -31,14 +31,16 @@ pub record IsInOrder (contexts : List ContextRecord) : Type 0 where
       (in_order (length contexts) ++ outcome ∷ [])
       → (outcome ≡ Full) ↔ (length contexts ≡ last_position)
 
+-- `IsInOrder` holds for any contexts, at most 65534 of them
 abbrev pub AttachesInOrder : Type 0
 AttachesInOrder =
     (contexts : List ContextRecord) → length contexts ≤ last_position → IsInOrder contexts
 
--- 65534 attaches, the last one apart, and one more
+-- 65534 attaches, the last given apart, and one more
 abbrev pub filled : List ContextRecord → ContextRecord → ContextRecord → List StackEvent
 filled contexts last x = attaches contexts ++ Attach last ∷ [] ++ Attach x ∷ []
 
+-- the outcomes of `filled`: the last attach but one has position 65534, and the last is `Full`
 abbrev pub filled_outcomes : List ContextRecord → List AttachOutcome
 filled_outcomes contexts = in_order (length contexts) ++ Attached last_position ∷ [] ++ Full ∷ []
 
@@ -72,6 +74,7 @@ pub record IsBegunAgain (contexts : List ContextRecord) (last x y z : ContextRec
       (filled_outcomes contexts ++ Full ∷ [] ++ Attached 1 ∷ [])
       ≡ (1, z) ∷ []
 
+-- `IsBegunAgain` holds for any contexts, 65533 of them before `last`
 abbrev pub FilledAndBegunAgain : Type 0
 FilledAndBegunAgain = (contexts : List ContextRecord) (last x y z : ContextRecord)
     → length contexts + 1 ≡ last_position → IsBegunAgain contexts last x y z

@@ -1,3 +1,4 @@
+-- What holds after each event of a run. No public contract cites this file. Not in the Rust crate.
 use Rattle.std.specs.Prelude.{◌≡◌, ℕ, ◌+◌, List, [], ◌∷◌, ◌++◌, map, Option, option_map}
 use Rattle.otel_context.specs.Context.{ContextRecord}
 use Rattle.otel_context.specs.Stack.{StackState, current, IsLawful}
@@ -16,8 +17,8 @@ after_attach old (Attached position) context = record {
 after_attach old Full context = old
 after_attach old NoMemory context = old
 
--- what holds when the events so far are done: the outcomes, the position of each attach while it is
--- live, and the stack are theirs
+-- what holds after the events so far: the outcomes, the position of each attach while it is live,
+-- and the stack are those of the events
 pub record Stands
     (events : List StackEvent) (outcomes : List AttachOutcome)
     (kept : List (Option ℕ)) (stack : StackState) : Type 0 where

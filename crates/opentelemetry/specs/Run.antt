@@ -1,6 +1,6 @@
 -- What a run of attaches and detaches means, by the numbers of its attaches. Not in the Rust crate.
 -- The attaches of a list of events are numbered from 0, in order. Each has an outcome, and the
--- outcomes stand in that order.
+-- outcomes are in that order.
 use Rattle.std.specs.Prelude.{◌≡◌, ◌≢◌, ◌⊎◌, ℕ, ◌+◌, ◌<◌, ◌≤◌, ◌==◌, if◌then◌else◌, Bool, true, false, List, [], ◌∷◌, length, take, filter, slice_get, Option, Some, None, IfSome}
 use Rattle.std.specs.List.{list_any, filter_map}
 use Rattle.otel_context.specs.Context.{ContextRecord, empty_context}
@@ -10,6 +10,7 @@ use Rattle.opentelemetry.specs.declared.carry.event.StackEvent.TheVariants.{Atta
 use Rattle.opentelemetry.specs.declared.carry.event.AttachOutcome.{AttachOutcome}
 use Rattle.opentelemetry.specs.declared.carry.event.AttachOutcome.TheVariants.{Attached, Full, NoMemory}
 
+-- whether the event is an attach
 abbrev pub is_attach : StackEvent → Bool
 is_attach (Attach context) = true
 is_attach (Detach number) = false
@@ -18,6 +19,7 @@ is_attach (Detach number) = false
 abbrev pub attaches_of : List StackEvent → ℕ
 attaches_of events = length (filter is_attach events)
 
+-- whether the outcome is that of an accepted attach
 abbrev pub is_attached : AttachOutcome → Bool
 is_attached (Attached position) = true
 is_attached Full = false
@@ -27,7 +29,7 @@ is_attached NoMemory = false
 abbrev pub accepted_of : List AttachOutcome → ℕ
 accepted_of outcomes = length (filter is_attached outcomes)
 
--- the event is the detach of this number
+-- whether the event is the detach of this number
 abbrev pub detaches : ℕ → StackEvent → Bool
 detaches number (Attach context) = false
 detaches number (Detach other) = other == number
@@ -39,7 +41,7 @@ attachment_of Full context = None
 attachment_of NoMemory context = None
 
 -- What is left of each attach of the events, the first of which has the number `number`: its
--- position and context where it was accepted and no event after it detaches it, else nothing.
+-- position and context if it was accepted and no event after it detaches it, and nothing otherwise.
 -- Of attach a, attach b, detach 0 with the outcomes `Attached 1`, `Attached 2` it is: nothing, then
 -- (2, b).
 abbrev pub left_by : ℕ → List StackEvent → List AttachOutcome → List (Option (ℕ × ContextRecord))
@@ -63,8 +65,8 @@ stack_of events outcomes = record {
   stepped = 0;
 }
 
--- The attach of the number `number` survives the events, at this position and with this context: it
--- is the event at `index`, its outcome is `Attached`, and no event after it detaches it.
+-- The attach with the number `number` survives the events, at this position and with this context:
+-- it is the event at `index`, its outcome is `Attached`, and no event after it detaches it.
 pub record Survives
     (events : List StackEvent) (outcomes : List AttachOutcome)
     (number position : ℕ) (context : ContextRecord) : Type 0 where
@@ -98,8 +100,8 @@ abbrev pub IsCurrent : List StackEvent → List AttachOutcome → ContextRecord 
 IsCurrent events outcomes context =
     IsLatest events outcomes context ⊎ IsBase events outcomes context
 
--- The outcome of an attach where this is the newest position: `Full` exactly at the last one;
--- `NoMemory`, that a request for memory failed, only from 8 on; else the position after the newest.
+-- The outcome of an attach if this is the newest position: `Full` exactly at the last one;
+-- `NoMemory`, for out of memory, only from 8 on; otherwise the position after the newest.
 abbrev pub IsOutcome : ℕ → AttachOutcome → Type 0
 IsOutcome newest (Attached position) = (newest < last_position) × (position ≡ newest + 1)
 IsOutcome newest Full = newest ≡ last_position

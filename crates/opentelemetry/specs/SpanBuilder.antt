@@ -5,8 +5,9 @@ use Rattle.otel_base.specs.KeyValue.{Attribute}
 use Rattle.otel_context.specs.declared.status.SpanKind.{SpanKind}
 use Rattle.opentelemetry.specs.Event.{EventRecord, LinkRecord}
 
--- which side of a call the span describes, its name, when it starts in nanoseconds since 1970, and its attributes,
--- events and links in order; `None` is left to the tracer [the Rust crate's `SpanBuilder`]
+-- which side of a call the span describes, its name, when it starts in nanoseconds since 1970, and
+-- its attributes, events and links in order; `None` is left to the tracer [the Rust crate's
+-- `SpanBuilder`]
 pub record BuilderRecord : Type 0 where
   pub span_kind : Option SpanKind
   pub name : List ℕ
@@ -15,7 +16,7 @@ pub record BuilderRecord : Type 0 where
   pub events : Option (List EventRecord)
   pub links : Option (List LinkRecord)
 
--- the builder of that name, with nothing else set [the Rust crate's `SpanBuilder::from_name`]
+-- the builder named `name` with nothing else set [the Rust crate's `SpanBuilder::from_name`]
 abbrev pub from_name : List ℕ → BuilderRecord
 from_name name = record {
   span_kind = None;
@@ -34,11 +35,12 @@ is_not_zero (suc _) = true
 abbrev pub is_valid_link : LinkRecord → Bool
 is_valid_link l = is_not_zero l.span_context.trace_id && is_not_zero l.span_context.span_id
 
--- the links with a valid span context, in order: of the ids (1, 1), (1, 0), (2, 3) the first and the third
+-- the links with a valid span context, in order: of the ids (1, 1), (1, 0), (2, 3) the first and
+-- the third
 abbrev pub valid_links : List LinkRecord → List LinkRecord
 valid_links = filter is_valid_link
 
--- the builder with these links in place of older ones, those without a valid span context left out
--- [the Rust crate's `SpanBuilder::with_links`]
+-- the builder with these links in place of earlier ones, without those whose span context isn't
+-- valid [the Rust crate's `SpanBuilder::with_links`]
 abbrev pub with_links : BuilderRecord → List LinkRecord → BuilderRecord
 with_links b links = record b { links = Some (valid_links links) }

@@ -7,6 +7,7 @@ use Rattle.opentelemetry.specs.SpanBuilder.{BuilderRecord}
 use Rattle.opentelemetry.specs.declared.trace.link.Link.{Link}
 use Rattle.opentelemetry.specs.declared.trace.span_builder.SpanBuilder.{SpanBuilder}
 
+-- an event as a record, its attributes as a list
 abbrev pub event_of : Event → EventRecord
 event_of e = record {
   name = e.name;
@@ -15,6 +16,7 @@ event_of e = record {
   dropped_attributes_count = e.dropped_attributes_count;
 }
 
+-- a link as a record, its attributes as a list
 abbrev pub link_of : Link → LinkRecord
 link_of l = record {
   span_context = l.span_context;
@@ -22,6 +24,7 @@ link_of l = record {
   dropped_attributes_count = l.dropped_attributes_count;
 }
 
+-- a builder as a record, its attributes, events and links as lists if they are set
 abbrev pub builder_of : SpanBuilder → BuilderRecord
 builder_of b = record {
   span_kind = b.span_kind;

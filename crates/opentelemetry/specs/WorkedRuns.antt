@@ -1,5 +1,5 @@
--- Runs that are worked by hand, for any contexts: what the words of a run give at their events.
--- Not in the Rust crate.
+-- Runs worked by hand, for any contexts: what the definitions of a run say of their events. Not in
+-- the Rust crate.
 use Rattle.std.specs.Prelude.{◌≡◌, List, [], ◌∷◌, take}
 use Rattle.otel_context.specs.Context.{ContextRecord, empty_context}
 use Rattle.otel_context.specs.Stack.{current}
@@ -14,6 +14,7 @@ abbrev pub three_and_one :
     ContextRecord → ContextRecord → ContextRecord → ContextRecord → List StackEvent
 three_and_one a b c d = Attach a ∷ Attach b ∷ Attach c ∷ Detach 1 ∷ Detach 2 ∷ Attach d ∷ []
 
+-- the outcomes of `three_and_one`: d gets the position that b had
 abbrev pub their_outcomes : List AttachOutcome
 their_outcomes = Attached 1 ∷ Attached 2 ∷ Attached 3 ∷ Attached 2 ∷ []
 
@@ -63,14 +64,18 @@ pub record IsOldestFirst (a b : ContextRecord) : Type 0 where
   pub all : survivors (oldest_first a b) (Attached 1 ∷ Attached 2 ∷ []) ≡ []
   pub base : current (survivors (oldest_first a b) (Attached 1 ∷ Attached 2 ∷ [])) ≡ empty_context
 
+-- `IsThreeAndOne` holds for any contexts
 abbrev pub ThreeAndOne : Type 0
 ThreeAndOne = (a b c d : ContextRecord) → IsThreeAndOne a b c d
 
+-- `IsDetachedAgain` holds for any contexts
 abbrev pub DetachedAgain : Type 0
 DetachedAgain = (a b c d : ContextRecord) → IsDetachedAgain a b c d
 
+-- `IsDetachedBefore` holds for any context
 abbrev pub DetachedBefore : Type 0
 DetachedBefore = (a : ContextRecord) → IsDetachedBefore a
 
+-- `IsOldestFirst` holds for any contexts
 abbrev pub OldestFirst : Type 0
 OldestFirst = (a b : ContextRecord) → IsOldestFirst a b

@@ -1,2 +1,2 @@
-//! Baggage: pairs of texts with metadata that travel with a request.
+//! Baggage: key-value pairs with metadata that travel with a request.
 pub use otel_context::{Baggage, BaggageMetadata, Iter, KeyValueMetadata};

@@ -19,23 +19,23 @@ pub mod laws;
 
 pub use event::{AttachOutcome, StackEvent};
 
-/// What `push` returns where no position is left.
+/// What `push` returns if no position is left.
 const FULL: u16 = 65535;
 
-/// What a run leaves.
+/// The result of a run.
 ///
 /// See [`run`].
 #[derive(Drop)]
 pub struct RunReport {
     /// The stack after the events.
     pub stack: ContextStack,
-    /// What became of each attach, in order.
+    /// The outcome of each attach, in order.
     pub outcomes: Vec<AttachOutcome>,
-    /// What the injection from the stack's current context returned.
+    /// What the injection of the stack's current context returned.
     pub injected: Result<(), PropagationError>,
 }
 
-/// Attaches the context, and returns what became of it.
+/// Attaches the context, and returns the outcome.
 fn attach(stack: &mut ContextStack, context: Context) -> AttachOutcome
     ensures outcome { IsLawful stack.old → IsOutcome (newest_position stack.old.live) result }
     ensures after { IsLawful stack.old → stack.new ≡ after_attach stack.old result context }
@@ -48,7 +48,7 @@ fn attach(stack: &mut ContextStack, context: Context) -> AttachOutcome
     }
 }
 
-/// Carries out one event. `positions` holds, for each attach so far, its position while it is live.
+/// Applies one event. `positions` holds, for each attach so far, its position while it is live.
 fn apply(
     stack: &mut ContextStack,
     positions: &mut Vec<Option<u16>>,
@@ -82,7 +82,7 @@ fn apply(
     }
 }
 
-/// Carries out the events in order.
+/// Applies the events in order.
 fn apply_all(
     stack: &mut ContextStack,
     positions: &mut Vec<Option<u16>>,
@@ -99,14 +99,14 @@ fn apply_all(
     Ok(())
 }
 
-/// What events leave.
+/// The stack and the outcomes after a list of events.
 #[derive(Drop)]
 struct Played {
     stack: ContextStack,
     outcomes: Vec<AttachOutcome>,
 }
 
-/// Carries out the events in order, from an empty stack on.
+/// Applies the events in order, starting from an empty stack.
 fn play(alloc: Global, events: Vec<StackEvent>) -> Result<Played, AllocError>
     ensures { IfOk result (λ played. (kept : List (Option ℕ))
         × Stands events.items played.outcomes.items kept played.stack) }
@@ -135,17 +135,17 @@ fn send(
     composite.inject_context(context, carrier)
 }
 
-/// Carries out the events in order, from an empty stack on, and injects from the context that is
-/// then current.
+/// Applies the events in order, starting from an empty stack, and injects the context that is then
+/// current.
 ///
-/// An attach or a detach that is refused changes nothing, and the run goes on. What the injection
-/// returns stands in the report: where it is an error, a beginning of the pairs is set in the
-/// carrier. The program `otel_carry` is a caller. Not in the Rust crate.
+/// A refused attach or detach changes nothing, and the run goes on. The report holds what the
+/// injection returned: if that is an error, a prefix of the pairs is set in the carrier. The
+/// program `otel_carry` is a caller. Not in the Rust crate.
 ///
 /// # Errors
 ///
-/// `AllocError` where the request for the memory of the stack or of the run's lists fails. The
-/// carrier stays; the events and the stack are dropped.
+/// `AllocError` if out of memory for the stack or the run's lists. The carrier is unchanged; the
+/// events and the stack are dropped.
 pub fn run(
     alloc: Global,
     events: Vec<StackEvent>,

@@ -1,2 +1,2 @@
-//! Contexts, and the stack of the attached ones.
+//! Contexts, and the stack of attached contexts.
 pub use otel_context::{Context, ContextGuard, ContextStack, HasCurrent};

@@ -1,5 +1,7 @@
-//! Contexts, baggage, ids and trace states, and the propagation of contexts through carriers of texts,
-//! after the Rust crate `opentelemetry`.
+//! Contexts, baggage, ids and trace states, and the propagation of contexts through carriers of
+//! texts, after the Rust crate `opentelemetry`.
+//!
+//! A call runs out of memory if an allocation fails or a reference count is at its limit.
 #![tactic(auto)]
 
 pub mod baggage;

@@ -1,4 +1,4 @@
-//! Logs: value trees and severities, log records, and what makes and takes records.
+//! Logs: value trees, severities, log records, loggers and their providers.
 mod logger;
 mod noop;
 mod record;

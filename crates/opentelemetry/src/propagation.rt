@@ -1,4 +1,4 @@
-//! Propagation: the carriers that texts are put into and read from, and the propagators that do so.
+//! Propagation: carriers of texts, and the propagators that write and read them.
 ghost use Rattle.std.specs.Prelude.{◌≡◌, ◌+◌, ◌∷◌, [], OnOk, OnErr, IfOk, string_bytes, if◌then◌else◌, map};
 ghost use Rattle.std.specs.Option.{option_copied, option_map};
 ghost use Rattle.opentelemetry.specs.Carrier.{CarrierState, Sets, TextMap, AreKeys, get, get_all, map_state, text_map};
@@ -16,22 +16,26 @@ pub use composite::TextMapCompositePropagator;
 pub use error::PropagationError;
 pub use text_map_propagator::TextMapPropagator;
 
-/// A carrier that texts are put into, such as the headers of a request.
+/// A carrier that texts are written to, such as the headers of a request (the Rust crate's
+/// `Injector`).
 ///
 /// Contracts see it as its `state`: a finite map of texts, and a count of its own refusals, which
-/// no running program holds. (The crate's `Injector`.)
+/// exists only in contracts.
 ///
-/// See `otel_examples::headers` for a carrier of one's own.
+/// A value may hold any character. A carrier of text lines, such as the headers of HTTP, must refuse
+/// a key or a value with a CR, LF or NUL (RFC 9110, section 5.5): otherwise the sender of a value
+/// could add headers of its own.
+///
+/// See `otel_examples::headers` for an implementation.
 pub trait Injector {
     ghost state: { Self → CarrierState };
 
-    /// Maps the key, its ASCII letters in lower case, to the value.
+    /// Maps the key, with its ASCII letters in lower case, to the value.
     ///
     /// # Errors
     ///
-    /// `Refused` where the carrier itself refuses the text, which raises its count by one; `Memory`
-    /// where a request for memory fails. After either the texts are as they were, and the value is
-    /// dropped.
+    /// `Refused` if the carrier itself refuses the text, which raises its count by one; `Memory` if
+    /// out of memory. After either, the texts are unchanged, and the value is dropped.
     fn set(&mut self, key: &str, value: String) -> Result<(), PropagationError>
         ensures ok { OnOk result (Sets (state self.old).texts
             ((key.now, string_bytes value) ∷ []) (state self.new).texts) }
@@ -39,8 +43,8 @@ pub trait Injector {
         ensures count { (state self.new).refusals
             ≡ (state self.old).refusals + (if is_refused result then 1 else 0) };
 
-    /// Hints that so many more texts are to come. Nothing that the carrier means changes, also
-    /// where a request for memory fails.
+    /// Hints that `additional` more texts will be set. The carrier's `state` doesn't change, even
+    /// if out of memory.
     fn reserve(&mut self, additional: usize)
         ensures { state self.new ≡ state self.old }
     {
@@ -48,7 +52,7 @@ pub trait Injector {
     }
 }
 
-/// A map of texts never refuses a text of itself: its count of refusals is always 0.
+/// A map of texts itself never refuses a text: its count of refusals is always 0.
 impl<S: BuildHasher> Injector for HashMap<String, String, S> {
     ghost state = { λ m. map_state m.entries };
 
@@ -64,36 +68,37 @@ impl<S: BuildHasher> Injector for HashMap<String, String, S> {
     }
 }
 
-/// A carrier that texts are read from, such as the headers of a request.
+/// A carrier that texts are read from, such as the headers of a request (the Rust crate's
+/// `Extractor`).
 ///
-/// Contracts see it as a finite map of texts, `held`. (The crate's `Extractor`.)
+/// Contracts see it as a finite map of texts, `held`.
 ///
-/// See `otel_examples::headers` for a carrier of one's own.
+/// See `otel_examples::headers` for an implementation.
 pub trait Extractor {
     ghost held: { Self → TextMap };
 
-    /// The value under the key, its ASCII letters in lower case, if there is one.
+    /// Returns the value of the key, with its ASCII letters in lower case, if there is one.
     ///
     /// # Errors
     ///
-    /// `AllocError` where a request for memory fails. Nothing changes.
+    /// `AllocError` if out of memory. Nothing changes.
     fn get(&self, alloc: Global, key: &str) -> Result<Option<&str>, AllocError>
         ensures { IfOk result (λ found. option_copied found ≡ get (held self.now) key.now) };
 
-    /// All keys as they stand, in rising order of their bytes.
+    /// Returns all keys as they are stored, in ascending order of their bytes.
     ///
     /// # Errors
     ///
-    /// `AllocError` where a request for memory fails. Nothing changes.
+    /// `AllocError` if out of memory. Nothing changes.
     fn keys(&self, alloc: Global) -> Result<Vec<&str>, AllocError>
         ensures { IfOk result (λ keys. AreKeys (held self.now) (map (λ k. k.now) keys.items)) };
 
-    /// All values under the key, its ASCII letters in lower case: by default the one that `get`
-    /// gives.
+    /// Returns all values of the key, with its ASCII letters in lower case: by default the one that
+    /// `get` returns.
     ///
     /// # Errors
     ///
-    /// `AllocError` where a request for memory fails. Nothing changes.
+    /// `AllocError` if out of memory. Nothing changes.
     fn get_all(&self, alloc: Global, key: &str) -> Result<Option<Vec<&str>>, AllocError>
         ensures { IfOk result (λ found.
             option_map (λ values. map (λ v. v.now) values.items) found

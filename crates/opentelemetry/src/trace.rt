@@ -1,4 +1,4 @@
-//! Spans and what they are made of: ids, trace states, span contexts, events, links, builders.
+//! Spans and their parts: ids, trace states, span contexts, events, links and builders.
 mod attributes;
 mod event;
 mod in_span;

@@ -154,7 +154,7 @@ pub walk_done : (xs ys : List Attribute) (is js : List ℕ) (i : ℕ) → length
     (map (slice_get ys) (drop i js)) ≡ true
 walk_done xs ys is js i h k = rw (drop_all i is h, drop_all i js k) refl
 
--- where the texts agree, the walk says all
+-- if the texts agree, the walk says all
 pub scopes_from_walk : (a b : Scope) (r : Bool) (xs ys : List KeyValue) (left right : List ℕ)
     → IsKeyOrder (map attribute_of xs) left → IsKeyOrder (map attribute_of ys) right
     → map attribute_of xs ≡ a.attributes → map attribute_of ys ≡ b.attributes → texts_eq a b ≡ true

@@ -19,7 +19,7 @@ pub record Scope : Type 0 where
   pub attributes : List Attribute
 
 -- ---- the builder
--- a scope that has a name alone (the Rust crate's `builder`)
+-- a scope that has only a name (the Rust crate's `builder`)
 abbrev pub builder : List ℕ → Scope
 builder name = record { name = name; version = None; schema_url = None; attributes = [] }
 

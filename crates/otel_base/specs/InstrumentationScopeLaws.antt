@@ -72,7 +72,7 @@ attributes_eq-Decides xs ys =
           λ i. all_agree t each xs i && all_agree t each ys i,
     )
 
--- the key orders are equal exactly where the values under each key are
+-- the key orders are equal exactly if the values under each key are
 orders_Decides : (xs ys : List Attribute)
     → Decides (pointwise KeyValue.eq (in_key_order xs) (in_key_order ys)) (SameValues xs ys)
 orders_Decides xs ys =

@@ -114,7 +114,7 @@ pub rising-in_key_order : (ps : List Attribute) → IsRising (in_key_order ps)
 rising-in_key_order [] = tt
 rising-in_key_order (p ∷ ps) = rising_insert p (in_key_order ps) (rising-in_key_order ps)
 
--- ---- one order alone
+-- ---- one order by itself
 kept_own : (p : Attribute) (ps : List Attribute)
     → filter (has_key p.0) (p ∷ ps) ≡ p ∷ filter (has_key p.0) ps
 kept_own p ps = rw (has_own_key p) refl
@@ -142,7 +142,7 @@ equal_keys Greater h k = absurd (true≢false h)
 nil_not_cons : (p : Attribute) (ps : List Attribute) → [] ≡ p ∷ ps → ⊥
 nil_not_cons p ps h = cc
 
--- the heads are one, where neither key is the greater
+-- the heads are one, if neither key is the greater
 one_head : (x y : Attribute) (xs ys : List Attribute) → is_gt (cmp x.0 y.0) ≡ false
     → is_gt (cmp y.0 x.0) ≡ false → filter (has_key x.0) (x ∷ xs) ≡ filter (has_key x.0) (y ∷ ys)
     → x ≡ y

@@ -41,19 +41,19 @@ impl AnyValue {
     ///
     /// # Errors
     ///
-    /// `AllocError` where a request for memory fails. The trees are dropped.
+    /// `AllocError` if out of memory. The trees are dropped.
     pub fn list(alloc: Global, values: Vec<AnyValue>) -> Result<AnyValue, AllocError>
         ensures { IfOk result (λ v. tree v ≡ list (trees_view values.items)) }
     {
         Ok(AnyValue::ListAny(Box::new(alloc, values)?))
     }
 
-    /// The map of the given pairs, where the last value of a key wins (the Rust crate's
+    /// Returns the map of the pairs; the last value of a key wins (the Rust crate's
     /// `FromIterator<(K, V)> for AnyValue`).
     ///
     /// # Errors
     ///
-    /// `AllocError` where a request for memory fails. The pairs are dropped.
+    /// `AllocError` if out of memory. The pairs are dropped.
     pub fn map(alloc: Global, pairs: Vec<(Key, AnyValue)>) -> Result<AnyValue, AllocError>
         ensures { IfOk result (λ v. IsMapOf (pairs_view pairs.items) (tree v)) }
     {
@@ -68,7 +68,7 @@ impl AnyValue {
     ///
     /// # Errors
     ///
-    /// `AllocError` where a request for memory fails.
+    /// `AllocError` if out of memory.
     pub fn bytes(alloc: Global, value: &[u8]) -> Result<AnyValue, AllocError>
         ensures { IfOk result (λ v. tree v ≡ bytes value.now) }
     {

@@ -14,7 +14,7 @@ use std::rc::RcStr;
 /// The key of an attribute, a context entry or a baggage entry (the Rust crate's `Key`).
 ///
 /// It means its text, the list of its UTF-8 bytes, whether that is owned, static or shared.
-/// Equality, order (by the bytes), hash and `Display` look at the text alone, so ordered and hashed
+/// Equality, order (by the bytes), hash and `Display` look at the text only, so ordered and hashed
 /// maps may be keyed by it.
 ///
 /// A text of the program is `Key::from("tenant")`. A text made at run time has to be owned:
@@ -68,7 +68,7 @@ impl Key {
     ///
     /// # Errors
     ///
-    /// `AllocError` where the request for the copy's memory fails. The text is dropped.
+    /// `AllocError` if out of memory for the copy. The text is dropped.
     pub fn into_string(self, alloc: Global) -> Result<String, AllocError>
         ensures { IfOk result (λ s. string_bytes s ≡ self) }
     {

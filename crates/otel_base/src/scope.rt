@@ -62,7 +62,7 @@ impl Model for InstrumentationScope {
 }
 
 impl InstrumentationScope {
-    /// Starts a scope of this name, without version, schema URL and attributes.
+    /// Starts a scope with that name, without version, schema URL and attributes.
     pub fn builder(name: StringValue) -> InstrumentationScopeBuilder
         ensures { result ≡ spec.builder name }
     {
@@ -292,7 +292,7 @@ impl InstrumentationScopeBuilder {
     ///
     /// # Errors
     ///
-    /// `AllocError` where there are attributes and a request for memory fails. The parts are
+    /// `AllocError` if there are attributes and memory runs out. The parts are
     /// dropped.
     pub fn build(self, alloc: Global) -> Result<InstrumentationScope, AllocError>
         ensures built { IfOk result (λ s. s ≡ self) }

@@ -17,7 +17,7 @@ use std::rc::RcStr;
 /// A text as a value (the Rust crate's `StringValue`).
 ///
 /// It means its text, the list of its UTF-8 bytes, whether that is owned, static or shared.
-/// Equality, order (by the bytes), hash and `Display` look at the text alone.
+/// Equality, order (by the bytes), hash and `Display` look at the text only.
 ///
 /// A text of the program is `StringValue::from("acme")`. A text made at run time has to be owned:
 ///
@@ -54,7 +54,7 @@ impl StringValue {
     ///
     /// # Errors
     ///
-    /// `AllocError` where the request for the copy's memory fails. The text is dropped.
+    /// `AllocError` if out of memory for the copy. The text is dropped.
     pub fn into_string(self, alloc: Global) -> Result<String, AllocError>
         ensures { IfOk result (λ s. string_bytes s ≡ self) }
     {
@@ -67,7 +67,7 @@ impl StringValue {
     ///
     /// # Errors
     ///
-    /// `AllocError` where the value is no text and a request for memory fails. The value is
+    /// `AllocError` if the value is no text and memory runs out. The value is
     /// dropped.
     pub fn from_value(alloc: Global, value: Value) -> Result<StringValue, AllocError>
         ensures text { IfOk result (λ s. s ≡ display (value_of value)) }

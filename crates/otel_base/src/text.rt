@@ -49,7 +49,7 @@ impl Text {
         }
     }
 
-    /// Takes no memory where the text is owned.
+    /// Takes no memory if the text is owned.
     pub fn into_string(self, alloc: Global) -> Result<String, AllocError>
         ensures { IfOk result (λ s. string_bytes s ≡ self) }
     {

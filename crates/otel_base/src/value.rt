@@ -96,7 +96,7 @@ impl Value {
     ///
     /// # Errors
     ///
-    /// `AllocError` where the value is no text and a request for memory fails.
+    /// `AllocError` if the value is no text and memory runs out.
     pub fn as_str(&self, alloc: Global) -> Result<CowStr<'_>, AllocError>
         ensures text { IfOk result (λ s. cow_str_bytes s ≡ spec.display (value_of self.now)) }
         ensures without_memory { IsTrue (is_text (value_of self.now)) → IsOk result }

@@ -18,8 +18,8 @@ use Rattle.otel_carry.specs.declared.failure.Failure.TheVariants.{Unreadable, No
 use Rattle.otel_carry.specs.Lines.{IsName, IsNumber, IsFault}
 use Rattle.otel_carry.specs.Members.{context_for}
 
--- the line attaches a context of this name, and with this trace state where it gives one, as
--- `attach a v=1`
+-- the line attaches a context with this name and, if it gives one, this trace state, as `attach a
+-- v=1` does
 abbrev pub IsAttachLine : List ℕ → List ℕ → Option (List Pair) → Type 0
 IsAttachLine line name None = IsName name × (line ≡ codes "attach " ++ name)
 IsAttachLine line name (Some pairs) =
@@ -27,7 +27,7 @@ IsAttachLine line name (Some pairs) =
     × ((state : List ℕ) × (line ≡ codes "attach " ++ (name ++ (32 ∷ state)))
     × ReadsState state pairs)
 
--- the line asks for this event, where so many attaches come before it
+-- the line asks for this event, after this many attaches
 abbrev pub AsksFor : ℕ → List ℕ → StackEvent → Type 0
 AsksFor attaches line (Attach context) =
     (name : List ℕ) × (state : Option (List Pair)) × IsAttachLine line name state
@@ -35,16 +35,15 @@ AsksFor attaches line (Attach context) =
 AsksFor attaches line (Detach number) =
     (digits : List ℕ) × (line ≡ codes "detach " ++ digits) × IsNumber digits number
 
--- the lines of an input: what stands between its line feeds, so that `a\n` has the lines `a` and
--- the empty one
+-- the lines of an input, split at its line feeds: `a\n` has the lines `a` and the empty one
 abbrev pub lines_of : List ℕ → List (List ℕ)
 lines_of text = slice_split (λ byte. byte == 10) text
 
--- the line isn't empty
+-- whether the line isn't empty
 abbrev pub is_asking : List ℕ → Bool
 is_asking line = not (length line == 0)
 
--- the lines that ask for something: an empty one is passed over
+-- the lines that ask for something: all but the empty ones
 abbrev pub asking : List (List ℕ) → List (List ℕ)
 asking lines = filter is_asking lines
 
@@ -56,7 +55,7 @@ pub record AskFor (lines : List (List ℕ)) (events : List StackEvent) : Type 0 
   pub each : (index : ℕ) (line : List ℕ) → slice_get (asking lines) index ≡ Some line
       → IfSome (slice_get events index) (AsksFor (attaches_of (take index events)) line)
 
--- the line has this fault: one of its form, or a trace state that has a fault by the W3C's rules
+-- the line has this fault: one of its form, or a trace state with a fault by the W3C's rules
 abbrev pub IsFaulty : List ℕ → Fault → Type 0
 IsFaulty line UnknownCommand = IsFault line UnknownCommand
 IsFaulty line BadName = IsFault line BadName
@@ -65,16 +64,16 @@ IsFaulty line BadTraceState =
     × (line ≡ codes "attach " ++ (name ++ (32 ∷ state))) × IsSome (fault_of state)
 IsFaulty line BadNumber = IsFault line BadNumber
 
--- the failure reports what is wrong with the line of this number, or that a request for memory
--- failed
+-- the failure reports what is wrong with the line with this number, or that the program is out of
+-- memory
 abbrev pub IsTold : ℕ → List ℕ → Failure → Type 0
 IsTold number line Unreadable = ⊥
 IsTold number line NotUtf8 = ⊥
 IsTold number line (Line n fault) = (n ≡ number) × IsFaulty line fault
 IsTold number line NoMemory = Unit {0}
 
--- The first faulty line has this number, 1 for the first line of the input, empty ones counted, and
--- this fault: the lines before it ask for events.
+-- The first faulty line has this number, 1 for the first line of the input, with empty ones
+-- counted, and this fault: the lines before it ask for events.
 pub record IsFirstFaulty (lines : List (List ℕ)) (number : ℕ) (fault : Fault) : Type 0 where
   pub before : ℕ
   pub number_is : number ≡ before + 1
@@ -85,21 +84,21 @@ pub record IsFirstFaulty (lines : List (List ℕ)) (number : ℕ) (fault : Fault
   pub events : List StackEvent
   pub asked : AskFor (take before lines) events
 
--- the failure reports the first faulty line, or that a request for memory failed
+-- the failure reports the first faulty line, or that the program is out of memory
 abbrev pub IsReported : List (List ℕ) → Failure → Type 0
 IsReported lines Unreadable = ⊥
 IsReported lines NotUtf8 = ⊥
 IsReported lines (Line number fault) = IsFirstFaulty lines number fault
 IsReported lines NoMemory = Unit {0}
 
--- the trace state that a line gives is read, where it gives one
+-- the trace state that a line gives is read, if it gives one
 abbrev pub AreRead : Option (Bor (List ℕ)) → Option (List Pair) → Type 0
 AreRead None None = Unit {0}
 AreRead None (Some pairs) = ⊥
 AreRead (Some text) None = ⊥
 AreRead (Some text) (Some pairs) = ReadsState text.now pairs
 
--- the trace state that a line gives has a fault, or a request for memory failed
+-- the trace state that a line gives has a fault, or the program is out of memory
 abbrev pub IsFaultIn : Option (Bor (List ℕ)) → TraceStateError → Type 0
 IsFaultIn text (errors.Memory e) = Unit {0}
 IsFaultIn None (errors.Key t) = ⊥

@@ -12,13 +12,13 @@ abbrev pub shown_of_context : ContextRecord → Extracted
 shown_of_context context =
     option_map_or (λ span. Span span.context.trace_id span.context.span_id) context.span NoSpan
 
--- of what an extraction returned: what is shown of the context, or why there is none
+-- of the result of an extraction: what is shown of the context, or why there is none
 abbrev pub shown : Result ContextRecord PropagationError → Extracted
 shown (Ok context) = shown_of_context context
 shown (Err errors.Refused) = Refused
 shown (Err (errors.Memory error)) = NoMemory
 
--- the status that the program ends with: 0 where there is a context, else 1
+-- the exit status of the program: 0 if there is a context, otherwise 1
 abbrev pub status_of : Extracted → ℕ
 status_of (Span trace_id span_id) = 0
 status_of NoSpan = 0

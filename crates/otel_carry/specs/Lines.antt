@@ -15,11 +15,11 @@ IsName name = (0 < length name) × All (λ byte. (33 ≤ byte) × (byte ≤ 126)
 abbrev pub IsNumber : List ℕ → ℕ → Type 0
 IsNumber text n = IsNumeral 10 text × (digits_value 10 text ≡ n)
 
--- what stands before the first space, as `a` in `a v=1`: all of the text where it has no space
+-- the text before the first space, as `a` in `a v=1`; all of it if it has no space
 abbrev pub first_word : List ℕ → List ℕ
 first_word text = before_first (λ byte. byte == 32) text
 
--- the text names this attach: its name alone, or its name, a space and its trace state
+-- the text names this attach: only its name, or its name, a space and its trace state
 abbrev pub IsAttach : List ℕ → Line → Type 0
 IsAttach text (Attach name None) = IsName name.now × (text ≡ name.now)
 IsAttach text (Attach name (Some state)) = IsName name.now × (text ≡ name.now ++ (32 ∷ state.now))

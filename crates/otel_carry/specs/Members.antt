@@ -8,7 +8,7 @@ use Rattle.otel_base.specs.AnyValue.{Tree, integer, text, boolean, bytes, list, 
 use Rattle.otel_context.specs.Context.{ContextRecord}
 use Rattle.opentelemetry.specs.Carrier.{Pairs}
 
--- the text of a value tree that is one
+-- the text of a value tree, if it is one
 abbrev pub text_in : Option Tree → Option (List ℕ)
 text_in None = None
 text_in (Some (integer n)) = None
@@ -18,11 +18,11 @@ text_in (Some (bytes bs)) = None
 text_in (Some (list ts)) = None
 text_in (Some (map_tree es)) = None
 
--- the name of a context: its entry `name`, where that is a text
+-- the name of a context: its entry `name`, if that is a text
 abbrev pub name_in : ContextRecord → Option (List ℕ)
 name_in context = text_in (map.get context.entries (codes "name"))
 
--- the pairs of `NameMember`: `Context-Name` with the context's name, where it has one
+-- the pairs of `NameMember`: `Context-Name` with the context's name, if it has one
 abbrev pub name_pairs : ContextRecord → Pairs
 name_pairs context = option_map_or (λ name. (codes "Context-Name", name) ∷ []) (name_in context) []
 
@@ -31,7 +31,7 @@ abbrev pub name_fields : List (List ℕ)
 name_fields = codes "Context-Name" ∷ []
 
 -- the span context of an attach with this trace state: it is remote, its ids are both `id`, and its
--- one flag is `sampled`
+-- only flag is `sampled`
 abbrev pub span_context_for : List Pair → ℕ → SpanContextRecord
 span_context_for state id = record {
   trace_id = id;
@@ -41,7 +41,7 @@ span_context_for state id = record {
   trace_state = state;
 }
 
--- The context of an attach: the empty one with the entry `name`, and where a trace state is given
+-- The context of an attach: the empty one with the entry `name` and, if a trace state is given,
 -- with the span context of that state.
 abbrev pub context_for : List ℕ → Option (List Pair) → ℕ → ContextRecord
 context_for name state id = record {

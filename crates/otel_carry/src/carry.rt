@@ -13,8 +13,8 @@ use std::alloc::Global;
 use std::collections::HashMap;
 use std::io::{self, BufWriter, Read, Write};
 
-/// Reads the input whole, runs its attaches and detaches, and writes what the run reports and what
-/// the composite extracts again from the carrier. Returns the status that the program ends with.
+/// Reads the whole input, runs its attaches and detaches, and writes the report of the run and what
+/// the composite extracts again from the carrier. Returns the exit status of the program.
 pub fn carry<R: Read + Drop, W: Write + Drop>(
     alloc: Global,
     input: R,
@@ -32,7 +32,7 @@ pub fn carry<R: Read + Drop, W: Write + Drop>(
     }
 }
 
-/// The status of a run that has a report.
+/// Reads the input, runs it, and writes the report of the run. Returns the status of the run.
 fn carried<R: Read + Drop, W: Write + Drop>(
     alloc: Global,
     input: R,
@@ -55,8 +55,8 @@ fn carried<R: Read + Drop, W: Write + Drop>(
     })
 }
 
-/// Writes the report and, where the injection was no error, what the composite extracts again from
-/// the carrier. Returns the status of the run: 1 where either was an error.
+/// Writes the report and, if the injection succeeded, what the composite extracts again from the
+/// carrier. Returns the status of the run: 1 if either was an error.
 fn write_run<W: Write>(
     alloc: Global,
     output: &mut W,

@@ -11,13 +11,13 @@ use opentelemetry::trace::{SpanContext, TraceState, TraceStateError};
 use opentelemetry::{Context, Key, SpanId, StringValue, TraceFlags, TraceId};
 use std::alloc::{AllocError, Global};
 
-/// The events of the lines, in order. Lines are ended by `\n`, which the last may lack; an empty
-/// one is skipped, but counted.
+/// Returns the events of the lines, in order. Each line ends with `\n`, which the last may lack. An
+/// empty line is skipped, but counted.
 ///
 /// # Errors
 ///
 /// `Failure::Line` for the first line that can't be carried out, with its number, 1 for the first;
-/// `Failure::NoMemory` where a request for memory fails. The events so far are dropped.
+/// `Failure::NoMemory` if out of memory. The events so far are dropped.
 pub fn events_of(alloc: Global, text: &str) -> Result<Vec<StackEvent>, Failure>
     ensures events { IfOk result (λ events. AskFor (lines_of text.now) events.items) }
     ensures failure { IfErr result (IsReported (lines_of text.now)) }
@@ -37,7 +37,7 @@ pub fn events_of(alloc: Global, text: &str) -> Result<Vec<StackEvent>, Failure>
     Ok(events)
 }
 
-/// The event that the line of this number asks for, where so many attaches stand before it.
+/// Returns the event that the line with this number asks for, after `attaches` attaches.
 fn event_of(alloc: Global, number: usize, line: &str, attaches: u64) -> Result<StackEvent, Failure>
     requires { attaches < 2 ^ 64 - 1 }
     ensures event { IfOk result (AsksFor attaches line.now) }
@@ -56,7 +56,7 @@ fn event_of(alloc: Global, number: usize, line: &str, attaches: u64) -> Result<S
     }
 }
 
-/// The trace state of the text, where there is one.
+/// Parses the trace state of the text, if there is one.
 fn read_state(alloc: Global, text: Option<&str>) -> Result<Option<TraceState>, TraceStateError>
     ensures state { IfOk result (AreRead text.entry) }
     ensures fault { IfErr result (IsFaultIn text.entry) }
@@ -67,7 +67,7 @@ fn read_state(alloc: Global, text: Option<&str>) -> Result<Option<TraceState>, T
     }
 }
 
-/// The context of the attach of this name; `id` is 1 for the first attach.
+/// Returns the context of the attach with this name; `id` is 1 for the first attach.
 fn context_of(
     alloc: Global,
     name: &str,
@@ -84,7 +84,7 @@ fn context_of(
     context.with_remote_span_context(alloc, span_context_of(state, id))
 }
 
-/// The span context of the attach of this trace state; `id` is 1 for the first attach.
+/// Returns the span context of the attach with this trace state; `id` is 1 for the first attach.
 fn span_context_of(state: TraceState, id: u64) -> SpanContext
     ensures { result ≡ span_context_for state id }
 {

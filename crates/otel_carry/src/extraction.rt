@@ -6,7 +6,7 @@ use opentelemetry::propagation::PropagationError;
 use opentelemetry::{Context, SpanId, TraceId};
 use std::fmt;
 
-/// What the program shows of an extraction. It prints the words that the program writes of it.
+/// What the program shows of an extraction. Its `Display` prints the words that the program writes.
 #[derive(Clone, Copy, Debug, PartialEq, Eq)]
 pub enum Extracted {
     /// The context has an active span, with this trace id and this span id.
@@ -15,12 +15,12 @@ pub enum Extracted {
     NoSpan,
     /// A member refused.
     Refused,
-    /// A request for memory failed.
+    /// Out of memory.
     NoMemory,
 }
 
 impl Extracted {
-    /// What is shown of what an extraction returned.
+    /// Returns what is shown of the result of an extraction.
     pub fn of(extraction: &Result<Context, PropagationError>) -> Extracted
         ensures { result ≡ shown extraction.now }
     {
@@ -31,7 +31,7 @@ impl Extracted {
         }
     }
 
-    /// The status that the program ends with: 0 where there is a context, else 1.
+    /// Returns the exit status of the program: 0 if there is a context, otherwise 1.
     pub fn status(self) -> u8
         ensures { result ≡ status_of self }
     {
@@ -53,7 +53,7 @@ impl fmt::Display for Extracted {
     }
 }
 
-/// What is shown of a context.
+/// Returns what is shown of a context.
 fn of_context(context: &Context) -> Extracted
     ensures { result ≡ shown_of_context context.now }
 {

@@ -7,7 +7,7 @@ use crate::lines::Fault;
 use std::alloc::{AllocError, AllocFailed};
 use std::fmt;
 
-/// Why there is nothing to report. It prints the one line that the program then writes.
+/// Why there is nothing to report. Its `Display` prints the one line that the program then writes.
 #[derive(Clone, Copy, Debug, PartialEq, Eq)]
 pub enum Failure {
     /// A read failed, or no read reported the end of the input.
@@ -16,12 +16,12 @@ pub enum Failure {
     NotUtf8,
     /// The first faulty line: its number, 1 for the first, and what is wrong with it.
     Line(usize, Fault),
-    /// A request for memory failed.
+    /// Out of memory.
     NoMemory,
 }
 
 impl Failure {
-    /// The status that the program ends with: 2 where the input is at fault, else 1.
+    /// Returns the exit status of the program: 2 if the input is at fault, otherwise 1.
     pub fn status(self) -> u8
         ensures { result ≡ status_of self }
     {

@@ -1,24 +1,24 @@
-//! The program's input, read whole.
+//! Reads the whole input of the program.
 ghost use Rattle.std.specs.Prelude.{IfOk, IfSome, IfErr, ◌≡◌, ◌⊎◌};
 
 use crate::failure::Failure;
 use std::alloc::Global;
 use std::io::Read;
 
-/// How many times the input is read at most, so that a reader that never ends is given up.
+/// The most reads of the input, so that a reader that never ends is given up.
 const READS: u32 = 1_048_576;
 
-/// The room that each read has, in bytes.
+/// The number of bytes that each read has room for.
 const ROOM: usize = 4096;
 
-/// All bytes that the input has left.
+/// Returns all bytes that are left of the input.
 ///
 /// It is read at most 1,048,576 times, each time with room for 4,096 bytes.
 ///
 /// # Errors
 ///
-/// `Unreadable` where a read fails, or where none of these reported the end; `NoMemory` where a
-/// request for memory fails. What was read is dropped.
+/// `Unreadable` if a read fails, or if none of these reports the end; `NoMemory` if out of memory.
+/// What was read is dropped.
 pub fn read_whole<R: Read + Drop>(alloc: Global, mut input: R) -> Result<Vec<u8>, Failure>
     ensures whole { IfOk result (λ bytes. IfSome (R.remaining input) (λ left. bytes.items ≡ left)) }
     ensures failure { IfErr result (λ failure.

@@ -7,26 +7,26 @@ use std::fmt;
 /// What a line asks for.
 #[derive(Clone, Copy)]
 pub enum Line<'a> {
-    /// `attach NAME` or `attach NAME STATE`: attach a context of this name, and with this trace
-    /// state where one is given.
+    /// `attach NAME` or `attach NAME STATE`: attach a context with this name and, if one is given,
+    /// this trace state.
     Attach {
         /// One or more bytes `!` to `~`.
         name: &'a str,
-        /// All that stands after the second space.
+        /// Everything after the second space.
         state: Option<&'a str>,
     },
-    /// `detach N`: detach the attach of this number, 0 for the first of the input.
+    /// `detach N`: detach the attach with this number, 0 for the first of the input.
     Detach(usize),
 }
 
-/// Why a line can't be carried out. It prints the words that the program says of the line.
+/// Why a line can't be carried out. Its `Display` prints what the program says about the line.
 #[derive(Clone, Copy, Debug, PartialEq, Eq)]
 pub enum Fault {
     /// The line begins neither with `attach ` nor with `detach `.
     UnknownCommand,
     /// The name of an attach is empty, or has a byte that isn't one of `!` to `~`.
     BadName,
-    /// The trace state of an attach is none by the W3C's rules.
+    /// The trace state of an attach isn't valid by the W3C's rules.
     BadTraceState,
     /// The number of a detach isn't one or more decimal digits, or is too large for a `usize`.
     BadNumber,
@@ -43,12 +43,12 @@ impl fmt::Display for Fault {
     }
 }
 
-/// What the line asks for. It takes no memory.
+/// Returns what the line asks for. Takes no memory.
 ///
 /// # Errors
 ///
-/// The fault of the line's form. It doesn't look into a trace state, so `BadTraceState` is none of
-/// them.
+/// The fault of the line's form. A trace state isn't examined, so `BadTraceState` is never
+/// returned.
 pub fn parse(line: &str) -> Result<Line<'_>, Fault>
     ensures line { IfOk result (Reads line.now) }
     ensures fault { IfErr result (IsFault line.now) }
@@ -62,7 +62,7 @@ pub fn parse(line: &str) -> Result<Line<'_>, Fault>
     Err(Fault::UnknownCommand)
 }
 
-/// What `attach ` is followed by.
+/// Parses what follows `attach `.
 fn attach_of(rest: &str) -> Result<Line<'_>, Fault>
     ensures line { IfOk result (IsAttach rest.now) }
     ensures fault { IfErr result (λ fault.
@@ -85,13 +85,13 @@ fn is_name(name: &str) -> bool
     !name.is_empty() && name.bytes().all(|byte| byte.is_ascii_graphic())
 }
 
-/// What `detach ` is followed by.
+/// Parses what follows `detach `.
 fn detach_of(digits: &str) -> Result<Line<'_>, Fault>
     ensures line { IfOk result (λ line. (n : ℕ) × (line ≡ Line.Detach n) × IsNumber digits.now n) }
     ensures fault { IfErr result (λ fault.
         (fault ≡ Fault.BadNumber) × ((n : ℕ) → n < 2 ^ 64 → ¬ IsNumber digits.now n)) }
 {
-    // `parse` would take a sign.
+    // `parse` would accept a sign.
     if digits.starts_with('+') {
         return Err(Fault::BadNumber);
     }

@@ -1,5 +1,5 @@
-//! Reads attaches and detaches from standard input, runs them, and prints where the contexts came
-//! to stand, what was injected from the current one, and what is extracted again.
+//! Reads attaches and detaches from standard input, runs them, and prints the positions of the
+//! contexts, what was injected from the current one, and what is extracted again.
 #![tactic(auto)]
 
 mod carry;
@@ -18,7 +18,7 @@ use std::alloc::{AllocError, Global};
 use std::io::{Stdin, Stdout};
 use std::process::ExitCode;
 
-/// Carries out the input with a composite of `NameMember` and the propagators of the W3C headers.
+/// Runs the input with a composite of `NameMember` and the propagators of the W3C headers.
 fn serve(alloc: Global, input: Stdin, output: Stdout) -> Result<u8, AllocError> {
     let mut members: Vec<Box<dyn TextMapPropagator>> = Vec::new(alloc);
     members.push(Box::new(alloc, NameMember::new(alloc)?)?)?;

@@ -8,7 +8,7 @@ use opentelemetry::propagation::text_map_propagator::FieldIter;
 use opentelemetry::propagation::{Extractor, Injector, PropagationError, TextMapPropagator};
 use std::alloc::{AllocError, Global};
 
-/// The name of the context: its entry `name`, where that is a text.
+/// Returns the name of the context: its entry `name`, if that is a text.
 pub fn name_of(context: &Context) -> Option<&str>
     ensures { option_map (λ name. name.now) result ≡ name_in context.now }
 {
@@ -18,22 +18,22 @@ pub fn name_of(context: &Context) -> Option<&str>
     }
 }
 
-/// Sets `Context-Name` to the context's name, where it has one, and extracts a copy of the given
+/// Sets `Context-Name` to the context's name, if it has one, and extracts a copy of the given
 /// context.
 #[derive(Drop)]
 pub struct NameMember {
-    /// Where the texts that are set take their memory from.
+    /// The allocator of the texts that are set.
     pub alloc: Global,
     /// The names of its fields.
     pub fields: Vec<String>,
 }
 
 impl NameMember {
-    /// The member, with its field `Context-Name`.
+    /// Returns the member, with its field `Context-Name`.
     ///
     /// # Errors
     ///
-    /// `AllocError` where the request for the memory of the field's name fails.
+    /// `AllocError` if out of memory for the field's name.
     pub fn new(alloc: Global) -> Result<NameMember, AllocError>
         ensures { IfOk result (λ member. map string_bytes member.fields.items ≡ name_fields) }
     {

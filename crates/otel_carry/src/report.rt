@@ -5,7 +5,7 @@ use std::alloc::{AllocError, Global};
 use std::collections::HashMap;
 use std::io::{self, Write};
 
-/// Writes what became of each attach, the name of the current context, and the carrier in rising
+/// Writes the outcome of each attach, the name of the current context, and the carrier in ascending
 /// order of its keys, or that the injection was refused.
 pub fn write_report<W: Write>(
     alloc: Global,
@@ -34,7 +34,7 @@ pub fn write_report<W: Write>(
     Ok(())
 }
 
-/// The entries of the map in rising order of their keys.
+/// Returns the entries of the map in ascending order of their keys.
 fn rising(alloc: Global, map: &HashMap<String, String>) -> Result<Vec<(&str, &str)>, AllocError> {
     let mut entries = Vec::new(alloc);
     for (key, value) in map {

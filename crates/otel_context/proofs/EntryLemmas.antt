@@ -92,7 +92,7 @@ module _ (k : List ℕ) (e : Rc Entry Global) (es : List (Rc Entry Global)) (r :
       ap (λ r. by_order r ((k, t) ∷ pairs (e ∷ es)) ((e.value.key, t) ∷ pairs es) ((e.value.key, tree e.value.value) ∷ put text_cmp k t (pairs es)))
       (turned e.value.key k r h)
 
--- where k is the key at a place
+-- if k is the key at a place
 module _ (k : List ℕ) where
   head_below : (e : Rc Entry Global) (es : List (Rc Entry Global)) (at : ℕ) → IsRising (e ∷ es) → at < length es → HoldsAt (λ e. by_key k e ≡ Equal) es at
       → by_key k e ≡ Less
@@ -113,7 +113,7 @@ module _ (k : List ℕ) where
       put_head k e es Less (head_below e es at h (omega arith) is) t
       ∙ ap (λ ps. (e.value.key, tree e.value.value) ∷ ps) (put-found t es at (second _ _ h) (omega arith) is)
 
--- where the keys below a place are less than k, and the others greater
+-- if the keys below a place are less than k, and the others greater
 module _ (k : List ℕ) where
   pub find-missed : (es : List (Rc Entry Global)) (at : ℕ) → IsPartitionPoint (λ e. by_key k e ≡ Less) (λ e. by_key k e ≡ Greater) es at
       → find text_cmp k (pairs es) ≡ None

@@ -1,26 +1,26 @@
 -- How attributes that are set in turn make up those that were set so far, and what makes the event of an error.
-use Rattle.std.proofs.Common.{◌≡◌, ℕ, List, length, take, fold, sym, ap, ◌∙◌, arith, length-append, Bool, true}
+use Rattle.std.proofs.Common.{◌≡◌, ℕ, List, ◌∷◌, length, take, fold, sym, ap, ◌∙◌, arith, length-append, Bool, true}
 use Rattle.std.proofs.Math.Seq.{take-append_seam}
 use Rattle.std.specs.Prelude.{Option, Result, Ok, Err, OnOk, OnErr, IfSome, codes}
 use Rattle.otel_base.specs.KeyValue.{Attribute}
 use Rattle.otel_context.specs.SpanEffects.{message, RecordsError, SetSoFar, SetsBeginning}
 
 module _ {S : Type 0} (after : S → Attribute → S) (old : S) (attributes : List Attribute) where
-  -- those set so far are a beginning
-  set_some : (now : S) (done left : List Attribute) → SetSoFar after old attributes now done left → SetsBeginning after old attributes now
-  set_some now done left h = record {
+  -- if one is left, those set so far are a beginning
+  set_some : (now : S) (done left : List Attribute) (next : Attribute) (rest : List Attribute) → left ≡ next ∷ rest → SetSoFar after old attributes now done left → SetsBeginning after old attributes now
+  set_some now done left next rest more h = record {
     count = length done;
-    within = omega (arith, ap length h.parts, length-append done left);
+    within = omega (arith, ap length h.parts, length-append done left, ap length more);
     set = h.set ∙ ap (fold after old) (sym (ap (take (length done)) h.parts ∙ take-append_seam done left));
   }
 
-  pub set_some_err : {A E : Type 0} (r : Result A E) (now new : S) (done left : List Attribute) → SetSoFar after old attributes now done left → new ≡ now
+  pub set_some_err : {A E : Type 0} (r : Result A E) (now new : S) (done left : List Attribute) (next : Attribute) (rest : List Attribute) → left ≡ next ∷ rest → SetSoFar after old attributes now done left → new ≡ now
       → OnErr r (SetsBeginning after old attributes new)
-  set_some_err (Ok x) now new done left h e = tt
-  set_some_err (Err x) now new done left h e = rw e (set_some now done left h)
+  set_some_err (Ok x) now new done left next rest more h e = tt
+  set_some_err (Err x) now new done left next rest more h e = rw e (set_some now done left next rest more h)
 
 module _ {S A E : Type 0} where
-  -- an event of this name, with this list of attributes
+  -- an event with that name, with this list of attributes
   pub error_event : (is_recording : S → Bool) (after : S → List ℕ → ℕ → List Attribute → S) (old : S) (output : Option (List ℕ)) (time : ℕ) (r : Result A E) (new : S)
       (name printed : List ℕ) (attributes : List Attribute)
       → is_recording old ≡ true → IfSome output (λ bytes. printed ≡ bytes) → name ≡ codes "exception" → attributes ≡ message printed

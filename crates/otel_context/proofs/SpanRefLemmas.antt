@@ -1,6 +1,7 @@
 -- What is written through a reference to a span is an effect on it, and leaves the other spans.
 use Rattle.std.proofs.Common.{◌≡◌, ℕ, Option, Some, None, Bool, cond, true, false, Result, Ok, Err, refl, sym, ap, ◌∙◌}
-use Rattle.std.specs.Result.{OnOk, OnErr}
+use Rattle.std.specs.Result.{IsOk, OnOk, OnErr}
+use Rattle.std.specs.Option.{option_map_or}
 use Rattle.std.specs.Ordering.{nat_cmp, eq_by_cmp}
 use Rattle.std.specs.Cmp.{nat_cmp_total}
 use Rattle.std.specs.FinMap as map
@@ -54,6 +55,14 @@ module _ {S : Type 0} where
       → Some s ≡ find t number → after ≡ replace_found t number w → OnErr r (R s w) → OnErr r (BecomesOne R t number after)
   becomes-err (Ok x) R t number s w after there written h = tt
   becomes-err (Err e) R t number s w after there written h = becomes R t number s w after there written h
+
+  -- a call that leaves a span alone that doesn't record leaves the table too
+  pub idle-found : {A E : Type 0} (r : Result A E) (records : S → Bool) (t : SpansState S) (number : Option ℕ) (s w : S) (after : SpansState S)
+      → Some s ≡ find t number → after ≡ replace_found t number w → (records s ≡ false → IsOk r × (w ≡ s))
+      → option_map_or records (find t number) false ≡ false → IsOk r × (after ≡ t)
+  idle-found r records t number s w after there written idle off =
+      let same = idle (rw (← there) at off) in
+      (same.0, written ∙ ap (replace_found t number) same.1 ∙ replace_found-same t number s (sym there))
 
   passed_over : (b : Bool) (o v : Option S) → (b ≡ true → ⊥) → cond b v o ≡ o
   passed_over true o v h = absurd (h refl)

@@ -1,5 +1,5 @@
 -- A `BTreeMap` from numbers to spans, seen as the finite map of its entries.
-use Rattle.std.proofs.Common.{◌≡◌, ℕ, ◌+◌, List, [], ◌∷◌, length, Option, Some, None, Bool, cond, true, false, is_some, refl, sym, ap, ◌∙◌, arith, inr}
+use Rattle.std.proofs.Common.{◌≡◌, ℕ, ◌+◌, ◌<◌, List, [], ◌∷◌, length, Option, Some, None, Bool, cond, true, false, is_some, refl, sym, ap, ◌∙◌, arith, inr}
 use Rattle.std.specs.Borrow.{MutBor}
 use Rattle.std.specs.Option.{IsSome, OnSome, option_copied_mut}
 use Rattle.std.specs.Ordering.{nat_cmp, eq_by_cmp, is_eq}
@@ -16,7 +16,7 @@ use Rattle.std.proofs.lemmas.Map.Keys.{IsDistinct-from_sorted, IsDistinct-tail}
 use Rattle.std.proofs.lemmas.Map.Entries.{none_past_head}
 use Rattle.std.proofs.lemmas.Map.Made.{IsSome-lookup_same_keys}
 use Rattle.otel_context.specs.View.{map_of}
-use Rattle.otel_context.specs.Spans.{SpansState, get, insert, take, used_up, cause_of, HasSameSpans}
+use Rattle.otel_context.specs.Spans.{SpansState, get, IsNumbered, insert, take, used_up, cause_of, HasSameSpans}
 use Rattle.otel_context.specs.declared.spans.SpanCause.TheVariants.{NumbersUsedUp, Memory}
 use Rattle.std.specs.Prelude.{◌==◌, if◌then◌else◌, alloc_error}
 use Rattle.std.proofs.lemmas.Bool.{false_from_ne_true}
@@ -37,6 +37,11 @@ module _ {S : Type 0} where
   -- the map of the entries finds what the tree finds
   pub get-view : (m : BTreeMap ℕ S) (q : ℕ) → map.get (map_of m) q ≡ tree.get nat_cmp m q
   get-view m q = map.get-from_entries nat_cmp_total m.entries q ∙ find_is_lookup q m.entries
+
+  -- if each number in the tree is below the next one, so it is in the map
+  pub numbered-view : (m : BTreeMap ℕ S) (next : ℕ) → ((q : ℕ) → IsSome (tree.get nat_cmp m q) → q < next)
+      → IsNumbered (record { spans = map_of m; next_number = next })
+  numbered-view m next below q found = below q (rw get-view at found)
 
   -- a tree with one more value at k is the map with it
   pub view-updates : (m n : BTreeMap ℕ S) (k : ℕ) (v : S) → tree.Updates nat_cmp m n k (Some v) → map_of n ≡ map.insert (map_of m) k v
@@ -95,6 +100,6 @@ module _ {S : Type 0} where
         next_number = inr refl;
       }
 
-  -- where numbers are left, a table takes no span only because a request for memory failed
+  -- if numbers are left, a table takes no span only because memory ran out
   pub cause_of-memory : (t : SpansState S) → (t.next_number ≡ used_up → ⊥) → cause_of t ≡ Memory alloc_error
   cause_of-memory t left = ap (λ b. if b then NumbersUsedUp else Memory alloc_error) (false_from_ne_true (t.next_number == used_up) (λ e. left ((unsigned_Decides t.next_number used_up).0 e)))

@@ -11,7 +11,7 @@ use Rattle.otel_context.specs.SpanCalls.{OthersStay}
 use Rattle.otel_context.specs.Spans.{SpansState}
 use Rattle.otel_context.specs.Stack.{StackState, Attaches}
 
--- the context is attached at that position or, where the greatest is live, nothing is (`attach`)
+-- the context is attached at that position or, if the greatest is live, nothing is (`attach`)
 abbrev pub AttachesAt : ℕ → ContextRecord → StackState → StackState → Type 0
 AttachesAt position context old new = Attaches {E = AllocError} context old new (Ok position)
 

@@ -27,7 +27,7 @@ pub record IsBaggage (ms : List Member) : Type 0 where
   pub valid : All IsValidMember ms
   pub light : weight ms ≤ max_len_of_all_pairs
 
--- The member of the key, where there is one.
+-- The member of the key, if there is one.
 abbrev pub member_at : List Member → List ℕ → Option Member
 member_at ms key = find (has_key key) ms
 
@@ -64,11 +64,11 @@ accepts ms m =
 abbrev pub insert : List Member → Member → List Member
 insert ms m = if accepts ms m then put ms m else ms
 
--- What m takes the place of: nothing, where its key is new or m isn't accepted.
+-- What m takes the place of: nothing, if its key is new or m isn't accepted.
 abbrev pub replaced : List Member → Member → Option (List ℕ × List ℕ)
 replaced ms m = if accepts ms m then get_with_metadata ms m.key else None
 
--- The same, the value alone.
+-- The same, the value only.
 abbrev pub replaced_value : List Member → Member → Option (List ℕ)
 replaced_value ms m = if accepts ms m then get ms m.key else None
 

@@ -4,7 +4,7 @@ use Rattle.std.specs.List.{join_with_byte}
 use Rattle.otel_context.specs.BaggageText.{escaped}
 use Rattle.otel_context.specs.BaggageMember.{Member, member_of}
 
--- `;` (59) and the metadata as it is, where there is some.
+-- `;` (59) and the metadata as it is, if there is some.
 abbrev pub metadata_text : List ℕ → List ℕ
 metadata_text [] = []
 metadata_text (b ∷ bs) = 59 ∷ b ∷ bs

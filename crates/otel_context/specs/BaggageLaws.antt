@@ -9,7 +9,7 @@ use Rattle.otel_context.specs.BaggageHeader.{header, max_len_of_header}
 abbrev pub HasNoComma : Member → Type 0
 HasNoComma m = list_all (λ b. not (b == 44)) m.metadata ≡ true
 
--- Baggages of equal headers have equal members, where no metadata holds a comma. Not in
+-- Baggages of equal headers have equal members, if no metadata holds a comma. Not in
 -- the Rust crate.
 -- That is needed: `a` with the value `1` and the metadata `x,b=2` has the header `a=1;x,b=2`,
 -- and so has `a` with `1` and `x`, followed by `b` with `2`.

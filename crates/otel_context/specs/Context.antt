@@ -14,7 +14,7 @@ use Rattle.otel_context.specs.BaggageMember.{Member}
 abbrev pub EntryMap : Type 0
 EntryMap = map.FinMap (slice_cmp nat_cmp) Tree
 
--- the active span: its span context and, where it is a local span, its number in a span table
+-- the active span: its span context and, if it is a local span, its number in a span table
 -- (the Rust crate's `SynchronizedSpan`)
 pub record SpanPart : Type 0 where
   pub context : SpanContextRecord
@@ -32,11 +32,11 @@ pub record ContextRecord : Type 0 where
 abbrev pub empty_context : ContextRecord
 empty_context = record { entries = map.empty; baggage = None; span = None; suppressed = false }
 
--- the value of the entry of that name, if there is one (`Context::get`)
+-- the value of the entry with that name, if there is one (`Context::get`)
 abbrev pub get : ContextRecord → List ℕ → Option Tree
 get context key = map.get context.entries key
 
--- the same context, with the entry in place of an older one of that name (`Context::with_value`)
+-- the same context, with the entry in place of an older one with that name (`Context::with_value`)
 abbrev pub with_value : ContextRecord → List ℕ → Tree → ContextRecord
 with_value context key value = record context { entries = map.insert context.entries key value }
 

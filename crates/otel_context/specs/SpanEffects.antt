@@ -1,5 +1,5 @@
 -- What the calls of a span that are made of others do.
-use Rattle.std.specs.Prelude.{◌≡◌, ◌≤◌, ℕ, List, [], ◌∷◌, ◌++◌, length, map, take, fold, codes}
+use Rattle.std.specs.Prelude.{◌≡◌, ◌<◌, ℕ, List, [], ◌∷◌, ◌++◌, length, map, take, fold, codes}
 use Rattle.std.specs.Prelude.{Bool, Option, IfSome, MatchBool}
 use Rattle.std.specs.declared.vec.Vec.{Vec}
 use Rattle.std.specs.declared.alloc.Global.{Global}
@@ -22,21 +22,21 @@ module _ {S : Type 0} where
   abbrev pub each_set : (S → Attribute → S) → S → List Attribute → S
   each_set after_attribute span attributes = fold after_attribute span attributes
 
-  -- where the span records, each attribute is set in order; else it is as it was (the Rust crate's
+  -- if the span records, each attribute is set in order; else it is as it was (the Rust crate's
   -- `set_attributes`)
   abbrev pub SetsAttributes : (S → Bool) → (S → Attribute → S) → S → List Attribute → S
       → Type 0
   SetsAttributes is_recording after_attribute old attributes new =
       MatchBool (is_recording old) (new ≡ each_set after_attribute old attributes) (new ≡ old)
 
-  -- some first ones of the attributes were set, in order
+  -- some first ones of the attributes were set, in order, and not all
   pub record SetsBeginning (after_attribute : S → Attribute → S) (old : S)
       (attributes : List Attribute) (new : S) : Type 0 where
     pub count : ℕ
-    pub within : count ≤ length attributes
+    pub within : count < length attributes
     pub set : new ≡ each_set after_attribute old (take count attributes)
 
-  -- an event `exception` at that time, with the error's text: what the error prints, where its type
+  -- an event `exception` at that time, with the error's text: what the error prints, if its type
   -- says what it prints
   pub record AddsException (after_event : List ℕ → ℕ → List Attribute → S)
       (output : Option (List ℕ)) (time : ℕ) (new : S) : Type 0 where
@@ -44,7 +44,7 @@ module _ {S : Type 0} where
     pub prints : IfSome output (λ bytes. printed ≡ bytes)
     pub added : new ≡ after_event (codes "exception") time (message printed)
 
-  -- where the span records, the error's event is added; else it is as it was (the Rust crate's
+  -- if the span records, the error's event is added; else it is as it was (the Rust crate's
   -- `record_error`)
   abbrev pub RecordsError : (S → Bool) → (S → List ℕ → ℕ → List Attribute → S) → S
       → Option (List ℕ) → ℕ → S → Type 0

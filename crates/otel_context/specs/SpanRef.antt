@@ -1,5 +1,6 @@
 -- What a reference to the span of a context is, and what a call through it does.
-use Rattle.std.specs.Prelude.{◌≡◌, ℕ, Option}
+use Rattle.std.specs.Prelude.{◌≡◌, ℕ, Bool, false, Option}
+use Rattle.std.specs.Option.{option_map_or}
 use Rattle.otel_ids.specs.SpanContext.{SpanContextRecord}
 use Rattle.otel_context.specs.Spans.{SpansState, find}
 use Rattle.otel_context.specs.SpanCalls as calls
@@ -10,7 +11,7 @@ module _ {S : Type 0} where
   abbrev pub table_of : SpanRef S → SpansState S
   table_of reference = reference.spans.now
 
-  -- the number of the context's span, where it has one
+  -- the number of the context's span, if it has one
   abbrev pub number_of : SpanRef S → Option ℕ
   number_of reference = reference.number
 
@@ -18,15 +19,19 @@ module _ {S : Type 0} where
   abbrev pub span_context : SpanRef S → SpanContextRecord
   span_context reference = reference.context.now
 
-  -- the span, where the table has it
+  -- the span, if the table has it
   abbrev pub span_of : SpanRef S → Option S
   span_of reference = find (table_of reference) (number_of reference)
 
-  -- the table after an effect on the span, where the table has it
+  -- whether the span records; without a span it doesn't
+  abbrev pub is_recording : (S → Bool) → SpanRef S → Bool
+  is_recording records reference = option_map_or records (span_of reference) false
+
+  -- the table after an effect on the span, if the table has it
   abbrev pub table_after : (S → S) → SpanRef S → SpansState S
   table_after effect reference = calls.after_effect effect (table_of reference) (number_of reference)
 
-  -- the span became one that it is in relation with, where the table has it; else the table is as
+  -- the span became one that it is in relation with, if the table has it; else the table is as
   -- it was
   abbrev pub Becomes : (S → S → Type 0) → SpanRef S → SpanRef S → Type 0
   Becomes Relation old new = calls.BecomesOne Relation (table_of old) (number_of old) (table_of new)

@@ -1,6 +1,6 @@
 -- What a span table is: a finite map from numbers to spans, and the number that is given out next
 -- (own: the Rust crate's contexts share their spans).
-use Rattle.std.specs.Prelude.{◌≡◌, ◌⊎◌, ℕ, ◌+◌, ◌==◌, Option, Some, None, alloc_error}
+use Rattle.std.specs.Prelude.{◌≡◌, ◌⊎◌, ℕ, ◌+◌, ◌<◌, ◌==◌, Option, Some, None, IsSome, alloc_error}
 use Rattle.std.specs.Prelude.{if◌then◌else◌}
 use Rattle.std.specs.Ordering.{nat_cmp}
 use Rattle.std.specs.FinMap as map
@@ -30,6 +30,10 @@ module _ {S : Type 0} where
   abbrev pub len : SpansState S → ℕ
   len table = map.len table.spans
 
+  -- each span stands under a number below the next one, so what is put in replaces none
+  abbrev pub IsNumbered : SpansState S → Type 0
+  IsNumbered table = (number : ℕ) → IsSome (get table number) → number < table.next_number
+
   -- the table with the span under its next number, which rises by one
   -- into the empty table from 0: a under 0, and 1 is next
   abbrev pub insert : SpansState S → S → SpansState S
@@ -42,12 +46,12 @@ module _ {S : Type 0} where
   abbrev pub replace : SpansState S → ℕ → S → SpansState S
   replace table number span = record table { spans = map.insert table.spans number span }
 
-  -- the span under the number of a context, where there are both
+  -- the span under the number of a context, if there are both
   abbrev pub find : SpansState S → Option ℕ → Option S
   find table None = None
   find table (Some number) = get table number
 
-  -- the table with this span under the number of a context, where there is one
+  -- the table with this span under the number of a context, if there is one
   abbrev pub replace_found : SpansState S → Option ℕ → S → SpansState S
   replace_found table None span = table
   replace_found table (Some number) span = replace table number span
@@ -56,7 +60,7 @@ module _ {S : Type 0} where
   abbrev pub take : SpansState S → ℕ → SpansState S
   take table number = record table { spans = map.remove table.spans number }
 
-  -- why the table takes no span: its numbers are used up, or else a request for memory failed
+  -- why the table takes no span: its numbers are used up, or else memory ran out
   abbrev pub cause_of : SpansState S → SpanCause
   cause_of table = if table.next_number == used_up then NumbersUsedUp else Memory alloc_error
 
@@ -64,7 +68,7 @@ module _ {S : Type 0} where
   abbrev pub refusal : SpansState S → S → SpanRefused S
   refusal table span = record { span = span; cause = cause_of table }
 
-  -- the same spans, where at most one number was used up
+  -- the same spans; at most one number was used up
   pub record HasSameSpans (old new : SpansState S) : Type 0 where
     pub spans : new.spans ≡ old.spans
     pub next_number : (new.next_number ≡ old.next_number) ⊎ (new.next_number ≡ old.next_number + 1)

@@ -33,7 +33,7 @@ initial_capacity = 8
 abbrev pub last_position : ℕ
 last_position = 65534
 
--- what is returned in place of a position, where the greatest is live (the Rust crate's `MAX_POS`)
+-- what is returned in place of a position, if the greatest is live (the Rust crate's `MAX_POS`)
 abbrev pub no_position : ℕ
 no_position = 65535
 
@@ -54,7 +54,7 @@ newest_position live = last_or 0 (positions live)
 abbrev pub current : Live → ContextRecord
 current live = last_or empty_context (map (λ a. a.1) live)
 
--- the context at a position, where it is live
+-- the context at a position, if it is live
 abbrev pub context_at : ℕ → Live → Option ContextRecord
 context_at position live = option_map (λ a. a.1) (find (λ a. a.0 == position) live)
 
@@ -98,7 +98,7 @@ pub record IsLawful (stack : StackState) : Type 0 where
 -- What a call that attaches the context does, and the position that it returns.
 pub record Attaches {E : Type 0} (context : ContextRecord) (old new : StackState)
     (result : Result ℕ E) : Type 0 where
-  -- where the greatest position is live, nothing changes
+  -- if the greatest position is live, nothing changes
   pub full : newest_position old.live ≡ last_position
       → IfOk result (λ position. (position ≡ no_position) × (new ≡ old))
   -- else the context is attached at the position above the newest
@@ -124,7 +124,7 @@ pub record Detaches (position : ℕ) (old new : StackState) (result : Option Con
     : Type 0 where
   -- the context that is live there, if there is one
   pub given : result ≡ context_at position old.live
-  -- where nothing is, nothing changes
+  -- if nothing is, nothing changes
   pub none : IfNone result (new ≡ old)
   -- nothing is ever live at 65535
   pub unattached : position ≡ no_position → (result ≡ None) × (new ≡ old)

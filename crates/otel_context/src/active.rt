@@ -2,7 +2,7 @@
 ghost use Rattle.std.specs.Prelude.{◌≡◌, IfOk, IfErr, IsErr, OnOk, OnErr};
 ghost use Rattle.otel_context.specs.Active.{AttachesAt, CallsOnce};
 ghost use Rattle.otel_context.specs.Context.{with_span};
-ghost use Rattle.otel_context.specs.Spans.{insert, used_up, refusal, HasSameSpans};
+ghost use Rattle.otel_context.specs.Spans.{IsNumbered, insert, used_up, refusal, HasSameSpans};
 ghost use Rattle.otel_context.specs.Stack.{current};
 
 use crate::guard::ContextGuard;
@@ -19,9 +19,9 @@ use crate::stack::ContextStack;
 ///
 /// # Errors
 ///
-/// `NumbersUsedUp` where the table's numbers are used up, and else `Memory` where a request for
-/// memory fails. The span comes back, the stack is unchanged, and the table holds the same spans;
-/// one number may be used up.
+/// `NumbersUsedUp` if the table's next number is 18446744073709551615, and otherwise `Memory` if
+/// out of memory. The span comes back, the stack is unchanged, and the table holds the same spans.
+/// After `NumbersUsedUp` the table is unchanged; after `Memory` its next number may be one higher.
 pub fn mark_span_as_active<S: Span>(
     stack: &mut ContextStack,
     spans: &mut Spans<S>,
@@ -31,10 +31,12 @@ pub fn mark_span_as_active<S: Span>(
         (with_span (current stack.old.live) (S.context_of span) spans.old.next_number)
         stack.old stack.new) }
     ensures number { IfOk result (λ active. active.1 ≡ spans.old.next_number) }
+    ensures numbered { IsNumbered spans.old }
     ensures inserted { OnOk result (spans.new ≡ insert spans.old span) }
     ensures unattached { OnErr result (stack.new ≡ stack.old) }
     ensures same_spans { OnErr result (HasSameSpans spans.old spans.new) }
-    ensures used_up { spans.old.next_number ≡ used_up → IsErr result }
+    ensures used_up { spans.old.next_number ≡ used_up
+        → IsErr result × (spans.new ≡ spans.old) }
     ensures refused { IfErr result (λ refused. refused ≡ refusal spans.old span) }
 {
     let number = spans.next_number();
@@ -53,8 +55,9 @@ pub fn mark_span_as_active<S: Span>(
 
 /// Calls `f` once on a reference to the current context's span, and returns what it returns.
 ///
-/// No other span of the table changes. What `f` does to the span is said by the calls of
-/// [`SpanRef`].
+/// What `f` does to the span is said by the calls of [`SpanRef`], which change no other span of the
+/// table. If `f` puts another reference in the place of the one that it is lent, nothing is promised
+/// of the table.
 ///
 /// ```
 /// get_active_span(&stack, &mut spans, |span| span.end(NOW));

@@ -1,7 +1,7 @@
-//! Baggage: named values that travel with a request, in the order in which their names came.
+//! Baggage: named values that travel with a request, in insertion order.
 //!
 //! A contract sees a baggage as the list of its members, each a key with its value and its metadata
-//! (W3C baggage, `list-member`): at most 64 of distinct keys, and at most 8192 bytes in all.
+//! (W3C baggage, `list-member`): at most 64 with distinct keys, and at most 8192 bytes in all.
 ghost use Rattle.std.specs.Prelude.{◌≡◌, List, [], length, position, map as map_list, Some, IfOk};
 ghost use Rattle.std.specs.Prelude.{IsTrue, ◌↔◌};
 ghost use Rattle.std.specs.Map.{keys_of};
@@ -29,17 +29,16 @@ use std::alloc::{AllocError, Global};
 use std::fmt;
 use std::marker::Model;
 
-/// A list of keys, each with a value and metadata, in the order in which the keys came.
+/// A list of keys, each with a value and metadata, in insertion order.
 ///
-/// It has at most 64 members, of distinct keys, and all their texts have at most 8192 bytes
-/// together.
-/// A key is one or more of the ASCII characters `!` to `~`, without the delimiters
-/// `(),/:;<=>?@[\]{}"` (RFC 7230, section 3.2.6).
+/// It has at most 64 members with distinct keys, and at most 8192 bytes in all keys, values and
+/// metadata together. A key is one or more of the ASCII characters `!` to `~`, without the
+/// delimiters `(),/:;<=>?@[\]{}"` (RFC 7230, section 3.2.6).
 ///
 /// It prints as the value of a `baggage` header (W3C baggage): for each member the key, `=` and the
-/// value, in which each byte but A-Z, a-z, 0-9 and `.` `-` `_` `~` is written as `%` and two
-/// hexadecimal digits, then `;` and the metadata where there is some; the members are joined by
-/// `,`. Metadata is printed as it is.
+/// value, in which every byte except A-Z, a-z, 0-9 and `.` `-` `_` `~` is written as `%` and two
+/// hexadecimal digits, then `;` and the metadata unless it is empty; members are joined by `,`.
+/// Metadata is printed as it is.
 ///
 /// ```
 /// let mut baggage = Baggage::new(alloc);
@@ -49,7 +48,7 @@ use std::marker::Model;
 #[derive(Debug, Drop)]
 pub struct Baggage {
     inner: IndexMap<Key, (StringValue, BaggageMetadata)>,
-    // The bytes of all texts in `inner`.
+    // The bytes of all keys, values and metadata in `inner`.
     content_len: usize,
 }
 
@@ -68,7 +67,7 @@ impl Model for Baggage {
 }
 
 impl Baggage {
-    /// The empty baggage. It takes no memory, and keeps the allocator for later inserts.
+    /// Returns the empty baggage. It takes no memory, and keeps the allocator for later inserts.
     pub fn new(alloc: Global) -> Baggage
         ensures { result ≡ [] }
     {
@@ -78,9 +77,9 @@ impl Baggage {
         }
     }
 
-    /// The value of the key, or `None` where no member has the key.
+    /// Returns the value of the key, or `None` if no member has the key.
     ///
-    /// It compares at most 64 keys, and takes no memory.
+    /// Compares at most 64 keys, and takes no memory.
     pub fn get(&self, key: &str) -> Option<&StringValue>
         ensures { option_copied result ≡ get self.now key.now }
     {
@@ -88,9 +87,9 @@ impl Baggage {
         Some(value)
     }
 
-    /// The value and the metadata of the key, or `None` where no member has the key.
+    /// Returns the value and the metadata of the key, or `None` if no member has the key.
     ///
-    /// It compares at most 64 keys, and takes no memory.
+    /// Compares at most 64 keys, and takes no memory.
     pub fn get_with_metadata(&self, key: &str) -> Option<&(StringValue, BaggageMetadata)>
         ensures { option_copied result ≡ get_with_metadata self.now key.now }
     {
@@ -101,13 +100,13 @@ impl Baggage {
 
     /// Sets the value of the key, with empty metadata, and returns the value that it replaces.
     ///
-    /// It returns `None` for a new key, and also where the member isn't accepted, as
-    /// [`insert_with_metadata`](Self::insert_with_metadata) says; the baggage is then unchanged.
+    /// Returns `None` if the key is new, or if the member isn't accepted (see
+    /// [`insert_with_metadata`](Self::insert_with_metadata)), which leaves the baggage unchanged.
     ///
     /// # Errors
     ///
-    /// `AllocError` where a request for memory fails, which comes only for a new key that is
-    /// accepted. The baggage is unchanged; what was handed in is dropped.
+    /// Returns an error if memory runs out, which is possible only for a new key that is accepted.
+    /// The baggage is then unchanged, and the arguments are dropped.
     pub fn insert(
         &mut self,
         key: Key,
@@ -124,15 +123,15 @@ impl Baggage {
 
     /// Sets the value and the metadata of the key, and returns those that they replace.
     ///
-    /// A present key keeps its place, and isn't checked again; a new key goes last. The member is
-    /// accepted where all texts have at most 8192 bytes then, those that it replaces not counted,
-    /// and where a new key is valid and finds fewer than 64 members. It returns `None` for a new
-    /// key, and also where the member isn't accepted; the baggage is then unchanged.
+    /// A key that is present keeps its place, and isn't checked again; a new key goes last. The
+    /// member is accepted if the baggage then has at most 8192 bytes, not counting those replaced,
+    /// and if a new key is valid and there are fewer than 64 members. Returns `None` if the key is
+    /// new, or if the member isn't accepted, which leaves the baggage unchanged.
     ///
     /// # Errors
     ///
-    /// `AllocError` where a request for memory fails, which comes only for a new key that is
-    /// accepted. The baggage is unchanged; what was handed in is dropped.
+    /// Returns an error if memory runs out, which is possible only for a new key that is accepted.
+    /// The baggage is then unchanged, and the arguments are dropped.
     pub fn insert_with_metadata(
         &mut self,
         key: Key,
@@ -151,11 +150,11 @@ impl Baggage {
         Ok(old)
     }
 
-    /// Removes the member of the key, and returns its value and metadata, or `None` where no member
+    /// Removes the member with the key, and returns its value and metadata, or `None` if no member
     /// has the key.
     ///
-    /// The others keep their order, and the bytes of the member don't count any more. It compares
-    /// at most 64 keys, and takes no memory.
+    /// The others keep their order, and the member's bytes no longer count. Compares at most 64
+    /// keys, and takes no memory.
     pub fn remove(&mut self, key: &str) -> Option<(StringValue, BaggageMetadata)>
         ensures list { self.new ≡ remove self.old key.now }
         ensures old { result ≡ get_with_metadata self.old key.now }
@@ -166,7 +165,7 @@ impl Baggage {
         Some(pair)
     }
 
-    /// How many members there are: at most 64.
+    /// Returns the number of members, at most 64.
     pub fn len(&self) -> usize
         ensures len { result ≡ length self.now }
         ensures baggage { IsBaggage self.now }
@@ -174,7 +173,7 @@ impl Baggage {
         self.inner.len()
     }
 
-    /// Whether there is no member.
+    /// Returns `true` if there are no members.
     pub fn is_empty(&self) -> bool
         ensures empty { IsTrue result ↔ (self.now ≡ []) }
         ensures baggage { IsBaggage self.now }
@@ -182,7 +181,8 @@ impl Baggage {
         self.inner.is_empty()
     }
 
-    /// The members in order, each as its key beside its value and metadata. It takes no memory.
+    /// Returns an iterator over the members in order, each a key with its value and metadata. It
+    /// takes no memory.
     pub fn iter(&self) -> Iter<'_>
         ensures list { result ≡ self.now }
         ensures baggage { IsBaggage self.now }
@@ -193,12 +193,12 @@ impl Baggage {
         }
     }
 
-    /// The baggage of these members, inserted in order into the empty one. What isn't accepted is
-    /// left out.
+    /// Inserts the members in order into an empty baggage, and returns it. Members that aren't
+    /// accepted are left out.
     ///
     /// # Errors
     ///
-    /// `AllocError` at the first request for memory that fails. All that was inserted is dropped.
+    /// Returns an error as soon as memory runs out. Everything inserted so far is dropped.
     pub fn from_pairs(
         alloc: Global,
         members: Vec<(Key, (StringValue, BaggageMetadata))>,
@@ -212,12 +212,12 @@ impl Baggage {
         Ok(baggage)
     }
 
-    /// The baggage of these attributes, inserted in order into the empty one, each with the printed
-    /// text of its value and no metadata. What isn't accepted is left out.
+    /// Inserts the attributes in order into an empty baggage, each with the printed text of its
+    /// value and no metadata, and returns it. Attributes that aren't accepted are left out.
     ///
     /// # Errors
     ///
-    /// `AllocError` at the first request for memory that fails. All that was inserted is dropped.
+    /// Returns an error as soon as memory runs out. Everything inserted so far is dropped.
     pub fn from_key_values(alloc: Global, attributes: Vec<KeyValue>) -> Result<Baggage, AllocError>
         ensures { IfOk result (λ b.
             b ≡ from_members (map_list from_key_value attributes.items)) }
@@ -230,12 +230,12 @@ impl Baggage {
         Ok(baggage)
     }
 
-    /// The baggage of these members, inserted in order into the empty one. What isn't accepted is
-    /// left out.
+    /// Inserts the members in order into an empty baggage, and returns it. Members that aren't
+    /// accepted are left out.
     ///
     /// # Errors
     ///
-    /// `AllocError` at the first request for memory that fails. All that was inserted is dropped.
+    /// Returns an error as soon as memory runs out. Everything inserted so far is dropped.
     pub fn from_key_values_with_metadata(
         alloc: Global,
         members: Vec<KeyValueMetadata>,
@@ -264,7 +264,7 @@ impl Baggage {
     }
 }
 
-/// The position of the key, where it is there. A key of another length is passed over at once.
+/// Returns the index of the key, if present. A key of another length is skipped at once.
 fn index_of(held: &IndexMap<Key, (StringValue, BaggageMetadata)>, key: &str) -> Option<usize>
     ensures { result ≡ position (bytes_eq key.now) (keys_of held.now.entries) }
 {
@@ -287,14 +287,14 @@ impl<'a> IntoIterator for &'a Baggage {
 
     type IntoIter = Iter<'a>;
 
-    /// The members in order, as [`Baggage::iter`] gives them.
+    /// Returns an iterator over the members in order, as [`Baggage::iter`] does.
     fn into_iter(self) -> Iter<'a> {
         self.iter()
     }
 }
 
-/// The members of a [`Baggage`], in order, each once. A contract sees it as the list of those that
-/// are left.
+/// An iterator over the members of a [`Baggage`], in order. A contract sees it as the list of the
+/// members that are left.
 ///
 /// ```
 /// for (key, (value, metadata)) in &baggage {
@@ -327,12 +327,12 @@ impl<'a> Iterator for Iter<'a> {
 
     ghost remaining = { λ s. at_most (length s) };
 
-    /// The first member that is left, or `None` where none is.
+    /// Returns the next member, or `None` if none is left.
     fn next(&mut self) -> Option<(&'a Key, &'a (StringValue, BaggageMetadata))> {
         self.entries.next()
     }
 
-    /// How many members are left, exactly.
+    /// Returns the exact number of members left.
     fn size_hint(&self) -> (usize, Option<usize>)
         ensures lower { IsWithinCount result.0 (at_most (length self.now)) }
         ensures upper { IfSome result.1 (UpTo (at_most (length self.now))) }

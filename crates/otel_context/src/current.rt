@@ -1,11 +1,11 @@
-//! Calls on what is current.
+//! Calls on the current value.
 ghost use Rattle.std.specs.Prelude.{◌≡◌};
 ghost use Rattle.std.specs.Fn.{FnOnceReturnsAt};
 
-/// What has a current value, as a `ContextStack` has the current context. Not in the Rust crate.
+/// A type with a current value, as a `ContextStack` has a current context. Not in the Rust crate.
 ///
-/// It stands for the method `map_current` of the Rust crate's `Context`: a caller brings the trait
-/// in, and writes `stack.map_current(|context| ..)`.
+/// It replaces the method `map_current` of the Rust crate's `Context`: import the trait and call
+/// `stack.map_current(|context| ..)`.
 ///
 /// ```
 /// let has_span = stack.map_current(|context| context.has_active_span());
@@ -16,11 +16,11 @@ pub trait HasCurrent {
 
     ghost current_value: { Self → Self.Current };
 
-    /// The current value.
+    /// Returns the current value.
     fn lend_current(&self) -> &Self::Current
         ensures { result.now ≡ Self.current_value self.now };
 
-    /// Calls `f` once on the current value, and returns what it returns.
+    /// Calls `f` once with the current value, and returns its result.
     final fn map_current<T, F: FnOnce(&Self::Current) -> T>(&self, f: F) -> T
         requires { F.IsAlwaysCallable f }
         ensures { FnOnceReturnsAt F.FnOnce f (Self.current_value self.now) result }

@@ -10,7 +10,8 @@ use std::alloc::{AllocError, Global};
 use std::marker::Model;
 use std::rc::Rc;
 
-/// Up to how many entries `get` walks. It searches more by halves, which compares fewer names.
+/// The greatest number of entries that `get` walks. A larger map is searched by binary search,
+/// which compares fewer names.
 const WALKED: usize = 8;
 
 #[derive(Drop)]
@@ -19,12 +20,12 @@ struct Entry {
     value: AnyValue,
 }
 
-/// A map from names to values, in which no name stands twice.
+/// A map from names to values, with distinct names.
 ///
-/// It doesn't change. A map that differs in one entry shares the others.
+/// It is immutable. A map that differs in one entry shares the others.
 #[derive(Drop)]
 pub struct Entries {
-    // In rising order of their keys' bytes.
+    // In ascending order of the bytes of their keys.
     items: Vec<Rc<Entry>>,
 }
 
@@ -43,7 +44,7 @@ impl Model for Entries {
 }
 
 impl Entries {
-    /// The empty map, which takes no memory.
+    /// Returns the empty map, which takes no memory.
     pub fn new(alloc: Global) -> Entries
         ensures { result ≡ map.empty }
     {
@@ -52,7 +53,7 @@ impl Entries {
         }
     }
 
-    /// The value of that name.
+    /// Returns the value named `key`.
     pub fn get(&self, key: &str) -> Option<&AnyValue>
         ensures { option_map (λ v. tree v.now) result ≡ map.get self.now key.now }
     {
@@ -65,9 +66,9 @@ impl Entries {
         }
     }
 
-    /// A map with the entry set, in place of an older one of that name.
+    /// Returns a map with the entry set, replacing an entry named `key`.
     ///
-    /// An `AllocError` reports that a request for memory failed.
+    /// Returns an error if memory runs out.
     pub fn with(&self, alloc: Global, key: Key, value: AnyValue) -> Result<Entries, AllocError>
         ensures { IfOk result (λ es. es ≡ map.insert self.now key (tree value)) }
     {
@@ -87,7 +88,7 @@ impl Clone for Entries {
     }
 }
 
-/// These entries and that one, in place of an older one of its name.
+/// Returns these entries with that one added, replacing an entry with the same name.
 fn with_entry(
     alloc: Global,
     items: &[Rc<Entry>],
@@ -109,7 +110,7 @@ fn with_entry(
     Ok(made)
 }
 
-/// The value of that name, compared with each name in turn: with its length first.
+/// Returns the value named `key`, comparing it with each name in turn, by length first.
 fn walk<'a>(items: &'a [Rc<Entry>], key: &str) -> Option<&'a AnyValue>
     ensures { option_map (λ v. tree v.now) result ≡ map.get (entries_seen items.now) key.now }
 {
@@ -121,7 +122,7 @@ fn walk<'a>(items: &'a [Rc<Entry>], key: &str) -> Option<&'a AnyValue>
     None
 }
 
-/// Where the entry of that name is, or where it would go, found by halves.
+/// Returns the index of the entry named `key`, or where it would go, by binary search.
 fn search(items: &[Rc<Entry>], key: &str) -> Result<usize, usize>
     ensures bound { IsSearchInRange result (length items.now) }
     ensures position { IsBinarySearchResult (by_key key.now) items.now result }

@@ -4,16 +4,15 @@ ghost use Rattle.otel_context.specs.Stack.{no_position};
 
 use std::marker::Model;
 
-/// What is returned in place of a position where none is left.
+/// Returned in place of a position if none is left.
 pub(crate) const NO_POSITION: u16 = u16::MAX;
 
-/// The position of an attached context, to be handed back to `ContextStack::detach`.
+/// The position of an attached context, to be passed to `ContextStack::detach`.
 ///
-/// A guard can't be dropped: a program that lets one go unspent doesn't compile. It may meet
-/// another stack than the one that gave it; there it names what is live at its position.
+/// A guard can't be dropped: a program that doesn't spend it doesn't compile. It may be passed to a
+/// stack other than the one that returned it; there it names whatever is live at its position.
 ///
-/// The work in between is a function of its own, and `?` on what it returned comes after the
-/// detach:
+/// Do the work in between in a function of its own, and use `?` on its result after the detach:
 ///
 /// ```
 /// let guard = stack.attach(context)?;
@@ -40,16 +39,16 @@ impl ContextGuard {
         ContextGuard { position }
     }
 
-    /// The position of the attached context, from 1 to 65534, or 65535 where no position was left.
-    /// Not in the Rust crate.
+    /// Returns the position of the attached context, from 1 to 65534, or 65535 if no position was
+    /// left. Not in the Rust crate.
     pub fn position(&self) -> u16
         ensures { result ≡ self.now }
     {
         self.position
     }
 
-    /// Whether the attach was accepted: whether the position isn't 65535. It stays so whatever is
-    /// removed later. Not in the Rust crate.
+    /// Returns `true` if the context was attached, which means that the position isn't 65535. Later
+    /// removals don't change the answer. Not in the Rust crate.
     pub fn is_attached(&self) -> bool
         ensures { IsTrue result ↔ (self.now ≢ no_position) }
     {

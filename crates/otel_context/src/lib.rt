@@ -1,5 +1,7 @@
-//! What travels with a request: the baggage, the context that holds it, and the stack of the
-//! attached contexts.
+//! What travels with a request: the baggage, the context that holds it, and the stack of attached
+//! contexts.
+//!
+//! A call runs out of memory if an allocation fails or a reference count is at its limit.
 #![tactic(auto)]
 
 mod active;

@@ -20,14 +20,14 @@ use std::rc::Rc;
 #[derive(Drop)]
 struct ActiveSpan {
     context: SpanContext,
-    // That of a local span in its span table.
+    // The number of a local span in its span table.
     number: Option<u64>,
 }
 
 /// Named entries, a baggage, the active span, and whether telemetry is suppressed.
 ///
-/// They don't change. Each `with_` call returns new ones that differ in one, and shares the others.
-/// Its `AllocError` reports that a request for memory failed.
+/// They are immutable. Each `with_` method returns new ones that differ in one part and share the
+/// others, or an error if memory runs out.
 #[derive(Drop)]
 pub struct Parts {
     entries: Entries,
@@ -55,7 +55,7 @@ impl Model for Parts {
 }
 
 impl Parts {
-    /// No entry, no baggage, no span, and telemetry isn't suppressed. Takes no memory.
+    /// Returns no entry, no baggage, no span, and telemetry that isn't suppressed. Takes no memory.
     pub fn new(alloc: Global) -> Parts
         ensures { result ≡ empty_context }
     {
@@ -67,14 +67,14 @@ impl Parts {
         }
     }
 
-    /// The entry of that name.
+    /// Returns the value of the entry named `key`.
     pub fn get(&self, key: &str) -> Option<&AnyValue>
         ensures { option_map (λ v. tree v.now) result ≡ get self.now key.now }
     {
         self.entries.get(key)
     }
 
-    /// Parts with the entry set, in place of an older one of that name.
+    /// Returns parts with the entry set, replacing an entry named `key`.
     pub fn with_value(
         &self,
         alloc: Global,
@@ -92,7 +92,7 @@ impl Parts {
         Ok(Rc::new(alloc, parts)?)
     }
 
-    /// The baggage. `None` stands for the empty one.
+    /// Returns the baggage. `None` means the empty baggage.
     pub fn baggage(&self) -> Option<&Baggage>
         ensures { option_map (λ b. b.now) result ≡ self.now.baggage }
     {
@@ -102,7 +102,7 @@ impl Parts {
         }
     }
 
-    /// Parts with that baggage.
+    /// Returns parts with the given baggage.
     pub fn with_baggage(&self, alloc: Global, baggage: Baggage) -> Result<Rc<Parts>, AllocError>
         ensures { IfOk result (λ c. c.value ≡ with_baggage self.now baggage) }
     {
@@ -111,7 +111,7 @@ impl Parts {
         Ok(Rc::new(alloc, parts)?)
     }
 
-    /// Parts without baggage.
+    /// Returns parts without baggage.
     pub fn with_cleared_baggage(&self, alloc: Global) -> Result<Rc<Parts>, AllocError>
         ensures { IfOk result (λ c. c.value ≡ with_cleared_baggage self.now) }
     {
@@ -120,14 +120,14 @@ impl Parts {
         Ok(Rc::new(alloc, parts)?)
     }
 
-    /// Whether a span is active.
+    /// Returns `true` if a span is active.
     pub fn has_active_span(&self) -> bool
         ensures { result ≡ has_active_span self.now }
     {
         self.span.is_some()
     }
 
-    /// The span context of the active span.
+    /// Returns the span context of the active span.
     pub fn span_context(&self) -> Option<&SpanContext>
         ensures { option_map (λ s. s.now) result
             ≡ option_map (λ span. span.context) self.now.span }
@@ -138,7 +138,7 @@ impl Parts {
         }
     }
 
-    /// The number of the active span in its span table. A remote span has none.
+    /// Returns the number of the active span in its span table. A remote span has none.
     pub fn span_number(&self) -> Option<u64>
         ensures { result ≡ span_number self.now }
     {
@@ -148,7 +148,7 @@ impl Parts {
         }
     }
 
-    /// Parts whose active span is a remote one.
+    /// Returns parts whose active span is remote.
     pub fn with_remote_span_context(
         &self,
         alloc: Global,
@@ -165,7 +165,7 @@ impl Parts {
         )
     }
 
-    /// Parts whose active span is a local one, with that number in its span table.
+    /// Returns parts whose active span is local, with the given number in its span table.
     pub fn with_span(
         &self,
         alloc: Global,
@@ -183,7 +183,7 @@ impl Parts {
         )
     }
 
-    /// Parts with that active span.
+    /// Returns parts with the given active span.
     fn with_active_span(&self, alloc: Global, span: ActiveSpan) -> Result<Rc<Parts>, AllocError>
         ensures { IfOk result (λ c. c.value ≡ record self.now { span = Some (span_part span) }) }
     {
@@ -192,14 +192,14 @@ impl Parts {
         Ok(Rc::new(alloc, parts)?)
     }
 
-    /// Whether telemetry is suppressed.
+    /// Returns `true` if telemetry is suppressed.
     pub fn is_telemetry_suppressed(&self) -> bool
         ensures { result ≡ is_telemetry_suppressed self.now }
     {
         self.suppressed
     }
 
-    /// Parts in which telemetry is suppressed.
+    /// Returns parts in which telemetry is suppressed.
     pub fn with_telemetry_suppressed(&self, alloc: Global) -> Result<Rc<Parts>, AllocError>
         ensures { IfOk result (λ c. c.value ≡ with_telemetry_suppressed self.now) }
     {

@@ -1,5 +1,5 @@
 //! What a span records while it runs.
-ghost use Rattle.std.specs.Prelude.{◌≡◌, OnOk, OnErr};
+ghost use Rattle.std.specs.Prelude.{◌≡◌, false, IsOk, OnOk, OnErr};
 ghost use Rattle.otel_base.specs.View.{attribute_of};
 
 use crate::status::Status;
@@ -8,17 +8,17 @@ use otel_ids::SpanContext;
 use std::alloc::{AllocError, Global};
 use std::fmt::Display;
 
-/// A piece of work in a trace, which records what happens to it while it runs.
+/// A piece of work in a trace. Records what happens to it while it runs.
 ///
-/// Who writes a span type names, by ghost members, the effect of each writing call as a function of
-/// the span and of what the arguments mean: `after_event` of name, time and attributes,
-/// `after_attribute`, `after_link`, `after_status`, `after_name`, `after_end`; and `context_of` and
-/// `records`, what `span_context` and `is_recording` return. Each call owes its effect or, after an
-/// error, the span as it was, and no effect changes the span context (`event_keeps` and the five
-/// laws like it). The other calls are made of these. What the calls do once the span has ended is
-/// for the type to say.
+/// A span type names, by ghost members, the effect of each writing call as a function of the span
+/// and of the arguments' meaning: `after_event` of name, time and attributes, `after_attribute`,
+/// `after_link`, `after_status`, `after_name`, `after_end`; and `context_of` and `records`, what
+/// `span_context` and `is_recording` return. Each call has its effect or, on an error, leaves the
+/// span unchanged, and no effect changes the span context (`event_keeps` and the five laws like
+/// it). The other calls are made of these. The type decides what the calls do after the span has
+/// ended.
 ///
-/// One effect with its law and its call, of a span type that keeps its name:
+/// One effect with its law and its call, of a span type that stores its name:
 ///
 /// ```
 /// ghost after_name = { λ span name. record span { name = name } };
@@ -30,10 +30,10 @@ use std::fmt::Display;
 /// ghost name_keeps = { λ span name. refl };
 /// ```
 ///
-/// `RecordingSpan` of the crate `otel_recording` is a whole span type, proved.
+/// `RecordingSpan` in the crate `otel_recording` is a complete, proved span type.
 ///
-/// Moments are nanoseconds since 1970-01-01T00:00:00Z. The Rust crate reads the clock in
-/// `add_event`, `record_error` and `end`; here the moment is handed in.
+/// Timestamps are nanoseconds since 1970-01-01T00:00:00Z. The Rust crate reads the clock in
+/// `add_event`, `record_error` and `end`; here the caller passes the time.
 pub trait Span: Drop {
     ghost use Rattle.std.specs.Prelude.{ℕ, List, Bool};
     ghost use Rattle.otel_ids.specs.SpanContext.{SpanContextRecord};
@@ -58,11 +58,11 @@ pub trait Span: Drop {
 
     ghost after_end: { Self → ℕ → Self };
 
-    /// Adds an event that happened at that moment.
+    /// Adds an event with the given timestamp.
     ///
     /// # Errors
     ///
-    /// `AllocError` where a request for memory fails. The span is unchanged.
+    /// Returns an error if memory runs out. The span is then unchanged.
     fn add_event_with_timestamp(
         &mut self,
         alloc: Global,
@@ -78,7 +78,7 @@ pub trait Span: Drop {
     ///
     /// # Errors
     ///
-    /// `AllocError` where a request for memory fails. The span is unchanged.
+    /// Returns an error if memory runs out. The span is then unchanged.
     fn set_attribute(&mut self, alloc: Global, attribute: KeyValue) -> Result<(), AllocError>
         ensures ok { OnOk result (self.new ≡ after_attribute self.old (attribute_of attribute)) }
         ensures err { OnErr result (self.new ≡ self.old) };
@@ -87,7 +87,7 @@ pub trait Span: Drop {
     ///
     /// # Errors
     ///
-    /// `AllocError` where a request for memory fails. The span is unchanged.
+    /// Returns an error if memory runs out. The span is then unchanged.
     fn add_link(
         &mut self,
         alloc: Global,
@@ -98,23 +98,23 @@ pub trait Span: Drop {
             (self.new ≡ after_link self.old span_context (attributes_of attributes)) }
         ensures err { OnErr result (self.new ≡ self.old) };
 
-    /// Sets how it went.
+    /// Sets the status.
     fn set_status(&mut self, status: Status)
         ensures { self.new ≡ after_status self.old status };
 
-    /// Gives the span another name.
+    /// Replaces the name of the span.
     fn update_name(&mut self, name: StringValue)
         ensures { self.new ≡ after_name self.old name };
 
-    /// Ends the span at that moment.
+    /// Ends the span with the given timestamp.
     fn end_with_timestamp(&mut self, timestamp: u64)
         ensures { self.new ≡ after_end self.old timestamp };
 
-    /// What identifies the span. It stays the same for as long as the span is there.
+    /// Returns the span context, which identifies the span and never changes.
     fn span_context(&self) -> &SpanContext
         ensures { result.now ≡ context_of self.now };
 
-    /// Whether the span still records what the calls give it.
+    /// Returns `true` if the span still records what the calls pass to it.
     fn is_recording(&self) -> bool
         ensures { result ≡ records self.now };
 
@@ -122,7 +122,7 @@ pub trait Span: Drop {
     ///
     /// # Errors
     ///
-    /// `AllocError` where a request for memory fails. The span is unchanged.
+    /// Returns an error if memory runs out. The span is then unchanged.
     fn add_event(
         &mut self,
         alloc: Global,
@@ -138,11 +138,12 @@ pub trait Span: Drop {
     }
 
     /// Adds an event `exception` that happens now, with the error's text as the attribute
-    /// `exception.message`. Where the span doesn't record, it does nothing.
+    /// `exception.message`. Does nothing if the span doesn't record: the error isn't printed then.
     ///
     /// # Errors
     ///
-    /// `AllocError` where a request for memory fails. The span is unchanged.
+    /// `AllocError` if out of memory, or if the error's `fmt` fails. The span, which records, is
+    /// unchanged.
     fn record_error<E: Display>(
         &mut self,
         alloc: Global,
@@ -152,6 +153,7 @@ pub trait Span: Drop {
         ensures ok { OnOk result
             (RecordsError records after_event self.old (E.output error.now) now self.new) }
         ensures err { OnErr result (self.new ≡ self.old) }
+        ensures idle { records self.old ≡ false → IsOk result × (self.new ≡ self.old) }
     {
         if !self.is_recording() {
             return Ok(());
@@ -164,16 +166,18 @@ pub trait Span: Drop {
         self.add_event(alloc, StringValue::from("exception"), attributes, now)
     }
 
-    /// Asks once whether the span records, and then sets each attribute, in order.
+    /// Asks once whether the span records, and if so sets each attribute, in order.
     ///
     /// # Errors
     ///
-    /// `AllocError` where a request for memory fails. A beginning of the attributes is set.
+    /// `AllocError` if out of memory. The span records, and the attributes before the one that
+    /// failed are set.
     fn set_attributes(&mut self, alloc: Global, attributes: Vec<KeyValue>) -> Result<(), AllocError>
         ensures ok { OnOk result
             (SetsAttributes records after_attribute self.old (attributes_of attributes) self.new) }
         ensures err { OnErr result
             (SetsBeginning after_attribute self.old (attributes_of attributes) self.new) }
+        ensures idle { records self.old ≡ false → IsOk result × (self.new ≡ self.old) }
     {
         if self.is_recording() {
             for attribute in attributes {

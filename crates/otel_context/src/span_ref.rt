@@ -1,6 +1,5 @@
 //! A reference to the span of a context.
 ghost use Rattle.std.specs.Prelude.{◌≡◌, false, None, IsOk, OnOk, OnErr};
-ghost use Rattle.std.specs.Option.{option_map_or};
 ghost use Rattle.otel_base.specs.View.{attribute_of};
 ghost use Rattle.otel_context.specs.SpanCalls.{OthersStay, OthersStay-prop};
 
@@ -13,10 +12,10 @@ use std::alloc::{AllocError, Global};
 use std::fmt::Display;
 use std::snapshot::Snapshot;
 
-/// The span of a context: its span context, and the span itself where the table has it.
+/// The span of a context: its span context, and the span itself if the table has it.
 ///
-/// Each call acts on the span of the context's number alone. Where the context has no number, as of
-/// a remote span, or the span was taken out of the table, a call does nothing and returns `Ok`, and
+/// Each call acts only on the span with the context's number. If the context has no number, as for
+/// a remote span, or the span was removed from the table, a call does nothing, returns `Ok`, and
 /// takes no memory.
 ///
 /// See `otel_examples::in_span`, where an attribute is set on the span of a context.
@@ -24,7 +23,7 @@ pub struct SpanRef<'a, S> {
     pub(crate) context: &'a SpanContext,
     pub(crate) number: Option<u64>,
     pub(crate) spans: &'a mut Spans<S>,
-    // The table as it was lent. It takes no bytes.
+    // The table at the start of the borrow. Takes no bytes.
     pub(crate) first: Snapshot<Spans<S>>,
     ghost others: { OthersStay number first.value spans.now } by { OthersStay-prop S.code number first.value spans.now },
 }
@@ -45,19 +44,19 @@ impl<S> Drop for SpanRef<'_, S> {
 impl<'a, S: Span> SpanRef<'a, S> {
     ghost use Rattle.otel_context.specs.SpanEffects.{attributes_of, SetsAttributes, SetsBeginning};
     ghost use Rattle.otel_context.specs.SpanEffects.{RecordsError};
-    ghost use Rattle.otel_context.specs.SpanRef.{table_of, span_context, span_of, table_after};
+    ghost use Rattle.otel_context.specs.SpanRef.{table_of, span_context, span_of, is_recording, table_after};
     ghost use Rattle.otel_context.specs.SpanRef.{Becomes, IsSameReference};
 
-    /// The context's span context, also where the table doesn't have the span.
+    /// Returns the context's span context, also if the table doesn't have the span.
     pub fn span_context(&self) -> &SpanContext
         ensures { result.now ≡ span_context self.now }
     {
         self.context
     }
 
-    /// Whether the span records. Without a span it doesn't.
+    /// Returns whether the span records. Without a span it doesn't.
     pub fn is_recording(&self) -> bool
-        ensures { result ≡ option_map_or S.records (span_of self.now) false }
+        ensures { result ≡ is_recording S.records self.now }
     {
         match self.spans.find(self.number) {
             Some(span) => span.is_recording(),
@@ -65,11 +64,11 @@ impl<'a, S: Span> SpanRef<'a, S> {
         }
     }
 
-    /// Adds an event that happened at that moment, in nanoseconds since 1970.
+    /// Adds an event with the given timestamp, in nanoseconds since 1970.
     ///
     /// # Errors
     ///
-    /// `AllocError` where a request for memory fails. The span is unchanged.
+    /// Returns an error if memory runs out. The span is then unchanged.
     pub fn add_event_with_timestamp(
         &mut self,
         alloc: Global,
@@ -90,11 +89,11 @@ impl<'a, S: Span> SpanRef<'a, S> {
         }
     }
 
-    /// Adds an event that happens now, the moment being handed in.
+    /// Adds an event that happens now, at the time passed in.
     ///
     /// # Errors
     ///
-    /// `AllocError` where a request for memory fails. The span is unchanged.
+    /// Returns an error if memory runs out. The span is then unchanged.
     pub fn add_event(
         &mut self,
         alloc: Global,
@@ -115,11 +114,13 @@ impl<'a, S: Span> SpanRef<'a, S> {
         }
     }
 
-    /// Adds an event `exception` with the error's text, where the span records.
+    /// Adds an event `exception` with the error's text. Does nothing if the span doesn't record:
+    /// the error isn't printed then.
     ///
     /// # Errors
     ///
-    /// `AllocError` where a request for memory fails. The span is unchanged.
+    /// `AllocError` if out of memory, or if the error's `fmt` fails. The span, which records, is
+    /// unchanged.
     pub fn record_error<E: Display>(
         &mut self,
         alloc: Global,
@@ -131,6 +132,8 @@ impl<'a, S: Span> SpanRef<'a, S> {
             RecordsError S.records S.after_event s (E.output error.now) now left)
             self.old self.new) }
         ensures err { OnErr result (table_of self.new ≡ table_of self.old) }
+        ensures idle { is_recording S.records self.old ≡ false
+            → IsOk result × (table_of self.new ≡ table_of self.old) }
         ensures absent { span_of self.old ≡ None → IsOk result }
     {
         let spans = &mut *self.spans;
@@ -144,7 +147,7 @@ impl<'a, S: Span> SpanRef<'a, S> {
     ///
     /// # Errors
     ///
-    /// `AllocError` where a request for memory fails. The span is unchanged.
+    /// Returns an error if memory runs out. The span is then unchanged.
     pub fn set_attribute(&mut self, alloc: Global, attribute: KeyValue) -> Result<(), AllocError>
         ensures same { IsSameReference self.old self.new }
         ensures ok { OnOk result (table_of self.new ≡ table_after (λ s.
@@ -159,11 +162,12 @@ impl<'a, S: Span> SpanRef<'a, S> {
         }
     }
 
-    /// Asks once whether the span records, and then sets each attribute, in order.
+    /// Asks once whether the span records, and if so sets each attribute, in order.
     ///
     /// # Errors
     ///
-    /// `AllocError` where a request for memory fails. A beginning of the attributes is set.
+    /// `AllocError` if out of memory. The span records, and the attributes before the one that
+    /// failed are set.
     pub fn set_attributes(
         &mut self,
         alloc: Global,
@@ -176,6 +180,8 @@ impl<'a, S: Span> SpanRef<'a, S> {
         ensures err { OnErr result (Becomes (λ s left.
             SetsBeginning S.after_attribute s (attributes_of attributes) left)
             self.old self.new) }
+        ensures idle { is_recording S.records self.old ≡ false
+            → IsOk result × (table_of self.new ≡ table_of self.old) }
         ensures absent { span_of self.old ≡ None → IsOk result }
     {
         let spans = &mut *self.spans;
@@ -189,7 +195,7 @@ impl<'a, S: Span> SpanRef<'a, S> {
     ///
     /// # Errors
     ///
-    /// `AllocError` where a request for memory fails. The span is unchanged.
+    /// Returns an error if memory runs out. The span is then unchanged.
     pub fn add_link(
         &mut self,
         alloc: Global,
@@ -209,7 +215,7 @@ impl<'a, S: Span> SpanRef<'a, S> {
         }
     }
 
-    /// Sets how it went.
+    /// Sets the status.
     pub fn set_status(&mut self, status: Status)
         ensures same { IsSameReference self.old self.new }
         ensures table { table_of self.new ≡ table_after (λ s. S.after_status s status) self.old }
@@ -221,7 +227,7 @@ impl<'a, S: Span> SpanRef<'a, S> {
         }
     }
 
-    /// Gives the span another name.
+    /// Replaces the name of the span.
     pub fn update_name(&mut self, name: StringValue)
         ensures same { IsSameReference self.old self.new }
         ensures table { table_of self.new ≡ table_after (λ s. S.after_name s name) self.old }
@@ -233,7 +239,7 @@ impl<'a, S: Span> SpanRef<'a, S> {
         }
     }
 
-    /// Ends the span at that moment, in nanoseconds since 1970.
+    /// Ends the span with the given timestamp, in nanoseconds since 1970.
     pub fn end_with_timestamp(&mut self, timestamp: u64)
         ensures same { IsSameReference self.old self.new }
         ensures table { table_of self.new ≡ table_after (λ s. S.after_end s timestamp) self.old }
@@ -245,7 +251,7 @@ impl<'a, S: Span> SpanRef<'a, S> {
         }
     }
 
-    /// Ends the span now, the moment being handed in.
+    /// Ends the span now, at the time passed in.
     pub fn end(&mut self, now: u64)
         ensures same { IsSameReference self.old self.new }
         ensures table { table_of self.new ≡ table_after (λ s. S.after_end s now) self.old }

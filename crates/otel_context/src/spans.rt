@@ -1,4 +1,4 @@
-//! The table of the spans that contexts name by their numbers.
+//! The table of the spans that contexts refer to by number.
 ghost use Rattle.std.specs.Prelude.{◌≡◌, ◌↔◌, IsTrue, IsErr, OnOk, OnErr, IfOk, IfErr, None};
 ghost use Rattle.std.specs.Prelude.{option_copied, alloc_error};
 ghost use Rattle.std.specs.Option.{option_copied_mut};
@@ -8,32 +8,32 @@ use std::alloc::{AllocError, Global};
 use std::collections::BTreeMap;
 use std::marker::Model;
 
-/// Why a table took no span. Not in the Rust crate.
+/// Why a table refused a span. Not in the Rust crate.
 ///
 /// See [`SpanRefused`].
 #[derive(Debug, Drop)]
 pub enum SpanCause {
-    /// Each number, from 0 to 18446744073709551614, was given out or passed over.
+    /// Every number from 0 to 18446744073709551614 was given out or skipped.
     NumbersUsedUp,
-    /// A request for memory failed.
+    /// Memory ran out.
     Memory(AllocError),
 }
 
-/// A span that wasn't taken, and why. Not in the Rust crate.
+/// A span that was refused, and why. Not in the Rust crate.
 ///
 /// See `otel_examples::service`, where the span goes back to the caller.
 #[derive(Drop)]
 pub struct SpanRefused<S> {
-    /// The span that was handed in.
+    /// The span that was passed in.
     pub span: S,
-    /// Why it wasn't taken.
+    /// Why it was refused.
     pub cause: SpanCause,
 }
 
 impl<S> SpanRefused<S> {
     ghost use Rattle.otel_context.specs.declared.spans.SpanCause.TheVariants as Cause;
 
-    // The refusal where the numbers are used up.
+    // Returns the refusal for numbers that are used up.
     pub(crate) fn numbers_used_up(span: S) -> SpanRefused<S>
         ensures { result ≡ record { span = span; cause = Cause.NumbersUsedUp } }
     {
@@ -43,7 +43,7 @@ impl<S> SpanRefused<S> {
         }
     }
 
-    // The refusal where a request for memory failed.
+    // Returns the refusal for memory that ran out.
     pub(crate) fn no_memory(span: S) -> SpanRefused<S>
         ensures { result ≡ record { span = span; cause = Cause.Memory alloc_error } }
     {
@@ -54,11 +54,11 @@ impl<S> SpanRefused<S> {
     }
 }
 
-/// The spans that contexts name by their numbers. Not in the Rust crate, whose contexts share their
+/// The spans that contexts refer to by number. Not in the Rust crate, whose contexts share their
 /// spans behind a lock.
 ///
-/// Each span that is put in gets the next number, and no number is given out twice, even after its
-/// span was taken. Contracts see a finite map from numbers to spans, and the next number.
+/// Each span inserted gets the next number, and no number is given out twice, even after its span
+/// was taken. Contracts see a finite map from numbers to spans, and the next number.
 ///
 /// ```
 /// let mut spans = Spans::new(alloc);
@@ -90,17 +90,17 @@ impl<S> Model for Spans<S> {
 
 impl<S: Drop> Spans<S> {
     ghost use Rattle.otel_context.specs.Spans.{starting_at, get, find, len, insert, take};
-    ghost use Rattle.otel_context.specs.Spans.{used_up, refusal};
+    ghost use Rattle.otel_context.specs.Spans.{IsNumbered, used_up, refusal};
     ghost use Rattle.otel_context.specs.SpansLent.{LendsSpan, LendsFound};
 
-    /// An empty table, whose first number is 0. Takes no memory.
+    /// Returns an empty table, whose first number is 0. Takes no memory.
     pub fn new(alloc: Global) -> Spans<S>
         ensures { result ≡ starting_at 0 }
     {
         Spans::starting_at(alloc, 0)
     }
 
-    /// An empty table, whose first number is `first`. Takes no memory.
+    /// Returns an empty table, whose first number is `first`. Takes no memory.
     pub fn starting_at(alloc: Global, first: u64) -> Spans<S>
         ensures { result ≡ starting_at first }
     {
@@ -110,14 +110,15 @@ impl<S: Drop> Spans<S> {
         }
     }
 
-    /// Puts a span under the next number, and returns that number. It is looked up, taken and put
-    /// in within the logarithm of the table's size.
+    /// Puts a span under the next number, and returns that number. Takes time logarithmic in the
+    /// size of the table, as `get`, `get_mut` and `take` do.
     ///
     /// # Errors
     ///
-    /// `NumbersUsedUp` where the next number is 18446744073709551615, and else `Memory` where a
-    /// request for memory fails. The table is unchanged, and the span comes back.
+    /// `NumbersUsedUp` if the next number is 18446744073709551615, and otherwise `Memory` if out of
+    /// memory. The table is unchanged, and the span comes back.
     pub fn insert(&mut self, span: S) -> Result<u64, SpanRefused<S>>
+        ensures numbered { IsNumbered self.old }
         ensures number { IfOk result (λ number. number ≡ self.old.next_number) }
         ensures fresh { IfOk result (λ number. get self.old number ≡ None) }
         ensures inserted { OnOk result (self.new ≡ insert self.old span) }
@@ -141,14 +142,14 @@ impl<S: Drop> Spans<S> {
         }
     }
 
-    /// The span under a number.
+    /// Returns the span with the given number.
     pub fn get(&self, number: u64) -> Option<&S>
         ensures { option_copied result ≡ get self.now number }
     {
         self.table.get(&number)
     }
 
-    /// The span under a number, lent for writing. Every other span stays as it is.
+    /// Returns the span with the given number, mutably. Every other span is unchanged.
     pub fn get_mut(&mut self, number: u64) -> Option<&mut S>
         ensures* writes_back { sem 𝓛 (LendsSpan S.row self.entry number result) }
         ensures value { option_copied_mut result ≡ get self.old number }
@@ -156,7 +157,7 @@ impl<S: Drop> Spans<S> {
         self.table.get_mut(&number)
     }
 
-    /// The span under the number of a context, which may have none.
+    /// Returns the span with the number of a context, which may have none.
     pub(crate) fn find(&self, number: Option<u64>) -> Option<&S>
         ensures { option_copied result ≡ find self.now number }
     {
@@ -166,7 +167,7 @@ impl<S: Drop> Spans<S> {
         }
     }
 
-    /// The same, lent for writing.
+    /// Like `find`, mutably.
     pub(crate) fn find_mut(&mut self, number: Option<u64>) -> Option<&mut S>
         ensures* writes_back { sem 𝓛 (LendsFound S.row self.entry number result) }
         ensures value { option_copied_mut result ≡ find self.old number }
@@ -177,7 +178,7 @@ impl<S: Drop> Spans<S> {
         }
     }
 
-    /// Takes the span under a number out of the table. Its number isn't given out again.
+    /// Removes the span with the given number, and returns it. The number isn't given out again.
     pub fn take(&mut self, number: u64) -> Option<S>
         ensures value { result ≡ get self.old number }
         ensures taken { self.new ≡ take self.old number }
@@ -185,23 +186,24 @@ impl<S: Drop> Spans<S> {
         self.table.remove(&number)
     }
 
-    /// How many spans stand in the table.
+    /// Returns the number of spans in the table.
     pub fn len(&self) -> usize
         ensures { result ≡ len self.now }
     {
         self.table.len()
     }
 
-    /// Whether no span stands in the table.
+    /// Returns `true` if the table has no spans.
     pub fn is_empty(&self) -> bool
         ensures { IsTrue result ↔ (len self.now ≡ 0) }
     {
         self.len() == 0
     }
 
-    /// The number of the next span that is put in, or 18446744073709551615 once the numbers are
-    /// used up. No span stands under it.
+    /// Returns the number of the next span that is put in, or 18446744073709551615 once the numbers
+    /// are used up. It is greater than the number of each span in the table.
     pub fn next_number(&self) -> u64
+        ensures numbered { IsNumbered self.now }
         ensures number { result ≡ self.now.next_number }
         ensures fresh { get self.now result ≡ None }
     {

@@ -1,4 +1,4 @@
-//! How what a span stands for went, and which side of a call it describes.
+//! The status of a span, and which side of a call it describes.
 ghost use Rattle.std.specs.Prelude.{◌≡◌, ◌↔◌, IsTrue, Some};
 ghost use Rattle.std.proofs.Common.{rules};
 ghost use Rattle.std.specs.Cmp.Rules.{comparing};
@@ -10,7 +10,7 @@ use otel_base::StringValue;
 use std::alloc::AllocError;
 use std::cmp::Ordering;
 
-/// Which side of a call a span describes. (OpenTelemetry trace API, "SpanKind".)
+/// Which side of a call a span describes (OpenTelemetry trace API, "SpanKind").
 ///
 /// ```
 /// let built = tracer
@@ -24,7 +24,7 @@ pub enum SpanKind {
     Client,
     /// The handling of such a request.
     Server,
-    /// The start of work that another span takes up later.
+    /// The start of work that another span continues later.
     Producer,
     /// The work that a producer started.
     Consumer,
@@ -32,36 +32,36 @@ pub enum SpanKind {
     Internal,
 }
 
-/// How what a span stands for went. (OpenTelemetry trace API, "Set Status".)
+/// The status of a span (OpenTelemetry trace API, "Set Status").
 ///
-/// `Unset` is below an error, and an error below `Ok`. Two errors compare by their descriptions,
-/// byte by byte.
+/// `Unset` is less than an error, and an error is less than `Ok`. Two errors compare by their
+/// descriptions, byte by byte.
 ///
 /// ```
 /// span.set_status(Status::error(StringValue::from("why")));
 /// ```
 #[derive(Debug, Drop)]
 pub enum Status {
-    /// Nothing was said.
+    /// The default status.
     Unset,
-    /// It failed.
+    /// The operation failed.
     Error {
         /// What failed.
         description: StringValue,
     },
-    /// It went well, by the word of who wrote the program.
+    /// The operation succeeded, as marked by the application developer.
     Ok,
 }
 
 impl Status {
-    /// The status of a failure.
+    /// Returns the status of a failure with this description.
     pub fn error(description: StringValue) -> Status
         ensures { result ≡ Variant.Error description }
     {
         Status::Error { description }
     }
 
-    /// The place of the status among the three cases.
+    /// Returns the rank of the status among the three variants.
     fn rank(&self) -> u8
         ensures { result ≡ status.rank self.now }
     {
@@ -76,7 +76,7 @@ impl Status {
 impl Default for Status {
     ghost is_default = { λ s. s ≡ Variant.Unset };
 
-    /// `Unset`.
+    /// Returns `Unset`.
     fn default() -> Status {
         Status::Unset
     }
@@ -85,11 +85,11 @@ impl Default for Status {
 impl Clone for Status {
     ghost is_clone = { λ s copy. copy ≡ s };
 
-    /// The same status.
+    /// Returns a copy.
     ///
     /// # Errors
     ///
-    /// `AllocError` where a request for the description's memory fails.
+    /// Returns an error if memory for the description runs out.
     fn clone(&self) -> Result<Status, AllocError> {
         match self {
             Status::Unset => Ok(Status::Unset),
@@ -104,7 +104,8 @@ impl PartialEq for Status {
 
     ghost laws = { Prim.search (comparing, rules) };
 
-    /// Whether both are the same case and, of two errors, have the same description.
+    /// Returns `true` if both are the same variant and, if they are errors, have the same
+    /// description.
     fn eq(&self, other: &Status) -> bool
         ensures value { result ≡ status.eq self.now other.now }
         ensures same { IsTrue result ↔ (self.now ≡ other.now) }
@@ -125,7 +126,7 @@ impl PartialOrd for Status {
 
     ghost laws = { Prim.search (comparing, rules) };
 
-    /// How the cases compare, and of two errors the descriptions.
+    /// Compares the variants, and the descriptions of two errors.
     fn partial_cmp(&self, other: &Status) -> Option<Ordering> {
         match (self, other) {
             (Status::Error { description: a }, Status::Error { description: b }) => {

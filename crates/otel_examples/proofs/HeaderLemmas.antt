@@ -70,14 +70,14 @@ module _ {A : Type 0} where
     | inr other ↦ rw other (none_before n es (omega (arith, rw other at h)))
   ]
 
-  -- where no index was found there is no value
+  -- if no index was found there is no value
   pub not_found : (n : List ℕ) (es : PairsOf A) → position (has_name n) es ≡ None → value_at n es ≡ None
   not_found n es h = elim (cases_lt (position_or_len (has_name n) es) (length es)) [
     | inl within ↦ absurd (grind (arith, h, within))
     | inr past ↦ none_before n es past
   ]
 
-  -- where an index was found the value stands there
+  -- if an index was found the value is there
   pub found : (n : List ℕ) (es : PairsOf A) (i : ℕ) (d : String A × String A) → position (has_name n) es ≡ Some i
       → value_at n es ≡ Some (get_or es i d).1
   found n es i d h =
@@ -155,7 +155,7 @@ any-dedup : {X : Type 0} (p : X → Bool) (E : X → X → Bool) → ((x y : X) 
 any-dedup p E alike [] = refl
 any-dedup p E alike (x ∷ xs) = any-dedup_from p E alike x xs
 
--- the names, lent, sorted and each once, are the keys
+-- the names, borrowed, sorted and each once, are the keys
 pub keys_once : {A : Type 0} (es : List (String A × String A)) (xs ys zs : List (Bor (List ℕ)))
     → map (λ x. x.now) xs ≡ map (λ e. string_bytes e.0) es → IsPermutation xs ys
     → IsSorted (λ x y. slice_cmp nat_cmp x.now y.now) ys → zs ≡ dedup (λ x y. bytes_eq x.now y.now) ys

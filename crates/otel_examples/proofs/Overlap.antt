@@ -1,4 +1,4 @@
--- Two attachments, of which the older is removed first.
+-- Two attachments, the older of which is removed first.
 use Rattle.std.proofs.Common.{◌≡◌, ℕ, ◌+◌, ◌<◌, [], ◌∷◌, ◌++◌, Option, Ok, map, refl, ap, ◌∙◌, arith, inl, inr}
 use Rattle.std.specs.Prelude.{◌==◌, ◌≢◌}
 use Rattle.std.specs.declared.alloc.AllocError.{AllocError}
@@ -41,7 +41,7 @@ module _ (before first both left after : StackState) (a b : ContextRecord) (p q 
     (attach_a : Attaches {E = AllocError} a before first (Ok p))
     (attach_b : Attaches {E = AllocError} b first both (Ok q))
     (remove_a : Detaches p both left x) (remove_b : Detaches q left after y) where
-  -- what the first attach leaves, where a position is left
+  -- what the first attach leaves, if a position is left
   first_live : newest_position before.live < last_position → first.live ≡ attach a before.live
   first_live room = ap (λ (s : StackState). s.live) (attach_a.accepted room).1
 
@@ -52,7 +52,7 @@ module _ (before first both left after : StackState) (a b : ContextRecord) (p q 
   both_live : newest_position first.live < last_position → both.live ≡ attach b first.live
   both_live room = ap (λ (s : StackState). s.live) (attach_b.accepted room).1
 
-  -- the first alone is removed to what was live before
+  -- the removal of the first leaves what was live before
   first_removed : newest_position before.live < last_position → detach p first.live ≡ before.live
   first_removed room =
       ap (λ k. detach k first.live) (attach_a.accepted room).0 ∙ ap (detach (newest_position before.live + 1)) (first_live room)

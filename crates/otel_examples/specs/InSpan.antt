@@ -1,4 +1,4 @@
--- What a caller of `in_span` gains.
+-- What a caller of `in_span` gets.
 use Rattle.std.specs.Prelude.{◌≡◌, ℕ, Option, Some, codes}
 use Rattle.otel_base.specs.KeyValue.{Attribute}
 use Rattle.otel_base.specs.Value.{text}
@@ -23,7 +23,7 @@ module _ {S : Type 0} (after_attribute : S → Attribute → S) where
     pub number : child ≡ (set old (span_number context)).next_number
     pub table : new ≡ insert (set old (span_number context)) span
 
-  -- a span was put into the table, the attribute set on it, and then a child span put in
+  -- a span was put into the table, the attribute was set on it, and then a child span was put in
   pub record HasBoth (old : SpansState S) (parent child : ℕ) (new : SpansState S) : Type 0 where
     pub parent_span : S
     pub child_span : S

@@ -1,3 +1,4 @@
+pub mod Composite
 pub mod InSpan
 pub mod LogBridge
 pub mod RequestId

@@ -1,4 +1,4 @@
--- What a service gains that forwards a request.
+-- What a service that forwards a request promises.
 use Rattle.std.specs.Prelude.{◌≡◌, ℕ}
 use Rattle.otel_ids.specs.SpanContext.{SpanContextRecord}
 use Rattle.otel_context.specs.Context.{ContextRecord, with_span}

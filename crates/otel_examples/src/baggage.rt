@@ -1,4 +1,4 @@
-//! A baggage that is filled, read back and printed.
+//! Fills a baggage, reads it back and prints it.
 ghost use Rattle.std.specs.Prelude.{◌≡◌, ◌∷◌, [], IfOk, codes, string_bytes, option_map};
 ghost use Rattle.otel_context.specs.Baggage.{get};
 ghost use Rattle.otel_context.specs.BaggageMember.{member_of};
@@ -7,11 +7,11 @@ use opentelemetry::baggage::Baggage;
 use opentelemetry::{Key, StringValue};
 use std::alloc::{AllocError, Global};
 
-/// A baggage of a tenant and a region.
+/// Returns a baggage with a tenant and a region.
 ///
 /// # Errors
 ///
-/// `AllocError` where a request for memory fails.
+/// `AllocError` if out of memory.
 pub fn of_tenant(alloc: Global) -> Result<Baggage, AllocError>
     ensures { IfOk result (λ baggage. baggage
         ≡ member_of (codes "tenant") (codes "acme") []
@@ -23,7 +23,7 @@ pub fn of_tenant(alloc: Global) -> Result<Baggage, AllocError>
     Ok(baggage)
 }
 
-/// The region of a baggage, where it has one.
+/// Returns the region of a baggage, if it has one.
 pub fn region(baggage: &Baggage) -> Option<&str>
     ensures { option_map (λ region. region.now) result ≡ get baggage.now (codes "region") }
 {
@@ -31,11 +31,11 @@ pub fn region(baggage: &Baggage) -> Option<&str>
     Some(region.as_str())
 }
 
-/// The baggage of a tenant as the value of a `baggage` header.
+/// Returns the baggage of a tenant as the value of a `baggage` header.
 ///
 /// # Errors
 ///
-/// `AllocError` where a request for memory fails.
+/// `AllocError` if out of memory.
 pub fn tenant_header(alloc: Global) -> Result<String, AllocError>
     ensures { IfOk result (λ header.
         string_bytes header ≡ codes "tenant=acme,region=eu%20west") }

@@ -1,4 +1,4 @@
-//! A carrier of one's own: headers as HTTP has them, a list of names with values.
+//! A custom carrier: headers as HTTP has them, a list of names with values.
 ghost use Rattle.std.specs.Prelude.{◌≡◌, string_bytes};
 ghost use Rattle.std.specs.List.{position};
 ghost use Rattle.std.specs.Str.{bytes_eq};
@@ -7,7 +7,7 @@ ghost use Rattle.opentelemetry.specs.Carrier.{TextMap, text_map};
 use opentelemetry::propagation::{Extractor, Injector, PropagationError};
 use std::alloc::{AllocError, Global};
 
-/// Headers: names in lower case with their values, in order. Of a name that stands twice the first
+/// Headers: names in lower case with their values, in order. If a name occurs twice, the first
 /// counts.
 #[derive(Drop)]
 pub struct Headers {
@@ -15,7 +15,7 @@ pub struct Headers {
     pub pairs: Vec<(String, String)>,
 }
 
-/// The index of the first pair of that name.
+/// Returns the index of the first pair named `name`.
 fn index_of(pairs: &Vec<(String, String)>, name: &str) -> Option<usize>
     ensures { result ≡ position (λ pair. bytes_eq name.now (string_bytes pair.0)) pairs.now.items }
 {

@@ -7,7 +7,7 @@ use opentelemetry::trace::{Span, SpanBody, Spans, StartError, Tracer};
 use opentelemetry::{Key, KeyValue, StringValue, Value};
 use std::alloc::Global;
 
-/// Does nothing: the work of the child span would stand here.
+/// Does nothing: the work of the child span would go here.
 #[derive(Drop)]
 pub struct Query;
 
@@ -22,12 +22,12 @@ impl<S> SpanBody<S> for Query {
     fn call(self, _stack: &mut ContextStack, _spans: &mut Spans<S>, _context: Context) {}
 }
 
-/// Handles a request: says in the request's span what it is, and runs a query in a child span.
+/// Handles a request: sets the request's method on its span, and runs a query in a child span.
 #[derive(Drop)]
 pub struct Request<'a, T> {
-    /// What starts the child span.
+    /// Starts the child span.
     pub tracer: &'a T,
-    /// Where memory comes from.
+    /// The allocator.
     pub alloc: Global,
 }
 
@@ -35,7 +35,7 @@ impl<T: Tracer> SpanBody<T::Span> for Request<'_, T> {
     ghost use Rattle.std.specs.Prelude.{IfSome};
     ghost use Rattle.otel_examples.specs.InSpan.{HasChild};
 
-    /// The number of the child span, or `None` where a request for memory failed.
+    /// The number of the child span, or `None` if out of memory.
     type Out = Option<u64>;
 
     ghost may_leave = { λ _ _ spans context out _ left_spans.
@@ -69,13 +69,13 @@ impl<T: Tracer> SpanBody<T::Span> for Request<'_, T> {
     }
 }
 
-/// Handles a request in a span of its own, with a child span inside. Afterwards both stand in the
-/// table, and the request's has the attribute.
+/// Handles a request in a span of its own, with a child span inside. Afterwards both are in the
+/// table, and the request's span has the attribute.
 ///
 /// # Errors
 ///
-/// That of [`Tracer::in_span`]: the request wasn't handled. The child's number is `None` where a
-/// request for memory failed later.
+/// That of [`Tracer::in_span`]: the request wasn't handled. The child's number is `None` if memory
+/// runs out later.
 pub fn handle<T: Tracer>(
     alloc: Global,
     tracer: &T,

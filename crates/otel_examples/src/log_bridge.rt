@@ -1,4 +1,4 @@
-//! A bridge from a log to a logger: each record names the span under which it was made.
+//! A bridge from a log to a logger: each record names the span in which it was made.
 ghost use Rattle.std.specs.Prelude.{IfOk, codes, string_bytes};
 ghost use Rattle.otel_base.specs.AnyValue.{text};
 ghost use Rattle.otel_context.specs.Context.{span_context};
@@ -10,12 +10,12 @@ use opentelemetry::context::ContextStack;
 use opentelemetry::logs::{AnyValue, LogRecord, Logger};
 use std::alloc::{AllocError, Global};
 
-/// A record of a message, with the trace id, span id and flags of the current context's span where
-/// that is valid.
+/// Returns a record of a message, with the trace id, span id and flags of the current context's
+/// span if that is valid.
 ///
 /// # Errors
 ///
-/// `AllocError` where a request for memory fails. The message is dropped.
+/// `AllocError` if out of memory. The message is dropped.
 pub fn stamped_record<L: Logger>(
     alloc: Global,
     logger: &L,
@@ -36,7 +36,7 @@ pub fn stamped_record<L: Logger>(
     Ok(record)
 }
 
-/// Hands a message to a logger, where a record of this target would be of use.
+/// Hands a message to a logger, if a record with this target would be of use.
 pub fn log<L: Logger>(
     alloc: Global,
     logger: &L,

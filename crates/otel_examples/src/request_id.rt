@@ -1,4 +1,4 @@
-//! A propagator of one's own: the id of a request, in a header of its own.
+//! A custom propagator: the id of a request, in a header of its own.
 ghost use Rattle.std.specs.Prelude.{◌≡◌, IfOk, map, option_map, string_bytes};
 ghost use Rattle.otel_examples.specs.RequestId.{fields, id_of};
 
@@ -8,7 +8,7 @@ use opentelemetry::propagation::{Extractor, Injector, PropagationError, TextMapP
 use opentelemetry::{Context, Key, StringValue};
 use std::alloc::{AllocError, Global};
 
-/// The id of a context's request: its entry `request.id`, where that is a text.
+/// Returns the id of a context's request: its entry `request.id`, if that is a text.
 pub fn id_of(context: &Context) -> Option<&str>
     ensures { option_map (λ id. id.now) result ≡ id_of context.now }
 {
@@ -26,11 +26,11 @@ pub struct RequestId {
 }
 
 impl RequestId {
-    /// The propagator. The texts that it sets take their memory from `alloc`.
+    /// Returns the propagator. The texts that it sets are allocated in `alloc`.
     ///
     /// # Errors
     ///
-    /// `AllocError` where a request for the memory of the field's name fails.
+    /// `AllocError` if out of memory for the field's name.
     pub fn new(alloc: Global) -> Result<RequestId, AllocError>
         ensures { IfOk result (λ made. map string_bytes made.fields.items ≡ fields) }
     {

@@ -1,4 +1,4 @@
-//! Work under a context of its own: attach, work, detach, also where the work fails.
+//! Work under a context of its own: attach, work, detach, even if the work fails.
 ghost use Rattle.std.specs.Prelude.{◌≡◌, ◌<◌, ◌+◌, IfOk, IsOk, codes};
 ghost use Rattle.otel_base.specs.AnyValue.{integer};
 ghost use Rattle.otel_context.specs.Context.{get};
@@ -17,16 +17,16 @@ pub enum AmountError {
     /// The current context has no integer under `amount`.
     #[error("no amount")]
     Missing,
-    /// A request for memory failed.
+    /// Out of memory.
     #[error("no memory")]
     Memory(#[from] AllocError),
 }
 
-/// The integer under `amount` in the current context.
+/// Returns the integer under `amount` in the current context.
 ///
 /// # Errors
 ///
-/// `Missing` where there is none.
+/// `Missing` if there is none.
 pub fn current_amount(stack: &ContextStack) -> Result<i64, AmountError>
     ensures { IfOk result (λ amount.
         get (current stack.now.live) (codes "amount") ≡ Some (integer amount)) }
@@ -37,12 +37,12 @@ pub fn current_amount(stack: &ContextStack) -> Result<i64, AmountError>
     }
 }
 
-/// Reads the amount under a context, whose attachment is removed again also where there is none.
+/// Reads the amount under a context, and detaches the context again, even if it has no amount.
 ///
 /// # Errors
 ///
-/// `Missing` where the context has no integer under `amount`; `Memory` where a request for memory
-/// fails. What is live on the stack is the same after either.
+/// `Missing` if the context has no integer under `amount`; `Memory` if out of memory. What is live
+/// on the stack is the same after either.
 pub fn amount_under(stack: &mut ContextStack, context: Context) -> Result<i64, AmountError>
     ensures amount { newest_position stack.old.live < last_position → IfOk result (λ amount.
         get context (codes "amount") ≡ Some (integer amount)) }
@@ -57,12 +57,12 @@ pub fn amount_under(stack: &mut ContextStack, context: Context) -> Result<i64, A
     Ok(amount)
 }
 
-/// Attaches two contexts and removes the older first, as where two pieces of work overlap. Returns
+/// Attaches two contexts and detaches the older first, as when two pieces of work overlap. Returns
 /// a copy of the context that is current in between.
 ///
 /// # Errors
 ///
-/// `AllocError` where a request for memory fails. What is live on the stack is the same then too.
+/// `AllocError` if out of memory. What is live on the stack is the same then too.
 pub fn current_between(
     stack: &mut ContextStack,
     first: Context,

@@ -1,4 +1,5 @@
-//! A service between two others: what a request's headers carry goes on in those that are sent.
+//! A service between two others: what a request's headers carry is passed on in those that it
+//! sends.
 ghost use Rattle.std.specs.Prelude.{◌≡◌, IfOk, codes};
 ghost use Rattle.otel_context.specs.Stack.{current};
 ghost use Rattle.opentelemetry.specs.SpanBuilder.{from_name};
@@ -13,11 +14,11 @@ use std::alloc::{AllocError, Global};
 /// Why a request wasn't forwarded.
 #[derive(Drop)]
 pub enum ForwardError<S> {
-    /// Headers weren't read or set.
+    /// The headers weren't read or set.
     Headers(PropagationError),
-    /// No span was started: a request for memory failed.
+    /// No span was started: out of memory.
     Start(AllocError),
-    /// The table took no span, which comes back.
+    /// The table didn't take the span, which comes back.
     Refused(SpanRefused<S>),
 }
 
@@ -50,8 +51,8 @@ impl<S> From<SpanRefused<S>> for ForwardError<S> {
 ///
 /// # Errors
 ///
-/// As [`ForwardError`] says. After `Headers` the table may have the span, and a beginning of the
-/// headers may be set; after the others neither the table nor the headers to be sent change.
+/// See [`ForwardError`]. After `Headers` the table may have the span, and a prefix of the headers
+/// may be set; after the others neither the table nor the headers to be sent change.
 pub fn forward<T: Tracer, P: TextMapPropagator>(
     alloc: Global,
     tracer: &T,

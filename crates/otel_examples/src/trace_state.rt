@@ -1,4 +1,4 @@
-//! A trace state that is read, changed and printed.
+//! Reads a trace state, changes it and prints it.
 ghost use Rattle.std.specs.Prelude.{◌≡◌, List, IfOk, codes, string_bytes};
 ghost use Rattle.otel_ids.specs.Reading.{Reads};
 ghost use Rattle.otel_ids.specs.TraceState.{Pair, header, insert};
@@ -6,7 +6,7 @@ ghost use Rattle.otel_ids.specs.TraceState.{Pair, header, insert};
 use opentelemetry::trace::{TraceState, TraceStateError};
 use std::alloc::Global;
 
-/// The value of a `tracestate` header with this vendor's entry `acme` in front.
+/// Returns the value of a `tracestate` header with this vendor's entry `acme` in front.
 ///
 /// # Errors
 ///

@@ -14,15 +14,19 @@ pub record Pair : Type 0 where
   pub key : List ℕ
   pub value : List ℕ
 
+-- the pair of this key and this value
 abbrev pub pair_with : List ℕ → List ℕ → Pair
 pair_with key value = record { key = key; value = value }
 
+-- the key and the value are valid
 abbrev pub IsValid : Pair → Type 0
 IsValid p = (is_key p.key ≡ true) × (is_value p.value ≡ true)
 
+-- whether the pair has this key
 abbrev pub has_key : List ℕ → Pair → Bool
 has_key key p = bytes_eq p.key key
 
+-- none of the pairs has this key
 abbrev pub LacksKey : List ℕ → List Pair → Type 0
 LacksKey key ps = AllByRecursion (λ p. has_key key p ≡ false) ps
 

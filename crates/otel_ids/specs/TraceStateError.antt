@@ -24,6 +24,7 @@ value_fault value = if is_value value then None else Some (ValueFault value)
 abbrev pub pair_fault : Pair → Option Fault
 pair_fault p = if is_key p.key then value_fault p.value else Some (KeyFault p.key)
 
+-- the first fault if there is one, else the second
 abbrev pub first_of : Option Fault → Option Fault → Option Fault
 first_of None second = second
 first_of (Some fault) second = Some fault
@@ -33,28 +34,28 @@ abbrev pub pairs_fault : List Pair → Option Fault
 pairs_fault [] = None
 pairs_fault (p ∷ ps) = first_of (pair_fault p) (pairs_fault ps)
 
--- the error reports the fault, with the text that is wrong, or that a request for memory failed
+-- the error reports the fault, with the text that is wrong, or that memory ran out
 abbrev pub Reports : TraceStateError → Option Fault → Type 0
 Reports (errors.Key text) fault = fault ≡ Some (KeyFault (string_bytes text))
 Reports (errors.Value text) fault = fault ≡ Some (ValueFault (string_bytes text))
 Reports (errors.List text) fault = fault ≡ Some (ListFault (string_bytes text))
 Reports (errors.Memory e) fault = Unit {0}
 
--- the error reports that a request for memory failed
+-- the error reports that memory ran out
 abbrev pub IsMemory : TraceStateError → Type 0
 IsMemory (errors.Key text) = ⊥
 IsMemory (errors.Value text) = ⊥
 IsMemory (errors.List text) = ⊥
 IsMemory (errors.Memory e) = Unit {0}
 
--- the call makes these pairs where there is no fault, else its error reports the fault; or a
--- request for memory failed [`TraceState::from_key_value`, `TraceState::insert`,
+-- the call makes these pairs if there is no fault, else its error reports the fault; or
+-- memory ran out [`TraceState::from_key_value`, `TraceState::insert`,
 -- `TraceState::delete`]
 abbrev pub Makes : List Pair → Option Fault → Result (List Pair) TraceStateError → Type 0
 Makes pairs fault (Ok made) = (made ≡ pairs) × (fault ≡ None)
 Makes pairs fault (Err error) = Reports error fault
 
--- the call returns these pairs, or a request for memory failed
+-- the call returns these pairs, or memory ran out
 abbrev pub Returns : Result (List Pair) TraceStateError → List Pair → Type 0
 Returns (Ok read) pairs = read ≡ pairs
 Returns (Err e) pairs = IsMemory e

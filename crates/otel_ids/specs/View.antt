@@ -33,7 +33,7 @@ pub record IsHeld (places : List Place) (text : List ℕ) : Type 0 where
   pub spelled : text ≡ header (cut places text)
   pub placed : places ≡ map place (cut places text)
 
--- the same of a text that begins within a header, where it is a text still
+-- the same of a text that begins within a header, if it is a text still
 pub record IsLeft (places : List Place) (text : List ℕ) : Type 0 where
   pub held : IsHeld places text
   pub utf8 : IsUtf8 text
@@ -53,7 +53,7 @@ separator [] = []
 separator (p ∷ ps) = 44 ∷ []
 
 -- the text begins with a key, = and a value, as long as the place says, and has a comma after them
--- where they aren't all of it
+-- if they aren't all of it
 pub record IsCut (p : Place) (text : List ℕ) : Type 0 where
   pub within : p.key + 1 + p.value ≤ length text
   pub equals : slice_index text p.key ≡ 61
@@ -66,6 +66,7 @@ abbrev pub pair_code : Coded Pair
 pair_code = code_by (List ℕ × List ℕ) (coded× (coded_list coded_ℕ) (coded_list coded_ℕ))
     (λ p. (p.key, p.value)) (λ c. pair_with c.0 c.1) (λ _. refl)
 
+-- a list of pairs as the list of these
 abbrev pub pairs_code : Coded (List Pair)
 pairs_code = coded_list pair_code
 

@@ -1,4 +1,4 @@
--- An escaped value holds unreserved bytes and `%` alone, and decodes to the value.
+-- An escaped value holds only unreserved bytes and `%`, and decodes to the value.
 use Rattle.std.proofs.Common.{◌≡◌, ℕ, ◌/◌, ◌%◌, ◌<◌, Bool, true, List, [], ◌∷◌, ◌++◌, refl, ap, subst, ◌∙◌, arith, inl, inr}
 use Rattle.std.specs.Prelude.{◌&&◌, ◌||◌, ◌==◌, nat_lt, IsUtf8}
 use Rattle.std.specs.List.{list_all}

@@ -84,7 +84,7 @@ utf8_cut xs y ys small u =
       subst IsUtf8 (drop-append-add xs (y ∷ ys) 1) (IsUtf8-drop all (length xs + 1) u (IsCharBoundary-after_ascii all (length xs) u l ascii)),
     )
 
--- what stands after the first such byte is UTF-8
+-- what follows the first such byte is UTF-8
 pub utf8_after : (p : ℕ → Bool) (small : (b : ℕ) → p b ≡ true → b < 128) (xs : List ℕ) → IsUtf8 xs → IsUtf8 (after_first p xs)
 utf8_after p small xs u =
     elim (cases_Bool (list_any p xs)) [

@@ -7,4 +7,3 @@ pub mod PutMembers
 pub mod PieceReads
 pub mod Carried
 pub mod Kept
-pub mod Callers

@@ -63,7 +63,7 @@ split_same (a ∷ us) (b ∷ bs) xs ys l e =
     let r = split_same us bs xs ys (omega arith) rest in
     (cc (r.0, first), r.1)
 
--- what stands after the version, after the trace id, and so on
+-- what follows the version, the trace id, and so on
 abbrev pub from_trace : Parent → List ℕ
 from_trace p = id_text 32 p.trace_id ++ (45 ∷ (id_text 16 p.span_id ++ (45 ∷ id_text 2 p.flags)))
 
@@ -215,7 +215,7 @@ none_from : (o : Option Parent) → ((p : Parent) → o ≡ Some p → ⊥) → 
 none_from None h = refl
 none_from (Some p) h = absurd (h p refl)
 
--- a text that reads as no ids and flags
+-- a text that can't be read as ids and flags
 pub parent_of_none : (text : List ℕ) → ((p : Parent) → ReadsParent text p → ⊥) → parent_of text ≡ None
 parent_of_none text h = none_from (parent_of text) (λ p e. h p (reads_parent_of text p e))
 
@@ -272,7 +272,7 @@ empty_is (x ∷ xs) t a b = absurd (let l = eqb-true (length (x ∷ xs)) 0 (sym 
 pub not_empty : (xs : List ℕ) (t : Bool) → t ≡ (length xs == 0) → t ≡ false → xs ≡ [] → ⊥
 not_empty xs t a b e = false≢true (sym b ∙ a ∙ ap (λ (x : List ℕ). length x == 0) e)
 
--- ---- so many digits at the front
+-- ---- a given number of digits at the front
 
 pub too_short : (bytes : List ℕ) (count : ℕ) → length bytes < count → (n : ℕ) (rest : List ℕ) → bytes ≡ id_text count n ++ rest → ⊥
 too_short bytes count h n rest e =

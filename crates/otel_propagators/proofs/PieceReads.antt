@@ -27,7 +27,7 @@ use Rattle.otel_propagators.proofs.EscapedValues.{is_written, all_written, decod
 use Rattle.otel_context.proofs.BaggageLists.{AreDistinct, HasNone}
 use Rattle.otel_propagators.proofs.PutMembers.{distinct_nil, turned, insert_baggage, too_long}
 
--- ---- bytes that stand neither in keys nor in escaped values
+-- ---- bytes that occur neither in keys nor in escaped values
 
 key_comma : (b : ℕ) → is_key_byte b ≡ true → is_comma b ≡ false
 key_comma b h = grind (arith, nat_tests)
@@ -58,7 +58,7 @@ value_none p apart v u = none_from_all p is_written apart (escaped v) (all_writt
 
 -- ---- one member
 
--- what stands before the metadata
+-- the text before the metadata
 abbrev head : Member → List ℕ
 head m = m.key ++ (61 ∷ escaped m.value)
 

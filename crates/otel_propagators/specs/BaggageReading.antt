@@ -11,45 +11,46 @@ use Rattle.otel_context.specs.BaggageHeader.{header}
 use Rattle.otel_context.specs.BaggageLaws.{HasNoComma}
 use Rattle.otel_context.specs.BaggageMember.{Member, member_of}
 
+-- whether the byte is a `;`
 abbrev pub is_semicolon : ℕ → Bool
 is_semicolon b = b == 59
 
--- what stands between the commas, in order (W3C baggage, `baggage-string`)
+-- the texts between the commas, in order (W3C baggage, `baggage-string`)
 abbrev pub pieces : List ℕ → List (List ℕ)
 pieces text = slice_split is_comma text
 
--- what stands before the first ; of a piece: a key, = and a value (W3C baggage, `list-member`)
+-- the text before the first `;` of a piece: a key, `=` and a value (W3C baggage, `list-member`)
 abbrev pub key_and_value : List ℕ → List ℕ
 key_and_value piece = before_first is_semicolon piece
 
--- the key: what stands before the first =, without the blanks at both ends
+-- the key: the text before the first `=`, without the blanks at both ends
 abbrev pub key_in : List ℕ → List ℕ
 key_in piece = cut_blanks (before_first is_equals (key_and_value piece))
 
--- the value as it is written: what stands after the first =, without the blanks at both ends
+-- the value as it is written: the text after the first `=`, without the blanks at both ends
 abbrev pub written_value : List ℕ → List ℕ
 written_value piece = cut_blanks (after_first is_equals (key_and_value piece))
 
--- the value: each % with two hexadecimal digits is the byte that it stands for, and any other %
--- stays (RFC 3986, section 2.1)
+-- the value: each `%` with two hexadecimal digits is the byte that it stands for, and any other `%`
+-- is kept (RFC 3986, section 2.1)
 abbrev pub value_in : List ℕ → List ℕ
 value_in piece = percent_decode (written_value piece)
 
--- the metadata: what stands after the first ;, without the Unicode white space at both ends
--- (W3C baggage, `property`)
+-- the metadata: the text after the first `;`, without the Unicode white space at both ends (W3C
+-- baggage, `property`)
 abbrev pub metadata_in : List ℕ → List ℕ
 metadata_in piece = trim (after_first is_semicolon piece)
 
--- the member that a piece is
+-- the member that a piece stands for
 abbrev pub member_in : List ℕ → Member
 member_in piece = member_of (key_in piece) (value_in piece) (metadata_in piece)
 
--- Whether a piece is a member: a = stands before its first ;, and its value is UTF-8.
--- `a;b=1` is none, and `a=%ff` is none.
+-- Whether a piece is a member: there is a `=` before its first `;`, and its value is UTF-8. `a;b=1`
+-- isn't, and `a=%ff` isn't.
 abbrev pub is_member : List ℕ → Bool
 is_member piece = list_any is_equals (key_and_value piece) && is_utf8 (value_in piece)
 
--- the list after a piece: with its member inserted, where it is one and is accepted
+-- the list after a piece: with its member inserted, if it is one and is accepted
 abbrev pub with_piece : List Member → List ℕ → List Member
 with_piece ms piece = if is_member piece then insert ms (member_in piece) else ms
 
@@ -57,9 +58,9 @@ with_piece ms piece = if is_member piece then insert ms (member_in piece) else m
 abbrev pub with_pieces : List Member → List (List ℕ) → List Member
 with_pieces ms ps = fold with_piece ms ps
 
--- What a text is read as: its pieces in order, from the empty list on (the crate's extraction by
--- `BaggagePropagator`). Every text has a reading; what is no member and what isn't accepted is
--- skipped.
+-- What a text is read as: its pieces in order, starting from the empty list (the Rust crate's
+-- extraction by `BaggagePropagator`). Every text can be read; what isn't a member and what isn't
+-- accepted is skipped.
 abbrev pub read_baggage : List ℕ → List Member
 read_baggage text = with_pieces [] (pieces text)
 
@@ -73,17 +74,17 @@ repeated_example : read_baggage (codes "a=1,b=2,a=3")
 unfolding percent_decode is_utf8 chars trim_start trim_end encode_utf8
 repeated_example = refl
 
--- The header of a baggage reads as that baggage, where no metadata holds a comma (own).
+-- The header of a baggage is read as that baggage, if no metadata contains a comma (own).
 abbrev pub BaggageReads : Type 0
 BaggageReads = (ms : List Member) → IsBaggage ms → All HasNoComma ms → read_baggage (header ms) ≡ ms
 
--- That is needed: the header of `a` with the value `1` and the metadata `x,b=2` reads as `a` with
--- `1` and `x`, followed by `b` with `2`.
+-- The condition is needed: the header of `a` with the value `1` and the metadata `x,b=2` is read as
+-- `a` with `1` and `x`, followed by `b` with `2`.
 comma_example : read_baggage (header (member_of (codes "a") (codes "1") (codes "x,b=2") ∷ []))
     ≡ member_of (codes "a") (codes "1") (codes "x") ∷ member_of (codes "b") (codes "2") [] ∷ []
 unfolding percent_decode is_utf8 chars trim_start trim_end encode_utf8
 comma_example = refl
 
--- What a text is read as is a baggage: it keeps the limits, whatever comes in (own).
+-- What a text is read as is a baggage: it keeps the limits, whatever the text is (own).
 abbrev pub ReadsBaggage : Type 0
 ReadsBaggage = (text : List ℕ) → IsUtf8 text → IsBaggage (read_baggage text)

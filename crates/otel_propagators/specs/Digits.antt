@@ -10,36 +10,36 @@ use Rattle.otel_propagators.specs.TraceParent.{parent_text, parent_with, Parent}
 abbrev pub is_digit : ℕ → Bool
 is_digit b = (nat_le 48 b && nat_le b 57) || (nat_le 97 b && nat_le b 102)
 
--- the value of a digit, and None for any other byte
+-- the value of a digit, or None for any other byte
 abbrev pub IsDigitOf : ℕ → Option ℕ → Type 0
 IsDigitOf b None = is_digit b ≡ false
 IsDigitOf b (Some d) = (d < 16) × (b ≡ digit_glyph false d)
 
--- the number whose digits the bytes are, and None where they are not all digits
+-- the number whose digits the bytes are, or None if they are not all digits
 abbrev pub IsNumberOf : ℕ → List ℕ → Option ℕ → Type 0
 IsNumberOf count bytes None = (n : ℕ) → bytes ≢ id_text count n
 IsNumberOf count bytes (Some n) = (bytes ≡ id_text count n) × (n < 16 ^ count)
 
--- the number of the digits at the front with what stands after them, and None where the front isn't
--- so many digits
+-- the number of the first `count` digits with the bytes after them, or None if the bytes don't
+-- begin with that many digits
 abbrev pub IsNumberBefore : ℕ → List ℕ → Option (ℕ × Bor (List ℕ)) → Type 0
 IsNumberBefore count bytes result =
     MatchOption result ((n : ℕ) (rest : List ℕ) → bytes ≢ id_text count n ++ rest)
     (λ x. (bytes ≡ id_text count x.0 ++ x.1.now) × (x.0 < 16 ^ count))
 
--- what stands after the front, and None where the bytes begin otherwise
+-- the bytes after the given front, or None if the bytes don't begin with it
 abbrev pub IsAfter : List ℕ → List ℕ → Option (Bor (List ℕ)) → Type 0
 IsAfter front bytes result =
     MatchOption result ((rest : List ℕ) → bytes ≢ front ++ rest) (λ rest. bytes ≡ front ++ rest.now)
 
--- the numbers whose text this is, and None where it is the text of no numbers
+-- the numbers whose text this is, or None if it is the text of no numbers
 abbrev pub AreNumbersOf : List ℕ → Option (ℕ × ℕ × ℕ) → Type 0
 AreNumbersOf text None = (p : Parent) → text ≢ parent_text p
 AreNumbersOf text (Some x) =
     (text ≡ parent_text (parent_with x.0 x.1 x.2))
     × (x.0 < 16 ^ 32) × (x.1 < 16 ^ 16) × (x.2 < 16 ^ 2)
 
--- the ids and flags of the numbers, and None where an id is 0
+-- the ids and flags of the numbers, or None if an id is 0
 abbrev pub IsParentFrom : ℕ → ℕ → ℕ → Option Parent → Type 0
 IsParentFrom trace_id span_id flags result =
     MatchOption result ((trace_id ≡ 0) ⊎ (span_id ≡ 0))

@@ -1,15 +1,19 @@
 -- What both headers bring back of a context that both propagators injected. Not in the Rust crate.
-use Rattle.std.specs.Prelude.{◌≡◌, ◌^◌, ◌<◌, ◌⊎◌, ◌++◌, All, true, map}
+use Rattle.std.specs.Prelude.{◌≡◌, ◌≢◌, ◌^◌, ◌<◌, ◌⊎◌, ℕ, List, ◌++◌, All, true, map, if◌then◌else◌}
 use Rattle.std.specs.Prelude.{Some, None}
-use Rattle.otel_ids.specs.TraceState.{IsState}
+use Rattle.otel_ids.specs.TraceState.{IsState, header as state_header}
 use Rattle.otel_ids.specs.Laws.{cut_value}
 use Rattle.otel_ids.specs.SpanContext.{SpanContextRecord, IsValidSpanContext}
 use Rattle.otel_context.specs.Baggage.{IsBaggage}
+use Rattle.otel_context.specs.BaggageHeader.{header}
 use Rattle.otel_context.specs.BaggageLaws.{HasNoComma}
-use Rattle.otel_context.specs.Context.{ContextRecord, SpanPart, empty_context, span_context}
-use Rattle.opentelemetry.specs.Carrier.{Pairs, TextMap, Sets, at}
-use Rattle.otel_propagators.specs.BaggagePropagator.{members, baggage_pairs, baggage_extracted}
-use Rattle.otel_propagators.specs.TraceContext.{traceparent_key, trace_pairs, trace_extracted}
+use Rattle.otel_context.specs.Context.{ContextRecord, SpanPart, span_context}
+use Rattle.opentelemetry.specs.Carrier.{Pairs, TextMap, Sets, at, lower}
+use Rattle.otel_propagators.specs.BaggagePropagator.{baggage_key, members, baggage_pairs}
+use Rattle.otel_propagators.specs.BaggagePropagator.{baggage_extracted}
+use Rattle.otel_propagators.specs.TraceContext.{traceparent_key, tracestate_key, parent, is_valid}
+use Rattle.otel_propagators.specs.TraceContext.{trace_pairs, trace_extracted}
+use Rattle.otel_propagators.specs.TraceParent.{parent_text}
 
 -- ---- what is known of every context
 
@@ -35,20 +39,49 @@ pub record BothInject (context : ContextRecord) (old new : TextMap) : Type 0 whe
       (Sets old (trace_pairs context) between × Sets between (baggage_pairs context) new)
       ⊎ (Sets old (baggage_pairs context) between × Sets between (trace_pairs context) new)
 
--- the pairs of a composite of both
-abbrev pub ArePairsOfBoth : ContextRecord → Pairs → Type 0
-ArePairsOfBoth context pairs =
-    (pairs ≡ trace_pairs context ++ baggage_pairs context)
-    ⊎ (pairs ≡ baggage_pairs context ++ trace_pairs context)
+-- What a carrier of the texts `old` has at the three keys once both propagators have injected the
+-- context, by themselves or among others of other keys. It says nothing of other keys.
+pub record AreSet (context : ContextRecord) (old new : TextMap) : Type 0 where
+  -- `traceparent` and `tracestate` of a valid span context; of another one both stay
+  pub traceparent : at new traceparent_key
+      ≡ (if is_valid (span_context context)
+      then Some (parent_text (parent (span_context context)))
+      else at old traceparent_key)
+  pub tracestate : at new tracestate_key
+      ≡ (if is_valid (span_context context)
+      then Some (state_header (span_context context).trace_state)
+      else at old tracestate_key)
+  pub baggage : at new baggage_key ≡ Some (header (members context))
+
+-- the pair's key is none of the three
+abbrev pub IsOther : List ℕ × List ℕ → Type 0
+IsOther pair =
+    (lower pair.0 ≢ traceparent_key)
+    × (lower pair.0 ≢ tracestate_key)
+    × (lower pair.0 ≢ baggage_key)
+
+-- The pairs of a composite of both, in either order: those of the one and those of the other, and
+-- before, between and after them those of members with other keys.
+pub record ArePairsOfBoth (context : ContextRecord) (pairs : Pairs) : Type 0 where
+  pub before : Pairs
+  pub one : Pairs
+  pub between : Pairs
+  pub other : Pairs
+  pub after : Pairs
+  pub all : pairs ≡ before ++ (one ++ (between ++ (other ++ after)))
+  pub both :
+      ((one ≡ trace_pairs context) × (other ≡ baggage_pairs context))
+      ⊎ ((one ≡ baggage_pairs context) × (other ≡ trace_pairs context))
+  pub others : All IsOther before × All IsOther between × All IsOther after
 
 -- ---- and back
 
--- both propagators extract from the texts, one after the other, the first from the empty context
+-- both propagators extract from the texts, one after the other, the first from the context `given`
 -- on; a composite of both does just that
-abbrev pub BothExtract : TextMap → ContextRecord → Type 0
-BothExtract texts back =
-    (back ≡ baggage_extracted (trace_extracted empty_context texts) texts)
-    ⊎ (back ≡ trace_extracted (baggage_extracted empty_context texts) texts)
+abbrev pub BothExtract : ContextRecord → TextMap → ContextRecord → Type 0
+BothExtract given texts back =
+    (back ≡ baggage_extracted (trace_extracted given texts) texts)
+    ⊎ (back ≡ trace_extracted (baggage_extracted given texts) texts)
 
 -- the span that arrives: remote, with the same ids, flags and trace state, but for the blanks at
 -- the ends of the trace state's values, which reading cuts
@@ -58,28 +91,34 @@ arrived s = record {
   number = None;
 }
 
--- What comes back of a context that was injected into a carrier of the texts `old`.
-pub record ComesBack (context : ContextRecord) (old : TextMap) (back : ContextRecord) : Type 0 where
+-- What comes back of a context that was injected into a carrier of the texts `old` and is extracted
+-- into the context `given`.
+pub record ComesBack (context : ContextRecord) (old : TextMap) (given back : ContextRecord)
+    : Type 0 where
   -- a valid span context comes back as that of a remote span
   pub span : IsValidSpanContext (span_context context)
       → back.span ≡ Some (arrived (span_context context))
-  -- one that isn't valid sets nothing: where nothing was there, no span comes back
+  -- one that isn't valid sets nothing: if nothing was there, the given span stays
   pub no_span : ¬ IsValidSpanContext (span_context context)
-      → at old traceparent_key ≡ None → back.span ≡ None
-  -- the same members come back, where no metadata holds a comma; no baggage has no members
+      → at old traceparent_key ≡ None → back.span ≡ given.span
+  -- the same members come back, if no metadata holds a comma; no baggage has no members
   pub members : All HasNoComma (members context) → members back ≡ members context
-  -- nothing else comes back: no entries, and telemetry isn't suppressed
-  pub nothing_else : back ≡ record empty_context { span = back.span; baggage = back.baggage }
+  -- nothing else comes back: the given entries stay, and whether telemetry is suppressed
+  pub nothing_else : back ≡ record given { span = back.span; baggage = back.baggage }
 
--- ---- the law
+-- ---- the laws
 
 -- what two propagators inject one after the other comes back
 abbrev pub ComesBackInTurn : Type 0
-ComesBackInTurn = (context back : ContextRecord) (old new : TextMap) → IsContext context
-    → BothInject context old new → BothExtract new back → ComesBack context old back
+ComesBackInTurn = (context given back : ContextRecord) (old new : TextMap) → IsContext context
+    → BothInject context old new → BothExtract given new back → ComesBack context old given back
 
--- what a composite of both injects comes back
+-- what stands at the three keys comes back, whatever stands at others
 abbrev pub ComesBackTogether : Type 0
-ComesBackTogether = (context back : ContextRecord) (pairs : Pairs) (old new : TextMap)
-    → IsContext context → ArePairsOfBoth context pairs → Sets old pairs new
-    → BothExtract new back → ComesBack context old back
+ComesBackTogether = (context given back : ContextRecord) (old new : TextMap) → IsContext context
+    → AreSet context old new → BothExtract given new back → ComesBack context old given back
+
+-- a composite of both, and of others of other keys, sets the three keys
+abbrev pub CompositeSets : Type 0
+CompositeSets = (context : ContextRecord) (pairs : Pairs) (old new : TextMap)
+    → ArePairsOfBoth context pairs → Sets old pairs new → AreSet context old new

@@ -10,10 +10,11 @@ use Rattle.otel_context.specs.Context.{ContextRecord, span_context, with_remote_
 use Rattle.opentelemetry.specs.Carrier.{Pairs, TextMap, at}
 use Rattle.otel_propagators.specs.TraceParent.{Parent, parent_with, parent_text, parent_of}
 
--- [W3C trace-context-2, "Header name"]
+-- the name of the header with the ids and flags [W3C trace-context-2, "Header Name"]
 abbrev pub traceparent_key : List ℕ
 traceparent_key = codes "traceparent"
 
+-- the name of the header with the trace state [W3C trace-context-2, "Header Name"]
 abbrev pub tracestate_key : List ℕ
 tracestate_key = codes "tracestate"
 
@@ -32,7 +33,7 @@ abbrev pub is_valid : SpanContextRecord → Bool
 is_valid context = not (context.trace_id == 0) && not (context.span_id == 0)
 
 -- the pairs of a span context: `traceparent`, and then `tracestate` with the header of its trace
--- state, also where that is empty; none where the span context isn't valid
+-- state, even if that is empty; none if the span context isn't valid
 abbrev pub span_context_pairs : SpanContextRecord → Pairs
 span_context_pairs context =
     if is_valid context
@@ -46,9 +47,9 @@ trace_pairs context = span_context_pairs (span_context context)
 
 -- ---- extraction
 
--- the trace state that the value of `tracestate` reads as, and the empty one where the value is
--- absent or has no reading: a faulty `tracestate` takes nothing from the `traceparent` beside it
--- [W3C trace-context-2, "tracestate Header": a failure to parse it must not affect the parsing of
+-- the trace state that the value of `tracestate` is read as, or the empty one if the value is
+-- absent or can't be read: a faulty `tracestate` doesn't affect the `traceparent` beside it [W3C
+-- trace-context-2, "tracestate Header": a failure to parse it must not affect the parsing of
 -- `traceparent`]
 abbrev pub state_of : Option (List ℕ) → List Pair
 state_of value = option_map_or (λ pairs. pairs) (option_and_then reading value) []
@@ -63,14 +64,14 @@ remote p state = record {
   trace_state = state;
 }
 
--- the context with the remote span context of the values of `traceparent` and `tracestate`, and the
--- context itself where `traceparent` is absent or isn't of the form
+-- the context with the remote span context of the values of `traceparent` and `tracestate`, or the
+-- context itself if `traceparent` is absent or doesn't have the right form
 abbrev pub extracted_by : ContextRecord → Option (List ℕ) → Option (List ℕ) → ContextRecord
 extracted_by context traceparent tracestate =
     option_map_or (λ p. with_remote_span_context context (remote p (state_of tracestate)))
     (option_and_then parent_of traceparent) context
 
--- the context that is extracted of a context and a carrier's texts
+-- the context that is extracted from a carrier's texts into a context
 abbrev pub trace_extracted : ContextRecord → TextMap → ContextRecord
 trace_extracted context texts =
     extracted_by context (at texts traceparent_key) (at texts tracestate_key)

@@ -1,5 +1,5 @@
--- What the header `traceparent` says: two ids and flags
--- [W3C trace-context-2, "traceparent Header"].
+-- What the header `traceparent` holds: two ids and flags [W3C trace-context-2, "traceparent
+-- Header"].
 use Rattle.std.specs.Prelude.{◌≡◌, ◌≢◌, ◌↔◌, ℕ, ◌^◌, ◌<◌, ◌==◌, nat_lt, Bool, ◌&&◌, not}
 use Rattle.std.specs.Prelude.{List, ◌∷◌, ◌++◌, take, drop, length, Option, Some, None}
 use Rattle.std.specs.Prelude.{if◌then◌else◌}
@@ -13,6 +13,7 @@ pub record Parent : Type 0 where
   pub span_id : ℕ
   pub flags : ℕ
 
+-- these ids and flags as a record
 abbrev pub parent_with : ℕ → ℕ → ℕ → Parent
 parent_with trace_id span_id flags =
     record { trace_id = trace_id; span_id = span_id; flags = flags }
@@ -34,50 +35,51 @@ parent_text p =
     ++ (45 ∷ (id_text 16 p.span_id
     ++ (45 ∷ id_text 2 p.flags))))
 
--- without the blanks at its ends the text is exactly that of the ids and flags. So capital digits,
--- another version, an id of zeros alone, and anything after the flags have no reading
+-- without the blanks at its ends the text is exactly that of the ids and flags. So upper-case
+-- digits, another version, an id of only zeros, and anything after the flags can't be read
 pub record ReadsParent (text : List ℕ) (p : Parent) : Type 0 where
   pub spelled : cut_blanks text ≡ parent_text p
   pub valid : IsParent p
 
 -- ---- the reading as a function
 
--- the number of so many characters from that place on
+-- the number of the `count` characters starting at `place`
 abbrev pub number_at : ℕ → ℕ → List ℕ → ℕ
 number_at place count text = number_of (take count (drop place text))
 
--- the numbers that stand at the places of the ids and the flags, whatever is written there
+-- the numbers at the places of the ids and the flags, whatever is written there
 abbrev pub numbers_in : List ℕ → Parent
 numbers_in text =
     parent_with (number_at 3 32 text) (number_at 36 16 text) (number_at 53 2 text)
 
+-- `IsParent` as a test
 abbrev pub is_parent : Parent → Bool
 is_parent p =
     nat_lt p.trace_id (2 ^ 128) && not (p.trace_id == 0)
     && (nat_lt p.span_id (2 ^ 64) && not (p.span_id == 0))
     && nat_lt p.flags (2 ^ 8)
 
--- the numbers of a text without blanks at its ends, where it is just what is written of them
+-- the numbers of a text without blanks at its ends, if it is exactly what is written for them
 abbrev pub parent_in : List ℕ → Option Parent
 parent_in text =
     let p = numbers_in text in
     if bytes_eq text (parent_text p) && is_parent p then Some p else None
 
--- the ids and flags that a text reads as, if it does
+-- the ids and flags that a text is read as, if it can be read
 unfoldable pub parent_of : List ℕ → Option Parent
 parent_of text = parent_in (cut_blanks text)
 
 -- ---- what holds of each text
 
--- `parent_of` gives just the ids and flags that the text reads as
+-- `parent_of` gives exactly the ids and flags that the text is read as
 abbrev pub ParentsAgree : Type 0
 ParentsAgree = (text : List ℕ) (p : Parent) → ReadsParent text p ↔ (parent_of text ≡ Some p)
 
--- the text of ids and flags reads as these
+-- the text of ids and flags is read as these
 abbrev pub ParentReads : Type 0
 ParentReads = (p : Parent) → IsParent p → ReadsParent (parent_text p) p
 
--- a text reads as one trace id, span id and flags at most
+-- a text is read as at most one trace id, span id and flags
 abbrev pub OneParent : Type 0
 OneParent = (text : List ℕ) (p q : Parent) → ReadsParent text p → ReadsParent text q → p ≡ q
 

@@ -15,15 +15,18 @@ use std::alloc::{AllocError, Global};
 /// The name of the header (W3C baggage, "Header Name").
 const BAGGAGE_HEADER: &str = "baggage";
 
-/// Carries a context's baggage from one process to another, by the header `baggage` (W3C baggage).
-/// (`BaggagePropagator` of the Rust crate `opentelemetry_sdk`.)
+/// Carries a context's baggage from one process to another, in the header `baggage` (W3C baggage;
+/// `BaggagePropagator` of the Rust crate `opentelemetry_sdk`).
 ///
-/// It sets `baggage` to the text of the context's baggage, which is empty where the context has no
+/// It sets `baggage` to the text of the context's baggage, which is empty if the context has no
 /// baggage. It extracts the given context with the baggage that the value of `baggage` is read as;
-/// where there is no such value, the given context. It never refuses of itself: what can't be read
+/// without such a value, the given context. The propagator itself never refuses: what can't be read
 /// or isn't accepted is skipped.
 ///
-/// `otel_examples::service` takes it, as any propagator.
+/// Keys are tokens and values are escaped, but metadata is written as it is and may hold CR, LF and
+/// NUL: a carrier of text lines must refuse such a value.
+///
+/// `otel_examples::service` takes it, like any propagator.
 #[derive(Drop)]
 pub struct BaggagePropagator {
     alloc: Global,
@@ -32,18 +35,18 @@ pub struct BaggagePropagator {
 }
 
 impl BaggagePropagator {
-    /// The propagator. What it sets takes its memory from this allocator.
+    /// Returns the propagator. The texts that it sets are allocated in `alloc`.
     ///
     /// # Errors
     ///
-    /// `AllocError` where the request for the memory of the field's name fails.
+    /// `AllocError` if out of memory for the field's name.
     pub fn new(alloc: Global) -> Result<BaggagePropagator, AllocError> {
         let fields = vec![in alloc; String::from_str(alloc, BAGGAGE_HEADER)?]?;
         Ok(BaggagePropagator { alloc, fields })
     }
 }
 
-/// The text of the context's baggage, and the empty text without one.
+/// Returns the text of the context's baggage, which is empty if there is none.
 fn header_of(alloc: Global, context: &Context) -> Result<String, AllocError>
     ensures { IfOk result (λ text. string_bytes text ≡ header (members context.now)) }
 {

@@ -1,4 +1,4 @@
-//! Texts without the blanks at their ends.
+//! Trims the blanks at the ends of a text.
 ghost use Rattle.std.specs.Prelude.{◌≡◌};
 ghost use Rattle.otel_ids.specs.Text.{cut_front, cut_end, cut_blanks};
 
@@ -16,7 +16,7 @@ fn cut_end(text: &str) -> &str
     text.trim_end_matches(BLANKS)
 }
 
-/// The text without the spaces and tabs at its ends.
+/// Returns the text without the spaces and tabs at its ends.
 pub(crate) fn cut_blanks(text: &str) -> &str
     ensures { result.now ≡ cut_blanks text.now }
 {

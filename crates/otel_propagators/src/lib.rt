@@ -4,7 +4,6 @@
 pub mod baggage;
 mod blanks;
 pub mod laws;
-pub mod there_and_back;
 pub mod trace_context;
 
 pub use baggage::BaggagePropagator;

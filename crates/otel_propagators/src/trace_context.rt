@@ -18,14 +18,17 @@ const TRACEPARENT: &str = "traceparent";
 
 const TRACESTATE: &str = "tracestate";
 
-/// Carries the span context of a context from one process to another, by the headers `traceparent`
-/// and `tracestate` (W3C trace-context-2). (`TraceContextPropagator` of the Rust crate
-/// `opentelemetry_sdk`.)
+/// Carries the span context of a context from one process to another, in the headers `traceparent`
+/// and `tracestate` (W3C trace-context-2; `TraceContextPropagator` of the Rust crate
+/// `opentelemetry_sdk`).
 ///
 /// A `traceparent` is `00-`, 32 lower-case hexadecimal digits of the trace id, `-`, 16 of the span
 /// id, `-` and 2 of the flags, of which all eight bits are written and read.
 ///
-/// `otel_examples::service` takes it, as any propagator.
+/// A value of a `tracestate` may hold any byte but `,` and `=`, so CR, LF and NUL too: a carrier of
+/// text lines must refuse such a value.
+///
+/// `otel_examples::service` takes it, like any propagator.
 #[derive(Drop)]
 pub struct TraceContextPropagator {
     alloc: Global,
@@ -34,11 +37,11 @@ pub struct TraceContextPropagator {
 }
 
 impl TraceContextPropagator {
-    /// A propagator with the fields `traceparent` and `tracestate`.
+    /// Returns a propagator with the fields `traceparent` and `tracestate`.
     ///
     /// # Errors
     ///
-    /// `AllocError` where a request for the memory of the fields' names fails.
+    /// `AllocError` if out of memory for the fields' names.
     pub fn new(alloc: Global) -> Result<TraceContextPropagator, AllocError> {
         let traceparent = String::from_str(alloc, TRACEPARENT)?;
         let tracestate = String::from_str(alloc, TRACESTATE)?;
@@ -47,14 +50,15 @@ impl TraceContextPropagator {
     }
 }
 
-/// The ids and flags of a `traceparent`, if it is there and of the form.
+/// Reads the ids and flags of a `traceparent`, if it is there and has the right form.
 fn read_parent(value: Option<&str>) -> Option<Parent>
     ensures { result ≡ option_and_then parent_of (option_copied value.entry) }
 {
     traceparent::read(value?)
 }
 
-/// The trace state of a `tracestate`; the empty one where the value is absent or can't be read.
+/// Reads the trace state of a `tracestate`. Returns the empty one if the value is absent or can't
+/// be read.
 fn read_state(alloc: Global, value: Option<&str>) -> Result<TraceState, AllocError>
     ensures { IfOk result (λ state. state ≡ state_of (option_copied value.entry)) }
 {
@@ -68,13 +72,13 @@ fn read_state(alloc: Global, value: Option<&str>) -> Result<TraceState, AllocErr
     }
 }
 
-/// It sets `traceparent`, and then `tracestate` with the header of the trace state, also where that
-/// is empty; both texts are made before the first is set. Where the span context isn't valid it
-/// sets nothing.
+/// It sets `traceparent`, and then `tracestate` with the header of the trace state, even if that is
+/// empty; both texts are made before the first is set. If the span context isn't valid it sets
+/// nothing.
 ///
 /// It extracts the given context with the remote span context of the two values, or a copy of the
-/// given context where `traceparent` is absent, isn't of the form between blanks, or has an id that
-/// is 0. A `tracestate` that is absent or can't be read leaves the trace state empty. It never
+/// given context if `traceparent` is absent, doesn't have this form between blanks, or has an id
+/// that is 0. A `tracestate` that is absent or can't be read leaves the trace state empty. It never
 /// refuses.
 impl TextMapPropagator for TraceContextPropagator {
     ghost use Rattle.std.specs.Prelude.{false};

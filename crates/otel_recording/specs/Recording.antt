@@ -1,4 +1,4 @@
--- What a recording span keeps, and what each call adds.
+-- What a recording span keeps, and what each call adds to it.
 use Rattle.std.specs.Prelude.{ℕ, Bool, true, false, ◌&&◌, not, List, [], ◌∷◌, ◌++◌}
 use Rattle.std.specs.Prelude.{Option, Some, None}
 use Rattle.otel_base.specs.KeyValue.{Attribute}
@@ -22,8 +22,8 @@ kept (E.Event name timestamp attributes) = event name timestamp (attributes_of a
 kept (E.Attribute set) = attribute (attribute_of set)
 kept (E.Link context attributes) = link context (attributes_of attributes)
 
--- a recording span: its span context, its name, what it keeps in order, its status, the moment of
--- its end, whether it records, and whether its next attribute stops it
+-- a recording span: its span context, its name, what it keeps in order, its status, the time of its
+-- end, whether it records, and whether its next attribute stops it
 pub record Recorded : Type 0 where
   pub context : SpanContextRecord
   pub name : List ℕ
@@ -45,7 +45,7 @@ new context name = record {
   stops_at_attribute = false;
 }
 
--- the same span, which keeps one thing more
+-- the same span, which keeps one more thing
 abbrev pub with_effect : Recorded → Kept → Recorded
 with_effect span effect = record span { effects = span.effects ++ effect ∷ [] }
 
@@ -63,6 +63,6 @@ with_attribute span set = record (with_effect span (attribute set)) {
 abbrev pub with_link : Recorded → SpanContextRecord → List Attribute → Recorded
 with_link span context attributes = with_effect span (link context attributes)
 
--- the same span, ended, which records no more
+-- the same span, ended and no longer recording
 abbrev pub with_end : Recorded → ℕ → Recorded
 with_end span timestamp = record span { ended = Some timestamp; recording = false }

@@ -5,9 +5,8 @@ use Rattle.otel_context.specs.Context.{ContextRecord, span_context}
 use Rattle.opentelemetry.specs.SpanBuilder.{BuilderRecord}
 use Rattle.otel_recording.specs.Recording.{Recorded, new}
 
--- the span context of a span under a parent's: in the parent's trace, or in the tracer's where the
--- parent has none; its id is the parent's and one, of 64 bits
--- under the ids 7 and 1: the ids 7 and 2
+-- the span context of a child of a span: in the parent's trace, or in the tracer's if the parent
+-- has none; its id is the parent's plus one, in 64 bits: under the ids 7 and 1, the ids 7 and 2
 abbrev pub child_of : ℕ → SpanContextRecord → SpanContextRecord
 child_of trace_id parent = record {
   trace_id = if parent.trace_id == 0 then trace_id else parent.trace_id;
@@ -17,6 +16,6 @@ child_of trace_id parent = record {
   trace_state = [];
 }
 
--- the span that a tracer with that trace id starts of a builder under a parent
+-- the span that a tracer with this trace id starts from a builder under a parent
 abbrev pub started : ℕ → BuilderRecord → ContextRecord → Recorded
 started trace_id builder parent = new (child_of trace_id (span_context parent)) builder.name

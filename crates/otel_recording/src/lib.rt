@@ -1,9 +1,15 @@
-//! A span that keeps the list of what the calls give it and a tracer of such spans, for tests and
-//! examples of what is built on spans.
+//! Spans and log records that keep what the calls give them, and what makes them, for tests and
+//! examples of what is built on spans and logs.
 #![tactic(auto)]
 
+mod recording_log_record;
+mod recording_logger;
 mod recording_span;
 mod recording_tracer;
+mod recording_tracer_provider;
 
+pub use recording_log_record::{RecordingLogRecord, TraceContext};
+pub use recording_logger::{RecordingLogger, RecordingLoggerProvider};
 pub use recording_span::{Effect, RecordingSpan};
 pub use recording_tracer::RecordingTracer;
+pub use recording_tracer_provider::{RecordingTracerProvider, ScopedTracer};

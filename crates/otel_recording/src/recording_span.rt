@@ -1,4 +1,4 @@
-//! A span that keeps the list of what the calls give it.
+//! A span that keeps a list of what its calls give it.
 ghost use Rattle.std.specs.Prelude.{◌≡◌, OnOk, OnErr, map, refl, true, false};
 
 use otel_base::{KeyValue, StringValue};
@@ -12,7 +12,7 @@ use std::marker::Model;
 /// See [`RecordingSpan::effects`].
 #[derive(Debug, Drop)]
 pub enum Effect {
-    /// An event: its name, its moment in nanoseconds since 1970, its attributes.
+    /// An event: its name, its time in nanoseconds since 1970, its attributes.
     Event(StringValue, u64, Vec<KeyValue>),
     /// An attribute.
     Attribute(KeyValue),
@@ -20,10 +20,10 @@ pub enum Effect {
     Link(SpanContext, Vec<KeyValue>),
 }
 
-/// A span that keeps the list of what the calls give it, whether it records or not.
+/// A span that keeps a list of what its calls give it, whether it records or not.
 ///
-/// It records until it ends, or until its first attribute where [`RecordingSpan::stop_at_attribute`]
-/// was called. It can be set to let a call fail as if a request for memory failed.
+/// It records until it ends, or until its first attribute if [`RecordingSpan::stop_at_attribute`]
+/// was called. It can be set to let calls fail as if out of memory.
 ///
 /// ```
 /// RecordingSpan::new(alloc, span_context(number), StringValue::from("work"))
@@ -37,7 +37,7 @@ pub struct RecordingSpan {
     ended: Option<u64>,
     recording: bool,
     stops_at_attribute: bool,
-    // How many more effects it takes; no contract sees it.
+    // How many more effects it takes. No contract sees it.
     room: u64,
 }
 
@@ -61,7 +61,7 @@ impl Model for RecordingSpan {
 impl RecordingSpan {
     ghost use Rattle.otel_recording.specs.Recording.{new, kept, with_effect};
 
-    /// A span that keeps nothing yet. Takes no memory.
+    /// Returns a span that keeps nothing yet. Takes no memory.
     pub fn new(alloc: Global, context: SpanContext, name: StringValue) -> RecordingSpan
         ensures { result ≡ new context name }
     {
@@ -77,7 +77,7 @@ impl RecordingSpan {
         }
     }
 
-    /// Lets the next attribute stop the recording.
+    /// Makes the next attribute stop the recording.
     pub fn stop_at_attribute(&mut self)
         ensures { self.new ≡ record self.old { stops_at_attribute = true } }
     {
@@ -91,42 +91,42 @@ impl RecordingSpan {
         self.recording = false;
     }
 
-    /// Lets each event, attribute and link after the next `taken` fail as if a request for memory failed.
+    /// Makes each event, attribute and link after the next `taken` fail as if out of memory.
     pub fn fail_after(&mut self, taken: u64)
         ensures { self.new ≡ self.old }
     {
         self.room = taken;
     }
 
-    /// What it keeps, in order.
+    /// Returns what it keeps, in order.
     pub fn effects(&self) -> &[Effect]
         ensures { map kept result.now ≡ self.now.effects }
     {
         self.effects.as_slice()
     }
 
-    /// The name.
+    /// Returns the name.
     pub fn name(&self) -> &str
         ensures { result.now ≡ self.now.name }
     {
         self.name.as_str()
     }
 
-    /// How it went.
+    /// Returns the status.
     pub fn status(&self) -> &Status
         ensures { result.now ≡ self.now.status }
     {
         &self.status
     }
 
-    /// The moment of its end, in nanoseconds since 1970.
+    /// Returns the time at which it ended, in nanoseconds since 1970.
     pub fn ended(&self) -> Option<u64>
         ensures { result ≡ self.now.ended }
     {
         self.ended
     }
 
-    // Keeps one thing more, where there is room.
+    // Keeps one more thing, if there is room.
     fn keep(&mut self, effect: Effect) -> Result<(), AllocError>
         ensures ok { OnOk result (self.new ≡ with_effect self.old (kept effect)) }
         ensures err { OnErr result (self.new ≡ self.old) }

@@ -9,9 +9,9 @@ use opentelemetry::trace::{
 };
 use std::alloc::{AllocError, Global};
 
-/// A tracer that starts a [`RecordingSpan`] of each builder's name.
+/// A tracer that starts a [`RecordingSpan`] with each builder's name.
 ///
-/// A span has the trace id of its parent, or the tracer's where the parent has none, and the span id
+/// A span has the trace id of its parent, or the tracer's if the parent has none, and the span id
 /// after the parent's, so that ids tell a parent from its child. It is sampled.
 ///
 /// ```
@@ -25,7 +25,7 @@ pub struct RecordingTracer {
     pub trace_id: TraceId,
 }
 
-// The span context of a span under a parent's.
+// Returns the span context of a child of `parent`.
 fn child_of(trace_id: TraceId, parent: &SpanContext) -> SpanContext
     ensures { result ≡ child_of trace_id parent.now }
 {

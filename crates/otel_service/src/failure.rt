@@ -1,4 +1,4 @@
-//! Why a request isn't served. Bad headers are no reason: the service then starts a trace of its own.
+//! Why a request isn't served. Bad headers are no reason: the service then starts a new trace.
 use opentelemetry::propagation::PropagationError;
 use opentelemetry::trace::SpanRefused;
 use std::alloc::{AllocError, AllocFailed};
@@ -9,7 +9,7 @@ use std::io;
 pub enum Failure {
     /// The input can't be read, or the output can't be written.
     Io,
-    /// A request for memory failed.
+    /// Out of memory.
     NoMemory,
 }
 
@@ -32,7 +32,7 @@ impl<T: Drop> From<AllocFailed<T>> for Failure {
 }
 
 impl From<PropagationError> for Failure {
-    // Neither the propagators nor a map refuses.
+    // Neither the propagators nor a map of texts refuses.
     fn from(_error: PropagationError) -> Failure {
         Failure::NoMemory
     }

@@ -1,22 +1,164 @@
-//! The headers of a request, as lines of text.
+//! The headers of a request, as lines of bytes: those that are read, and those that are written.
+ghost use Rattle.std.specs.Prelude.{◌≡◌, ◌∷◌, ◌++◌, [], ℕ, List, MatchOption, IfOk, OnOk, length};
+ghost use Rattle.std.specs.Prelude.{◌<◌, IfSome, string_bytes, position, true, false};
+ghost use Rattle.std.specs.List.{list_all, list_any, slice_split, join_with_byte};
+ghost use Rattle.std.specs.List.{before_first, after_first, flat_map};
+ghost use Rattle.std.specs.Io.KnownBytes.{Appends};
+ghost use Rattle.std.specs.Option.{option_map, option_to_list};
+ghost use Rattle.std.specs.Str.Lines.{strip_carriage_return};
+ghost use Rattle.otel_ids.specs.Text.{cut_front, cut_end, cut_blanks};
+ghost use Rattle.otel_context.specs.BaggageText.{is_delimiter, is_key_byte, is_key};
+ghost use Rattle.otel_service.specs.Headers.{is_line_feed, is_colon};
+ghost use Rattle.otel_service.specs.Headers.{header_of, headers_of, values_under, joined, value_at};
+ghost use Rattle.otel_service.specs.Headers.{is_line_text, line_of};
+
 use std::alloc::{AllocError, Global};
 use std::collections::HashMap;
+use std::io::{self, Write};
+use std::str;
 
-/// The headers, each a line `name: value`. A line without a colon is no header. Names are compared
-/// without regard to case, and the values of a name that comes again are joined by commas (RFC 9110,
-/// sections 5.1 and 5.3).
+const BLANKS: [char; 2] = [' ', '\t'];
+
+/// Reads the headers, each a line `name: value` that ends at a line feed or at a carriage return
+/// and a line feed.
+///
+/// Names are compared without regard to case, and the values of a name that comes again are joined
+/// by commas (RFC 9110, sections 5.1 and 5.3). A value has no spaces and tabs at its ends. A line
+/// without a colon, with a name that is no token, as one with a blank before the colon, or with a
+/// byte that isn't UTF-8 is no header, and is passed over.
 ///
 /// # Errors
 ///
-/// `AllocError` where a request for memory fails.
-pub fn parse(alloc: Global, text: &str) -> Result<HashMap<String, String>, AllocError> {
+/// `AllocError` if out of memory.
+pub fn parse(alloc: Global, bytes: &[u8]) -> Result<HashMap<String, String>, AllocError>
+    ensures { IfOk result (λ headers. (name : List ℕ) →
+        value_at headers name ≡ joined (values_under name (headers_of bytes.now))) }
+{
     let mut headers = HashMap::new(alloc);
-    for line in text.lines() {
-        if let Some((name, value)) = line.split_once(':') {
-            add(alloc, &mut headers, name.trim(), value.trim())?;
-        }
+    let mut left = Some(bytes);
+    while let Some(bytes) = left {
+        let (line, rest) = first_line(bytes);
+        read_line(alloc, &mut headers, line)?;
+        left = rest;
     }
     Ok(headers)
+}
+
+/// What stands before the first line feed, and what follows it, if there is one.
+fn first_line(bytes: &[u8]) -> (&[u8], Option<&[u8]>)
+    ensures { let lines = slice_split is_line_feed in
+        MatchOption result.1 (lines bytes.now ≡ result.0.now ∷ []) (λ rest.
+        (lines bytes.now ≡ result.0.now ∷ lines rest.now) × (length rest.now < length bytes.now)) }
+{
+    match line_feed(bytes) {
+        Some(end) => (&bytes[..end], Some(&bytes[end + 1..])),
+        None => (bytes, None),
+    }
+}
+
+/// Where the first line feed stands.
+fn line_feed(bytes: &[u8]) -> Option<usize>
+    ensures { result ≡ position is_line_feed bytes.now }
+{
+    bytes.iter().position(|byte| *byte == b'\n')
+}
+
+/// Adds the header of the line to the others, if it is one.
+fn read_line(
+    alloc: Global,
+    headers: &mut HashMap<String, String>,
+    line: &[u8],
+) -> Result<(), AllocError>
+    ensures { OnOk result ((name : List ℕ) → value_at headers.new name
+        ≡ joined (option_to_list (value_at headers.old name)
+        ++ values_under name (option_to_list (header_of (strip_carriage_return line.now))))) }
+{
+    match header_of(without_carriage_return(line)) {
+        Some((name, value)) => add(alloc, headers, name, value),
+        None => Ok(()),
+    }
+}
+
+/// The line without the carriage return at its end, if it has one.
+fn without_carriage_return(line: &[u8]) -> &[u8]
+    ensures { result.now ≡ strip_carriage_return line.now }
+{
+    match line {
+        [line @ .., b'\r'] => line,
+        _ => line,
+    }
+}
+
+/// The name and the value of the line, if it is a header.
+fn header_of(line: &[u8]) -> Option<(&str, &str)>
+    ensures { option_map (λ h. (h.0.now, h.1.now)) result ≡ header_of line.now }
+{
+    let Ok(line) = str::from_utf8(line) else {
+        return None;
+    };
+    let (name, value) = split_header(line)?;
+    if is_token(name) {
+        Some((name, cut_blanks(value)))
+    } else {
+        None
+    }
+}
+
+/// What stands before the first colon and after it, if there is one.
+fn split_header(line: &str) -> Option<(&str, &str)>
+    ensures { MatchOption result (list_any is_colon line.now ≡ false) (λ parts.
+        (list_any is_colon line.now ≡ true)
+        × (parts.0.now ≡ before_first is_colon line.now)
+        × (parts.1.now ≡ after_first is_colon line.now)) }
+{
+    let (name, value) = line.split_once(':')?;
+    Some((name, value))
+}
+
+/// The visible ASCII characters that stand in no token (RFC 9110, section 5.6.2).
+const DELIMITERS: &[u8] = b"(),/:;<=>?@[\\]{}\"";
+
+fn is_delimiter(byte: u8) -> bool
+    ensures { result ≡ is_delimiter byte }
+{
+    DELIMITERS.iter().any(|delimiter| *delimiter == byte)
+}
+
+fn is_token_byte(byte: u8) -> bool
+    ensures { result ≡ is_key_byte byte }
+{
+    byte.is_ascii_graphic() && !is_delimiter(byte)
+}
+
+fn are_token_bytes(bytes: &[u8]) -> bool
+    ensures { result ≡ list_all is_key_byte bytes.now }
+{
+    bytes.iter().all(|byte| is_token_byte(*byte))
+}
+
+fn is_token(name: &str) -> bool
+    ensures { result ≡ is_key name.now }
+{
+    !name.is_empty() && are_token_bytes(name.as_bytes())
+}
+
+fn cut_front(text: &str) -> &str
+    ensures { result.now ≡ cut_front text.now }
+{
+    text.trim_start_matches(BLANKS)
+}
+
+fn cut_end(text: &str) -> &str
+    ensures { result.now ≡ cut_end text.now }
+{
+    text.trim_end_matches(BLANKS)
+}
+
+/// The text without the spaces and tabs at its ends.
+fn cut_blanks(text: &str) -> &str
+    ensures { result.now ≡ cut_blanks text.now }
+{
+    cut_end(cut_front(text))
 }
 
 /// Adds the value to those of the name.
@@ -25,12 +167,61 @@ fn add(
     headers: &mut HashMap<String, String>,
     name: &str,
     value: &str,
-) -> Result<(), AllocError> {
+) -> Result<(), AllocError>
+    ensures { OnOk result ((other : List ℕ) → value_at headers.new other
+        ≡ joined (option_to_list (value_at headers.old other)
+        ++ values_under other ((name.now, value.now) ∷ []))) }
+{
     let name = name.to_ascii_lowercase(alloc)?;
-    if let Some(values) = headers.get_mut(name.as_str()) {
-        values.push(',')?;
-        return values.push_str(value);
-    }
-    headers.insert(name, String::from_str(alloc, value)?)?;
+    let values = headers.remove(name.as_str());
+    headers.insert(name, join(alloc, values, value)?)?;
     Ok(())
+}
+
+/// The values with one more at their end, after a comma.
+fn join(alloc: Global, values: Option<String>, value: &str) -> Result<String, AllocError>
+    ensures { IfOk result (λ joined. string_bytes joined
+        ≡ join_with_byte 44 (option_to_list (option_map string_bytes values) ++ value.now ∷ [])) }
+{
+    let Some(mut values) = values else {
+        return String::from_str(alloc, value);
+    };
+    values.push(',')?;
+    values.push_str(value)?;
+    Ok(values)
+}
+
+/// Writes a line `name: value` of each header, in order. A header with a carriage return, a line
+/// feed or NUL in it would be other lines, with headers that its sender made up (RFC 9110, section
+/// 5.5): it is left out, and `errors` gets a line with its name.
+///
+/// # Errors
+///
+/// That of a write that fails. The lines before it may have been written.
+pub fn write<W: Write, E: Write>(
+    output: &mut W,
+    errors: &mut E,
+    headers: &[(&str, &str)],
+) -> io::Result<()>
+    ensures { let lines = flat_map (λ h. line_of (h.0.now, h.1.now)) headers.now in
+        OnOk result (Appends (W.contents output.old) (W.contents output.new) lines) }
+{
+    for (name, value) in headers {
+        if is_line_text(name) && is_line_text(value) {
+            writeln!(output, "{name}: {value}")?;
+        } else {
+            writeln!(
+                errors,
+                "left out, as it has a CR, LF or NUL: header {name:?}"
+            )?;
+        }
+    }
+    Ok(())
+}
+
+/// Whether the text may stand in a line of a header.
+fn is_line_text(text: &str) -> bool
+    ensures { result ≡ is_line_text text.now }
+{
+    text.bytes().all(|byte| !matches!(byte, b'\r' | b'\n' | 0))
 }

@@ -1,17 +1,17 @@
-//! The program's input, read whole.
+//! Reads the whole input of the program.
 use crate::failure::Failure;
 use std::alloc::Global;
 use std::io::Read;
 
-/// How many times the input is read at most, so that a reader that never ends is given up.
+/// The most reads of the input, so that a reader that never ends is given up.
 const READS: u32 = 65_536;
 
-/// All bytes that the input has left, at most 65,536 reads of 4,096 bytes.
+/// Returns all bytes that are left of the input, in at most 65,536 reads of 4,096 bytes.
 ///
 /// # Errors
 ///
-/// `Io` where a read fails, or where none of these reported the end; `NoMemory` where a request for
-/// memory fails. What was read is dropped.
+/// `Io` if a read fails, or if none of these reports the end; `NoMemory` if out of memory. What was
+/// read is dropped.
 pub fn read_whole<R: Read + Drop>(alloc: Global, mut input: R) -> Result<Vec<u8>, Failure> {
     let mut bytes = Vec::new(alloc);
     let mut room = [0u8; 4096];

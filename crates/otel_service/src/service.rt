@@ -1,5 +1,6 @@
-//! What the service does of a request.
+//! What the service does with a request.
 use crate::failure::Failure;
+use crate::headers;
 use opentelemetry::baggage::Baggage;
 use opentelemetry::propagation::{PropagationError, TextMapPropagator};
 use opentelemetry::trace::{SpanContext, SpanId, Spans, TraceFlags, TraceId};
@@ -17,13 +18,13 @@ pub struct Sent {
     span: SpanContext,
 }
 
-/// Serves a request: opens a span under the one that its headers name, or in a trace of its own
-/// where they name none, adds the service's name to their baggage, and sets the headers of the
-/// request that it sends on.
+/// Serves a request: starts a span under the one that its headers name, or in a trace of its own if
+/// they name none, adds the service's name to their baggage, and sets the headers of the request
+/// that it sends on.
 ///
 /// # Errors
 ///
-/// `NoMemory` where a request for memory fails.
+/// `NoMemory` if out of memory.
 pub fn serve(
     alloc: Global,
     trace: &TraceContextPropagator,
@@ -37,7 +38,7 @@ pub fn serve(
     Ok(Sent { headers, span })
 }
 
-/// The context that the headers name.
+/// Returns the context that the headers name.
 fn extracted(
     alloc: Global,
     trace: &TraceContextPropagator,
@@ -48,7 +49,7 @@ fn extracted(
     baggage.extract_with_context(alloc, &given, received)
 }
 
-/// The context of the service's work: that of its span, with its name in the baggage.
+/// Returns the context of the service's work: that of its span, with its name in the baggage.
 fn started(alloc: Global, given: &Context) -> Result<Context, Failure> {
     let span = child_of(given.span_context())?;
     let span = RecordingSpan::new(alloc, span, StringValue::from("serve"));
@@ -57,7 +58,7 @@ fn started(alloc: Global, given: &Context) -> Result<Context, Failure> {
     Ok(named(alloc, &context)?)
 }
 
-/// The headers of the context.
+/// Returns the headers of the context.
 fn injected(
     alloc: Global,
     trace: &TraceContextPropagator,
@@ -70,7 +71,7 @@ fn injected(
     Ok(headers)
 }
 
-/// The context, with the service's name in its baggage. A baggage that is full stays as it is.
+/// Returns the context, with the service's name in its baggage. A full baggage stays as it is.
 fn named(alloc: Global, context: &Context) -> Result<Context, AllocError> {
     let mut baggage = Baggage::new(alloc);
     if let Some(given) = context.baggage() {
@@ -82,9 +83,9 @@ fn named(alloc: Global, context: &Context) -> Result<Context, AllocError> {
     context.with_baggage(alloc, baggage)
 }
 
-/// The span context of the service's span: in the trace of the parent, and of its trace state, or in
-/// the trace 1 where there is no parent. Its id is the one after the parent's; a tracer would draw
-/// both ids at random.
+/// Returns the span context of the service's span: in the parent's trace and with its trace state,
+/// or in the trace 1 if there is no parent. Its id is the one after the parent's; a tracer would
+/// draw both ids at random.
 fn child_of(parent: &SpanContext) -> Result<SpanContext, AllocError> {
     let (trace_id, trace_flags) = if parent.is_valid() {
         (parent.trace_id(), parent.trace_flags())
@@ -98,16 +99,24 @@ fn child_of(parent: &SpanContext) -> Result<SpanContext, AllocError> {
 }
 
 impl Sent {
-    /// Writes the headers in rising order of their names, and then the span.
-    pub fn write<W: Write>(&self, alloc: Global, output: &mut W) -> io::Result<()> {
-        let mut headers = Vec::new(alloc);
+    /// Writes the headers in rising order of their names, and then the span. A header that isn't one
+    /// line is left out, and `errors` is told (see [`headers::write`]).
+    ///
+    /// # Errors
+    ///
+    /// That of a write that fails, and `OutOfMemory` if out of memory.
+    pub fn write<W: Write, E: Write>(
+        &self,
+        alloc: Global,
+        output: &mut W,
+        errors: &mut E,
+    ) -> io::Result<()> {
+        let mut lines = Vec::new(alloc);
         for (name, value) in &self.headers {
-            headers.push((name.as_str(), value.as_str()))?;
+            lines.push((name.as_str(), value.as_str()))?;
         }
-        headers.sort()?;
-        for (name, value) in headers {
-            writeln!(output, "{name}: {value}")?;
-        }
+        lines.sort()?;
+        headers::write(output, errors, &lines)?;
         let (trace_id, span_id) = (self.span.trace_id(), self.span.span_id());
         writeln!(output, "span: serve {trace_id} {span_id}")
     }

@@ -1,4 +1,4 @@
-//! What a run is asked to do, and what became of it.
+//! The events of a run, and the outcomes of its attaches.
 use crate::context::Context;
 
 /// One event of a run.
@@ -8,11 +8,11 @@ use crate::context::Context;
 pub enum StackEvent {
     /// Attach the context.
     Attach(Context),
-    /// Detach what the attach of this number attached. The attaches of a run are numbered from 0.
+    /// Detach what the attach with this number attached. The attaches of a run are numbered from 0.
     Detach(usize),
 }
 
-/// What became of an attach.
+/// The outcome of an attach.
 ///
 /// See [`run`](crate::carry::run).
 #[derive(Clone, Copy, Debug, PartialEq, Eq)]
@@ -21,6 +21,6 @@ pub enum AttachOutcome {
     Attached(u16),
     /// The newest live position was 65534. Nothing changed.
     Full,
-    /// A request for memory failed, which comes only from newest position 8 on. Nothing changed.
+    /// Out of memory, which happens only if the newest position is 8 or more. Nothing changed.
     NoMemory,
 }

@@ -1,15 +1,15 @@
-//! What makes log records and takes them, and what makes loggers.
+//! Loggers, which make and take log records, and their providers.
 ghost use Rattle.std.specs.Prelude.{IfOk, option_map};
 
 use crate::logs::{LogRecord, Severity};
 use otel_base::{InstrumentationScope, StringValue};
 use std::alloc::{AllocError, Global};
 
-/// What makes log records and takes them when they are complete (the Rust crate's `Logger`).
+/// Makes log records, and takes them once they are complete (the Rust crate's `Logger`).
 ///
-/// Who writes a logger names, by ghost relations, which records it may make (`may_create`) and what
-/// it may report of an event's being enabled (`may_enable`). They are relations and no functions,
-/// so that a moment may be read and a configuration may change.
+/// An implementor names, by ghost relations, the records that it may make (`may_create`) and the
+/// answers that it may give on whether an event is enabled (`may_enable`). They are relations and
+/// not functions, so that a clock may be read and a configuration may change.
 ///
 /// See `otel_examples::log_bridge`.
 pub trait Logger {
@@ -23,28 +23,28 @@ pub trait Logger {
 
     ghost may_enable: { Self → Severity → List ℕ → Option (List ℕ) → Bool → Type 0 };
 
-    /// A new record.
+    /// Returns a new record.
     ///
     /// # Errors
     ///
-    /// `AllocError` where a request for memory fails.
+    /// `AllocError` if out of memory.
     fn create_log_record(&self, alloc: Global) -> Result<Self::LogRecord, AllocError>
         ensures { IfOk result (may_create self.now) };
 
-    /// Takes a record that is complete. It reads no context: who wants the active span in the
-    /// record sets it by `set_trace_context`. (The Rust crate's documentation has the logger read
-    /// the thread's context.)
+    /// Takes a complete record. It reads no context: to have the active span in the record, set it
+    /// by `set_trace_context`. (By the Rust crate's documentation the logger reads the thread's
+    /// context.)
     fn emit(&self, record: Self::LogRecord);
 
-    /// Whether a record of this severity, target and event name would be of use.
+    /// Returns `true` if a record with this severity, target and event name would be of use.
     fn event_enabled(&self, level: Severity, target: &str, name: Option<&str>) -> bool
         ensures { let asked = option_map (λ n. n.now) name.entry in
             may_enable self.now level target.now asked result };
 }
 
-/// What makes loggers (the Rust crate's `LoggerProvider`).
+/// Makes loggers (the Rust crate's `LoggerProvider`).
 ///
-/// Who writes a provider names, by the ghost relation `may_give`, which loggers it may make for a
+/// An implementor names, by the ghost relation `may_give`, the loggers that it may make for a
 /// scope.
 ///
 /// ```
@@ -59,11 +59,11 @@ pub trait LoggerProvider {
 
     ghost may_give: { Self → Scope → Self.Logger → Type 0 };
 
-    /// A logger for the library or module of a scope.
+    /// Returns a logger for the library or module of a scope.
     ///
     /// # Errors
     ///
-    /// `AllocError` where a request for memory fails. The scope is dropped.
+    /// `AllocError` if out of memory. The scope is dropped.
     fn logger_with_scope(
         &self,
         alloc: Global,
@@ -71,11 +71,12 @@ pub trait LoggerProvider {
     ) -> Result<Self::Logger, AllocError>
         ensures { IfOk result (may_give self.now scope) };
 
-    /// A logger for the library or module of that name, without version, schema URL and attributes.
+    /// Returns a logger for the library or module named `name`, without version, schema URL and
+    /// attributes.
     ///
     /// # Errors
     ///
-    /// `AllocError` where a request for memory fails. The name is dropped.
+    /// `AllocError` if out of memory. The name is dropped.
     fn logger(&self, alloc: Global, name: StringValue) -> Result<Self::Logger, AllocError>
         ensures { IfOk result (may_give self.now (scope_of_name name)) }
     {

@@ -12,7 +12,7 @@ use std::alloc::{AllocError, Global};
 pub struct NoopLoggerProvider;
 
 impl NoopLoggerProvider {
-    /// A provider of loggers that do nothing.
+    /// Returns a provider of loggers that do nothing.
     pub fn new() -> NoopLoggerProvider {
         NoopLoggerProvider
     }
@@ -25,7 +25,7 @@ impl LoggerProvider for NoopLoggerProvider {
 
     ghost may_give = { λ _ _ _. Unit {0} };
 
-    /// A logger that does nothing, whatever the scope. It takes no memory.
+    /// Returns a logger that does nothing, whatever the scope. Takes no memory.
     fn logger_with_scope(
         &self,
         _alloc: Global,
@@ -33,6 +33,14 @@ impl LoggerProvider for NoopLoggerProvider {
     ) -> Result<NoopLogger, AllocError>
         ensures { IsOk result }
     {
+        Ok(NoopLogger)
+    }
+
+    /// Returns a logger that does nothing, whatever the name. Takes no memory.
+    fn logger(&self, alloc: Global, name: StringValue) -> Result<NoopLogger, AllocError>
+        ensures { IsOk result }
+    {
+        let _ = (alloc, name);
         Ok(NoopLogger)
     }
 }
@@ -52,7 +60,7 @@ impl Logger for NoopLogger {
 
     ghost may_enable = { λ _ _ _ _ enabled. enabled ≡ false };
 
-    /// A record that ignores all that is set. It takes no memory.
+    /// Returns a record that ignores all that is set on it. Takes no memory.
     fn create_log_record(&self, _alloc: Global) -> Result<NoopLogRecord, AllocError>
         ensures { IsOk result }
     {
@@ -61,13 +69,13 @@ impl Logger for NoopLogger {
 
     fn emit(&self, _record: NoopLogRecord) {}
 
-    /// Always false.
+    /// Always returns `false`.
     fn event_enabled(&self, _level: Severity, _target: &str, _name: Option<&str>) -> bool {
         false
     }
 }
 
-/// A log record that ignores all that is set (the Rust crate's `NoopLogRecord`).
+/// A log record that ignores all that is set on it (the Rust crate's `NoopLogRecord`).
 ///
 /// See [`LogRecord`].
 #[derive(Clone, Debug, Default, Drop)]
@@ -108,7 +116,7 @@ impl LogRecord for NoopLogRecord {
 
     fn set_body(&mut self, _body: AnyValue) {}
 
-    /// Drops the attributes. It takes no memory.
+    /// Drops the attributes. Takes no memory.
     fn add_attributes(
         &mut self,
         _alloc: Global,
@@ -120,7 +128,7 @@ impl LogRecord for NoopLogRecord {
         Ok(())
     }
 
-    /// Drops the attribute. It takes no memory.
+    /// Drops the attribute. Takes no memory.
     fn add_attribute(
         &mut self,
         _alloc: Global,

@@ -1,4 +1,4 @@
-//! What is set on a log record.
+//! Log records.
 ghost use Rattle.std.specs.Prelude.{◌≡◌, OnOk, OnErr};
 ghost use Rattle.otel_base.specs.View.{tree, pairs_view};
 
@@ -9,15 +9,14 @@ use std::alloc::{AllocError, Global};
 
 /// One entry of a log, while it is put together (the Rust crate's `LogRecord`).
 ///
-/// Who writes a record type names, by ghost members, the effect of each writing call as a function
-/// of the record and of what the arguments mean: `after_event_name`, `after_target`,
-/// `after_timestamp`, `after_observed_timestamp`, `after_severity_text`, `after_severity_number`,
-/// `after_body`, `after_attributes`, `after_attribute`. Each call owes its effect or, after an
-/// error, the record as it was. `may_be_traced` says which records `set_trace_context` may leave:
-/// the record as it was is one of them (`may_be_untraced`), and the only one where the type doesn't
-/// say otherwise.
+/// An implementor names, by ghost members, the effect of each writing call as a function of the
+/// record and of what the arguments mean: `after_event_name`, `after_target`, `after_timestamp`,
+/// `after_observed_timestamp`, `after_severity_text`, `after_severity_number`, `after_body`,
+/// `after_attributes`, `after_attribute`. Each call has its effect or, after an error, leaves the
+/// record unchanged. `may_be_traced` says which records `set_trace_context` may leave: the
+/// unchanged record is one of them (`may_be_untraced`), and by default the only one.
 ///
-/// Moments are nanoseconds since 1970-01-01T00:00:00Z. In the Rust crate they are values of
+/// Times are nanoseconds since 1970-01-01T00:00:00Z. In the Rust crate they are values of
 /// `SystemTime`, and attributes come from an iterator.
 ///
 /// See `otel_examples::log_bridge`.
@@ -46,19 +45,20 @@ pub trait LogRecord: Drop {
 
     ghost may_be_traced: { Self → ℕ → ℕ → Option ℕ → Self → Type 0 } = { λ old _ _ _ new. new ≡ old };
 
-    /// Sets the name of the event that the record is of.
+    /// Sets the name of the event that the record describes.
     fn set_event_name(&mut self, name: &'static str)
         ensures { self.new ≡ after_event_name self.old name.now };
 
-    /// Sets the target: the part of the program that the record comes from, as a module's path.
+    /// Sets the target: the part of the program that the record comes from, as the path of a
+    /// module.
     fn set_target(&mut self, target: StringValue)
         ensures { self.new ≡ after_target self.old target };
 
-    /// Sets the moment at which the event happened.
+    /// Sets the time at which the event happened.
     fn set_timestamp(&mut self, timestamp: u64)
         ensures { self.new ≡ after_timestamp self.old timestamp };
 
-    /// Sets the moment at which the event was seen.
+    /// Sets the time at which the event was observed.
     fn set_observed_timestamp(&mut self, timestamp: u64)
         ensures { self.new ≡ after_observed_timestamp self.old timestamp };
 
@@ -70,7 +70,7 @@ pub trait LogRecord: Drop {
     fn set_severity_number(&mut self, number: Severity)
         ensures { self.new ≡ after_severity_number self.old number };
 
-    /// Sets what the record says.
+    /// Sets the body: what the record says.
     fn set_body(&mut self, body: AnyValue)
         ensures { self.new ≡ after_body self.old (tree body) };
 
@@ -78,8 +78,7 @@ pub trait LogRecord: Drop {
     ///
     /// # Errors
     ///
-    /// `AllocError` where a request for memory fails. The record is unchanged; the attributes are
-    /// dropped.
+    /// `AllocError` if out of memory. The record is unchanged; the attributes are dropped.
     fn add_attributes(
         &mut self,
         alloc: Global,
@@ -93,14 +92,13 @@ pub trait LogRecord: Drop {
     ///
     /// # Errors
     ///
-    /// `AllocError` where a request for memory fails. The record is unchanged; the attribute is
-    /// dropped.
+    /// `AllocError` if out of memory. The record is unchanged; the attribute is dropped.
     fn add_attribute(&mut self, alloc: Global, key: Key, value: AnyValue) -> Result<(), AllocError>
         ensures ok { OnOk result (self.new ≡ after_attribute self.old key (tree value)) }
         ensures err { OnErr result (self.new ≡ self.old) };
 
-    /// Sets the span that was active when the event happened, where the record type keeps one. It
-    /// does nothing by default.
+    /// Sets the span that was active when the event happened, if the record type keeps one. Does
+    /// nothing by default.
     fn set_trace_context(
         &mut self,
         trace_id: TraceId,

@@ -14,9 +14,9 @@ use crate::propagation::{Extractor, Injector, PropagationError};
 use indexmap::IndexSet;
 use std::alloc::{AllocError, Global};
 
-/// Propagators in order, put to work as one.
+/// A list of propagators that work as one (the Rust crate's `TextMapCompositePropagator`).
 ///
-/// Contracts see it as the list of its members. (The crate's `TextMapCompositePropagator`.)
+/// Contracts see it as the list of its members.
 ///
 /// ```
 /// let mut members: Vec<Box<dyn TextMapPropagator>> = Vec::new(alloc);
@@ -54,7 +54,7 @@ fn extract_member(
     member.extract_with_context(alloc, context, extractor)
 }
 
-/// Adds the fields of one member that aren't there yet, in order.
+/// Adds the fields of one member that are new, in order.
 fn add_fields(
     alloc: Global,
     fields: &mut IndexSet<String>,
@@ -69,12 +69,13 @@ fn add_fields(
     Ok(())
 }
 
-/// The members of both, in order.
+/// Returns the members of both, in order.
 fn joined(
     mut members: Vec<Box<dyn TextMapPropagator>>,
     others: Vec<Box<dyn TextMapPropagator>>,
 ) -> Result<Vec<Box<dyn TextMapPropagator>>, AllocError>
-    ensures { IfOk result (λ all. all.items ≡ members.items ++ others.items) }
+    ensures all { IfOk result (λ all. all.items ≡ members.items ++ others.items) }
+    ensures none { others.items ≡ [] → IsOk result }
 {
     for member in others {
         members.push(member)?;
@@ -83,12 +84,12 @@ fn joined(
 }
 
 impl TextMapCompositePropagator {
-    /// The composite of these members, in this order. It keeps the names of their fields.
+    /// Returns the composite of these members, in this order. It keeps the names of their fields.
     ///
     /// # Errors
     ///
-    /// `AllocError` where a request for the memory of the names fails, so never without members. The
-    /// members are dropped.
+    /// `AllocError` if out of memory for the names, so never without members. The members are
+    /// dropped.
     pub fn new(
         alloc: Global,
         members: Vec<Box<dyn TextMapPropagator>>,
@@ -104,17 +105,19 @@ impl TextMapCompositePropagator {
         Ok(TextMapCompositePropagator { members, fields })
     }
 
-    /// The composite of the members of both, in order: it injects, extracts and names fields as they
-    /// do. Not in the Rust crate, where a composite may be a member of another.
+    /// Returns the composite of the members of both, in order: it injects, extracts and names
+    /// fields as they do. Not in the Rust crate, in which a composite may be a member of another.
     ///
     /// # Errors
     ///
-    /// `AllocError` where a request for memory fails. The members of both are dropped.
+    /// `AllocError` if out of memory, so never if both are without members. The members of both are
+    /// dropped.
     pub fn join(
         self,
         alloc: Global,
         other: TextMapCompositePropagator,
     ) -> Result<TextMapCompositePropagator, AllocError>
+        ensures made { members_of self ≡ [] → members_of other ≡ [] → IsOk result }
         ensures members { IfOk result (λ c. members_of c ≡ members_of self ++ members_of other) }
         ensures fields { IfOk result (λ c. kept_fields c ≡ fields_of (λ m. field_names m) c) }
     {
@@ -128,12 +131,12 @@ impl TextMapCompositePropagator {
     }
 
     /// Lets each member inject the context, in turn, until one returns an error, and returns that.
-    /// Without members it is `Ok` and the carrier stays.
+    /// Without members it is `Ok` and nothing of the carrier changes.
     ///
     /// # Errors
     ///
-    /// `Memory` where a request for memory fails; `Refused` only where a member may refuse, or the
-    /// carrier refuses a text. After either a beginning of the members' pairs is set.
+    /// `Memory` if out of memory; `Refused` only if a member may refuse, or the carrier refuses a
+    /// text. After either a beginning of the members' pairs is set.
     pub fn inject_context(
         &self,
         context: &Context,
@@ -143,7 +146,7 @@ impl TextMapCompositePropagator {
             (may_refuse_of (λ m. may_refuse m) self.now)
             (state injector.old) (state injector.new) result }
         ensures without_members { members_of self.now ≡ []
-            → IsOk result × ((state injector.new).texts ≡ (state injector.old).texts) }
+            → IsOk result × (state injector.new ≡ state injector.old) }
     {
         for member in &self.members {
             inject_member(member, context, &mut *injector)?;
@@ -165,19 +168,19 @@ impl TextMapCompositePropagator {
             (may_refuse_of (λ m. may_refuse m) self.now)
             (state injector.old) (state injector.new) result }
         ensures without_members { members_of self.now ≡ []
-            → IsOk result × ((state injector.new).texts ≡ (state injector.old).texts) }
+            → IsOk result × (state injector.new ≡ state injector.old) }
     {
         self.inject_context(stack.current(), injector)
     }
 
-    /// Lets each member extract, in turn, from the context that the one before gave, the first from
-    /// the given one, until one returns an error, and returns that. Without members it is a copy of
-    /// the given context.
+    /// Lets each member extract, in turn, from the context that the one before returned, the first
+    /// from the given one. Stops at the first error and returns it. Without members it returns a
+    /// copy of the given context.
     ///
     /// # Errors
     ///
-    /// `Memory` where a request for memory fails; `Refused` only where a member may refuse. After
-    /// either the context and the carrier are as they were.
+    /// `Memory` if out of memory; `Refused` only if a member may refuse. After either, the context
+    /// and the carrier are unchanged.
     pub fn extract_with_context(
         &self,
         alloc: Global,
@@ -199,7 +202,8 @@ impl TextMapCompositePropagator {
         Ok(given)
     }
 
-    /// Lets each member extract, from the stack's current context on, as `extract_with_context` does.
+    /// Lets each member extract, starting from the stack's current context, as
+    /// `extract_with_context` does.
     ///
     /// # Errors
     ///
@@ -219,7 +223,7 @@ impl TextMapCompositePropagator {
         self.extract_with_context(alloc, stack.current(), extractor)
     }
 
-    /// The names of the members' fields, each once, in order of first appearance.
+    /// Returns the names of the members' fields, each once, in order of first appearance.
     pub fn fields(&self) -> FieldIter<'_>
         ensures { result ≡ kept_fields self.now }
     {

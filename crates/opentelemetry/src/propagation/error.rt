@@ -1,19 +1,19 @@
-//! Why a propagation was given up.
+//! The error of a propagation.
 ghost use Rattle.std.specs.Prelude.{◌≡◌, alloc_error};
 ghost use Rattle.opentelemetry.specs.declared.propagation.error.PropagationError.TheVariants.{Memory};
 
 use std::alloc::{AllocError, AllocFailed};
 use thiserror::Error;
 
-/// Why a carrier or a propagator gave up. Not in the Rust crate, whose calls return no error.
+/// The error of a carrier or a propagator. Not in the Rust crate, whose calls return no error.
 ///
 /// See `otel_examples::service`.
 #[derive(Clone, Copy, Debug, PartialEq, Eq, Drop, Error)]
 pub enum PropagationError {
-    /// A request for memory failed.
+    /// Out of memory.
     #[error("no memory")]
     Memory(AllocError),
-    /// The carrier, or the propagator itself, refused.
+    /// The carrier or the propagator itself refused.
     #[error("refused")]
     Refused,
 }

@@ -1,4 +1,4 @@
-//! Propagators: what writes a context into a carrier, and reads it from there.
+//! Propagators, which write a context into a carrier and read it back.
 ghost use Rattle.std.specs.Prelude.{◌≡◌, map, string_bytes};
 ghost use Rattle.otel_context.specs.Stack.{current};
 ghost use Rattle.opentelemetry.specs.Extraction.{Extracts};
@@ -9,13 +9,14 @@ use crate::propagation::{Extractor, Injector, PropagationError};
 use std::alloc::Global;
 use std::marker::Model;
 
-/// What writes a context into a carrier of texts, and reads it from there.
+/// Writes a context into a carrier of texts, and reads it back (the Rust crate's
+/// `TextMapPropagator`).
 ///
-/// A propagator names the pairs that it sets for a context, `pairs`, the context that it gives for a
-/// context and a map of texts, `extracted`, the names of its fields, `field_names`, and whether it
-/// may refuse of itself, `may_refuse`. (The crate's `TextMapPropagator`.)
+/// An implementor names the pairs that it sets for a context, `pairs`; the context that it returns
+/// for a context and a map of texts, `extracted`; the names of its fields, `field_names`; and
+/// whether it may itself refuse, `may_refuse`.
 ///
-/// See `otel_examples::request_id` for one of one's own, `otel_examples::service` for a caller.
+/// See `otel_examples::request_id` for an implementation, `otel_examples::service` for a caller.
 pub trait TextMapPropagator: Drop {
     ghost use Rattle.std.specs.Prelude.{Bool, ℕ, List};
     ghost use Rattle.otel_context.specs.Context.{ContextRecord};
@@ -33,8 +34,8 @@ pub trait TextMapPropagator: Drop {
     ///
     /// # Errors
     ///
-    /// `Memory` where a request for memory fails; `Refused` only where this propagator may refuse,
-    /// or the carrier refuses a text. After either a beginning of the pairs is set.
+    /// `Memory` if out of memory; `Refused` only if this propagator may refuse, or the carrier
+    /// refuses a text. After either, a prefix of the pairs is set.
     fn inject_context(
         &self,
         context: &Context,
@@ -59,12 +60,12 @@ pub trait TextMapPropagator: Drop {
         self.inject_context(stack.current(), injector)
     }
 
-    /// The context, with what the carrier holds for this propagator.
+    /// Returns the context, with what the carrier holds for this propagator.
     ///
     /// # Errors
     ///
-    /// `Memory` where a request for memory fails; `Refused` only where this propagator may refuse.
-    /// After either the context and the carrier are as they were.
+    /// `Memory` if out of memory; `Refused` only if this propagator may refuse. After either, the
+    /// context and the carrier are unchanged.
     fn extract_with_context(
         &self,
         alloc: Global,
@@ -74,7 +75,7 @@ pub trait TextMapPropagator: Drop {
         ensures { Extracts (extracted self.now context.now (held extractor.now))
             (may_refuse self.now) result };
 
-    /// The stack's current context, with what the carrier holds for this propagator.
+    /// Returns the stack's current context, with what the carrier holds for this propagator.
     ///
     /// # Errors
     ///
@@ -91,12 +92,12 @@ pub trait TextMapPropagator: Drop {
         self.extract_with_context(alloc, stack.current(), extractor)
     }
 
-    /// The names of the fields of a carrier that this propagator sets and reads, in order.
+    /// Returns the names of the carrier's fields that this propagator sets and reads, in order.
     fn fields(&self) -> FieldIter<'_>
         ensures { result ≡ field_names self.now };
 }
 
-/// The names of a propagator's fields, in order. (The crate's `FieldIter`.)
+/// The names of a propagator's fields, in order (the Rust crate's `FieldIter`).
 ///
 /// See `otel_examples::request_id`.
 #[derive(Drop)]
@@ -113,7 +114,7 @@ impl<'a> Model for FieldIter<'a> {
 }
 
 impl<'a> FieldIter<'a> {
-    /// The given names, in order.
+    /// Returns an iterator over these names, in order.
     pub fn new(fields: &'a [String]) -> FieldIter<'a>
         ensures { result ≡ map string_bytes fields.now }
     {

@@ -1,4 +1,4 @@
-//! Something that happened at one moment of a span.
+//! Events of spans.
 ghost use Rattle.std.specs.Prelude.{◌≡◌, ◌↔◌, IsTrue, [], map};
 ghost use Rattle.std.specs.Cmp.{on_per, partial_equiv_from_equiv};
 ghost use Rattle.otel_base.specs.KeyValueLaws.{equiv_from_decides};
@@ -10,7 +10,7 @@ use crate::trace::attributes::{copy_attributes, same_attributes};
 use otel_base::{KeyValue, StringValue};
 use std::alloc::{AllocError, Global};
 
-/// Something that happened at one moment of a span, with attributes (the Rust crate's `Event`).
+/// Something that happened at one time during a span, with attributes (the Rust crate's `Event`).
 ///
 /// Contracts see the record of its four parts, the attributes as a list.
 ///
@@ -23,14 +23,14 @@ pub struct Event {
     pub name: StringValue,
     /// When it happened, in nanoseconds since 1970-01-01T00:00:00Z.
     pub timestamp: u64,
-    /// What is said of it, in given order.
+    /// Its attributes, in the given order.
     pub attributes: Vec<KeyValue>,
-    /// How many attributes were left out, for a limit for example.
+    /// How many attributes were dropped, for example because of a limit.
     pub dropped_attributes_count: u32,
 }
 
 impl Event {
-    /// The event of the four parts.
+    /// Returns an event with these four parts.
     pub fn new(
         name: StringValue,
         timestamp: u64,
@@ -52,7 +52,7 @@ impl Event {
         }
     }
 
-    /// An event without attributes, at a moment in nanoseconds since 1970-01-01T00:00:00Z.
+    /// Returns an event without attributes, at `timestamp` nanoseconds since 1970-01-01T00:00:00Z.
     pub fn with_name(alloc: Global, name: StringValue, timestamp: u64) -> Event
         ensures { event_of result ≡ record {
           name = name;
@@ -68,11 +68,11 @@ impl Event {
 impl Clone for Event {
     ghost is_clone = { λ e copy. event_of copy ≡ event_of e };
 
-    /// An event of the same parts.
+    /// Returns an event with the same parts.
     ///
     /// # Errors
     ///
-    /// `AllocError` where a request for memory fails. The event is unchanged.
+    /// `AllocError` if out of memory. The event is unchanged.
     fn clone(&self) -> Result<Event, AllocError> {
         Ok(Event {
             name: self.name.clone()?,
@@ -89,7 +89,7 @@ impl PartialEq for Event {
     ghost laws = { on_per event_of (partial_equiv_from_equiv
         (equiv_from_decides event_eq event_eq-Decides)) };
 
-    /// Whether both have the same four parts, the attributes in the same order.
+    /// Returns `true` if both have the same four parts, with the attributes in the same order.
     fn eq(&self, other: &Event) -> bool
         ensures value { result ≡ event_eq (event_of self.now) (event_of other.now) }
         ensures same { IsTrue result ↔ (event_of self.now ≡ event_of other.now) }

@@ -1,8 +1,8 @@
 //! Work that runs in a span.
-ghost use Rattle.std.specs.Prelude.{◌≡◌, IfOk, IfErr, OnOk, OnErr};
+ghost use Rattle.std.specs.Prelude.{◌≡◌, IfOk, IfErr, IsErr, OnOk, OnErr};
 ghost use Rattle.otel_context.specs.Active.{AttachesAt};
 ghost use Rattle.otel_context.specs.Context.{with_span};
-ghost use Rattle.otel_context.specs.Spans.{HasSameSpans, insert, refusal};
+ghost use Rattle.otel_context.specs.Spans.{HasSameSpans, insert, used_up, refusal};
 ghost use Rattle.opentelemetry.specs.Closure.{CallLeaves};
 
 use otel_context::{Context, ContextStack, Span, SpanCause, SpanRefused, Spans};
@@ -10,24 +10,28 @@ use std::alloc::{AllocError, Global};
 
 /// Why no body ran in a span. Not in the Rust crate.
 ///
-/// The stack is as it was, and the table holds the same spans.
+/// The stack is unchanged, and the table holds the same spans. That no body ran isn't said by a
+/// clause: code that had called the body couldn't discard its result, as [`SpanBody::Out`] has no
+/// `Drop` bound, and so wouldn't compile.
 ///
 /// See `otel_examples::in_span`.
 #[derive(Drop)]
 pub enum StartError<S> {
-    /// A request for memory failed before there was a span. The table is unchanged.
+    /// Out of memory before there was a span. The table is unchanged.
     Build(AllocError),
-    /// The table took no span, or a request for memory failed; the span that was built comes back. The table may have
-    /// used up one number.
+    /// The numbers of the table are used up, or out of memory; the span that was built comes back. In the first case the
+    /// table is unchanged, in the second its next number may be one higher.
     Refused(SpanRefused<S>),
 }
 
-/// What runs in a span. Not in the Rust crate, whose `in_span` takes a closure: [`Run`] makes one of a closure.
+/// Code that runs in a span. Not in the Rust crate, whose `in_span` takes a closure: [`Run`] turns
+/// a closure into a body.
 ///
-/// Who writes a body names, by the ghost relation `may_leave`, what its call may return and leave, by the stack, the
-/// table and the context that it is lent; and by `can_call` when it can be called, where that isn't always.
+/// An implementor names, by the ghost relation `may_leave`, what its call may return and leave for
+/// the stack, the table and the context that it is given. If it can't always be called, `can_call`
+/// says when it can.
 ///
-/// See `otel_examples::in_span` for two bodies of one's own.
+/// See `otel_examples::in_span` for two implementations.
 pub trait SpanBody<S>: Drop {
     ghost use Rattle.opentelemetry.specs.InSpan.{MayLeave};
 
@@ -38,7 +42,8 @@ pub trait SpanBody<S>: Drop {
 
     ghost can_call: { Self → Type 0 } = { λ _. Unit {0} };
 
-    /// Runs the body. The context is the current one, but at the greatest position, where it couldn't be attached.
+    /// Runs the body. The context is the current one, unless the greatest position is live, so that
+    /// it couldn't be attached.
     fn call(self, stack: &mut ContextStack, spans: &mut Spans<S>, context: Context) -> Self::Out
         requires { can_call self }
         ensures { may_leave self stack.old spans.old context result stack.new spans.new };
@@ -46,7 +51,7 @@ pub trait SpanBody<S>: Drop {
 
 /// A closure as a body: `Run(|stack, spans, context| ..)`. Not in the Rust crate.
 ///
-/// What it may leave is what the closure promises.
+/// It may leave what the closure promises.
 ///
 /// ```
 /// Run(|stack: &mut ContextStack, _spans: &mut Spans<NoopSpan>, _context: Context| {
@@ -56,9 +61,9 @@ pub trait SpanBody<S>: Drop {
 #[derive(Drop)]
 pub struct Run<F>(pub F);
 
-/// A closure over any stack and context, of which [`Run`] makes a body. Not in the Rust crate.
+/// A closure over any stack and context, which [`Run`] turns into a body. Not in the Rust crate.
 ///
-/// Who runs a closure in a span writes [`Run`], and names this trait nowhere.
+/// A caller that runs a closure in a span writes [`Run`], and never names this trait.
 pub trait CallClosure<S, K, C>: Drop {
     ghost use Rattle.otel_context.specs.Spans.{SpansState};
 
@@ -104,7 +109,8 @@ where
     }
 }
 
-/// What a body is lent besides the stack and the table, and where its context is attached.
+/// What a body is given besides the stack and the table, and the position at which its context is
+/// attached.
 #[derive(Drop)]
 pub(crate) struct Entered {
     pub context: Context,
@@ -112,7 +118,8 @@ pub(crate) struct Entered {
     pub position: u16,
 }
 
-// Attaches a copy of the context, and returns its position, or 65535 where the greatest position is live.
+// Attaches a copy of the context, and returns its position, or 65535 if the greatest position is
+// live.
 fn attach_copy(stack: &mut ContextStack, context: &Context) -> Result<u16, AllocError>
     ensures attached { IfOk result (λ position.
         AttachesAt position context.now stack.old stack.new) }
@@ -139,6 +146,8 @@ pub(crate) fn enter<S: Span>(
     ensures inserted { OnOk result (spans.new ≡ insert spans.old span) }
     ensures same_stack { OnErr result (stack.new ≡ stack.old) }
     ensures same_spans { OnErr result (HasSameSpans spans.old spans.new) }
+    ensures used_up { spans.old.next_number ≡ used_up
+        → IsErr result × (spans.new ≡ spans.old) }
     ensures refused { IfErr result (λ refused. refused ≡ refusal spans.old span) }
 {
     let number = spans.next_number();

@@ -1,4 +1,4 @@
-//! A span that another one has to do with.
+//! Links between spans.
 ghost use Rattle.std.specs.Prelude.{◌≡◌, ◌↔◌, IsTrue, [], map};
 ghost use Rattle.std.specs.Cmp.{on_per, partial_equiv_from_equiv};
 ghost use Rattle.otel_base.specs.KeyValueLaws.{equiv_from_decides};
@@ -11,7 +11,7 @@ use otel_base::KeyValue;
 use otel_ids::SpanContext;
 use std::alloc::{AllocError, Global};
 
-/// A span that another one has to do with, without being its parent (the Rust crate's `Link`).
+/// A link to another span that isn't the parent (the Rust crate's `Link`).
 ///
 /// Contracts see the record of its three parts, the attributes as a list.
 ///
@@ -22,14 +22,14 @@ use std::alloc::{AllocError, Global};
 pub struct Link {
     /// The span context of the other span.
     pub span_context: SpanContext,
-    /// What is said of the link, in given order.
+    /// Its attributes, in the given order.
     pub attributes: Vec<KeyValue>,
-    /// How many attributes were left out, for a limit for example.
+    /// How many attributes were dropped, for example because of a limit.
     pub dropped_attributes_count: u32,
 }
 
 impl Link {
-    /// The link of the three parts.
+    /// Returns a link with these three parts.
     pub fn new(
         span_context: SpanContext,
         attributes: Vec<KeyValue>,
@@ -48,7 +48,7 @@ impl Link {
         }
     }
 
-    /// A link without attributes.
+    /// Returns a link without attributes.
     pub fn with_context(alloc: Global, span_context: SpanContext) -> Link
         ensures { link_of result ≡ record {
           span_context = span_context;
@@ -63,11 +63,11 @@ impl Link {
 impl Clone for Link {
     ghost is_clone = { λ l copy. link_of copy ≡ link_of l };
 
-    /// A link of the same parts.
+    /// Returns a link with the same parts.
     ///
     /// # Errors
     ///
-    /// `AllocError` where a request for memory fails, or where the count of those that share the pairs of the trace
+    /// `AllocError` if out of memory, or if the count of those that share the pairs of the trace
     /// state is at its limit. The link is unchanged.
     fn clone(&self) -> Result<Link, AllocError> {
         Ok(Link {
@@ -84,7 +84,7 @@ impl PartialEq for Link {
     ghost laws = { on_per link_of (partial_equiv_from_equiv
         (equiv_from_decides link_eq link_eq-Decides)) };
 
-    /// Whether both have the same three parts, the attributes in the same order.
+    /// Returns `true` if both have the same three parts, with the attributes in the same order.
     fn eq(&self, other: &Link) -> bool
         ensures value { result ≡ link_eq (link_of self.now) (link_of other.now) }
         ensures same { IsTrue result ↔ (link_of self.now ≡ link_of other.now) }

@@ -1,5 +1,6 @@
-//! Types that do nothing, for where no tracing is wanted.
+//! Types that do nothing, for programs without tracing.
 ghost use Rattle.std.specs.Prelude.{◌≡◌, IsOk};
+ghost use Rattle.otel_ids.specs.SpanContext.{no_span_context};
 
 use crate::context::Context;
 use crate::propagation::text_map_propagator::{FieldIter, TextMapPropagator};
@@ -11,6 +12,7 @@ use otel_base::{InstrumentationScope, KeyValue, StringValue};
 use otel_context::{Span, Status};
 use otel_ids::SpanContext;
 use std::alloc::{AllocError, Global};
+use std::fmt::Display;
 use std::marker::Model;
 
 /// A provider of tracers whose spans do nothing (the Rust crate's `NoopTracerProvider`).
@@ -20,7 +22,7 @@ use std::marker::Model;
 pub struct NoopTracerProvider;
 
 impl NoopTracerProvider {
-    /// A provider of tracers whose spans do nothing.
+    /// Returns a provider of tracers whose spans do nothing.
     pub fn new() -> NoopTracerProvider {
         NoopTracerProvider
     }
@@ -33,7 +35,7 @@ impl TracerProvider for NoopTracerProvider {
 
     ghost may_give = { λ _ _ _. Unit {0} };
 
-    /// A tracer whose spans do nothing, whatever the scope. It takes no memory.
+    /// Returns a tracer whose spans do nothing, whatever the scope. Takes no memory.
     fn tracer_with_scope(
         &self,
         _alloc: Global,
@@ -41,6 +43,14 @@ impl TracerProvider for NoopTracerProvider {
     ) -> Result<NoopTracer, AllocError>
         ensures { IsOk result }
     {
+        Ok(NoopTracer)
+    }
+
+    /// Returns a tracer whose spans do nothing, whatever the name. Takes no memory.
+    fn tracer(&self, alloc: Global, name: StringValue) -> Result<NoopTracer, AllocError>
+        ensures { IsOk result }
+    {
+        let _ = (alloc, name);
         Ok(NoopTracer)
     }
 }
@@ -52,38 +62,43 @@ impl TracerProvider for NoopTracerProvider {
 pub struct NoopTracer;
 
 impl NoopTracer {
-    /// A tracer whose spans do nothing.
+    /// Returns a tracer whose spans do nothing.
     pub fn new() -> NoopTracer {
         NoopTracer
     }
 }
 
 impl Tracer for NoopTracer {
-    ghost use Rattle.std.specs.Prelude.{◌≡◌};
+    ghost use Rattle.std.specs.Prelude.{◌≡◌, [], IfOk, IsOk};
     ghost use Rattle.otel_context.specs.Context.{span_context};
 
     type Span = NoopSpan;
 
     ghost may_build = { λ _ _ parent span. span ≡ span_context parent };
 
-    /// A span with the parent's span context, valid or not, so that what calls carry goes on.
+    /// Returns a span with the parent's span context, valid or not, so that what calls carry goes
+    /// on. Takes no memory.
     ///
     /// # Errors
     ///
-    /// The count of those that share the pairs of the trace state is at its limit.
+    /// `AllocError` if the count of those that share the pairs of the trace state is at its limit,
+    /// so never if there are no pairs.
     fn build_with_context(
         &self,
         _alloc: Global,
         _builder: SpanBuilder,
         parent: &Context,
-    ) -> Result<NoopSpan, AllocError> {
+    ) -> Result<NoopSpan, AllocError>
+        ensures built { IfOk result (λ span. span ≡ span_context parent.now) }
+        ensures without_pairs { (span_context parent.now).trace_state ≡ [] → IsOk result }
+    {
         Ok(NoopSpan {
             span_context: parent.span_context().clone()?,
         })
     }
 }
 
-/// A span that never records and ignores all that is set (the Rust crate's `NoopSpan`).
+/// A span that never records and ignores all that is set on it (the Rust crate's `NoopSpan`).
 ///
 /// Contracts see its span context.
 ///
@@ -113,14 +128,31 @@ impl NoopSpan {
     };
 }
 
+/// Not in the Rust crate.
+impl Default for NoopSpan {
+    ghost is_default = { λ span. span ≡ no_span_context };
+
+    /// Returns [`NoopSpan::DEFAULT`].
+    fn default() -> NoopSpan
+        ensures { result ≡ no_span_context }
+    {
+        NoopSpan::DEFAULT
+    }
+}
+
 impl Clone for NoopSpan {
+    ghost use Rattle.std.specs.Prelude.{[]};
+
     ghost is_clone = { λ s copy. copy ≡ s };
 
-    /// A span of the same span context.
+    ghost is_infallible = { λ s. s.trace_state ≡ [] };
+
+    /// Returns a span of the same span context.
     ///
     /// # Errors
     ///
-    /// The count of those that share the pairs of the trace state is at its limit.
+    /// `AllocError` if the count of those that share the pairs of the trace state is at its limit,
+    /// so never if there are no pairs.
     fn clone(&self) -> Result<NoopSpan, AllocError> {
         Ok(NoopSpan {
             span_context: self.span_context.clone()?,
@@ -179,6 +211,43 @@ impl Span for NoopSpan {
         Ok(())
     }
 
+    /// Ignores the event. Takes no memory.
+    fn add_event(
+        &mut self,
+        alloc: Global,
+        name: StringValue,
+        attributes: Vec<KeyValue>,
+        now: u64,
+    ) -> Result<(), AllocError>
+        ensures ok { IsOk result }
+        ensures same { self.new ≡ self.old }
+    {
+        self.add_event_with_timestamp(alloc, name, now, attributes)
+    }
+
+    /// Ignores the error, and doesn't print it. Takes no memory.
+    fn record_error<E: Display>(
+        &mut self,
+        _alloc: Global,
+        error: &E,
+        _now: u64,
+    ) -> Result<(), AllocError>
+        ensures ok { IsOk result }
+        ensures same { self.new ≡ self.old }
+    {
+        let _ = error;
+        Ok(())
+    }
+
+    /// Ignores the attributes. Takes no memory.
+    fn set_attributes(&mut self, alloc: Global, attributes: Vec<KeyValue>) -> Result<(), AllocError>
+        ensures ok { IsOk result }
+        ensures same { self.new ≡ self.old }
+    {
+        let _ = (alloc, attributes);
+        Ok(())
+    }
+
     fn set_status(&mut self, _status: Status) {}
 
     fn update_name(&mut self, _name: StringValue) {}
@@ -206,20 +275,20 @@ impl Span for NoopSpan {
     ghost end_keeps = { λ _ _. refl };
 }
 
-/// A propagator that sets nothing and reads nothing. (The crate's `NoopTextMapPropagator`.)
+/// A propagator that sets nothing and reads nothing (the Rust crate's `NoopTextMapPropagator`).
 ///
 /// See [`TextMapCompositePropagator`](crate::propagation::TextMapCompositePropagator).
 #[derive(Clone, Copy, Debug, Default, Drop)]
 pub struct NoopTextMapPropagator;
 
 impl NoopTextMapPropagator {
-    /// The propagator: there is one value.
+    /// Returns the propagator, the only value of its type.
     pub fn new() -> NoopTextMapPropagator {
         NoopTextMapPropagator
     }
 }
 
-/// It gives a copy of the context that it is handed, as the trait says; in the Rust crate it gives
+/// Extraction returns a copy of the given context, as the trait says; in the Rust crate it returns
 /// the current one.
 impl TextMapPropagator for NoopTextMapPropagator {
     ghost use Rattle.std.specs.Prelude.{[], false};
@@ -232,6 +301,7 @@ impl TextMapPropagator for NoopTextMapPropagator {
 
     ghost may_refuse = { λ _. false };
 
+    /// Sets nothing. Takes no memory.
     fn inject_context(
         &self,
         _context: &Context,

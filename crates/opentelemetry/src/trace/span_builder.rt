@@ -1,4 +1,4 @@
-//! What a span starts with.
+//! The builder of a span.
 ghost use Rattle.std.specs.Prelude.{◌≡◌, IfOk, Some, [], map};
 ghost use Rattle.otel_base.specs.View.{attribute_of};
 ghost use Rattle.otel_context.specs.Stack.{current};
@@ -13,7 +13,7 @@ use otel_base::{KeyValue, StringValue};
 use otel_context::{Context, ContextStack, SpanKind};
 use std::alloc::{AllocError, Global};
 
-/// What a span starts with (the Rust crate's `SpanBuilder`).
+/// The parts that a span starts with (the Rust crate's `SpanBuilder`).
 ///
 /// A field that is `None` is left to the tracer. Contracts see the record of the six parts.
 ///
@@ -26,16 +26,16 @@ pub struct SpanBuilder {
     pub name: StringValue,
     /// When it starts, in nanoseconds since 1970-01-01T00:00:00Z.
     pub start_time: Option<u64>,
-    /// What is said of it, in given order.
+    /// Its attributes, in the given order.
     pub attributes: Option<Vec<KeyValue>>,
-    /// What has happened to it before it starts.
+    /// The events that happened before it starts.
     pub events: Option<Vec<Event>>,
-    /// The spans that it has to do with.
+    /// Its links to other spans.
     pub links: Option<Vec<Link>>,
 }
 
 impl SpanBuilder {
-    /// A builder of that name, with nothing else set.
+    /// Returns a builder with the name and nothing else set.
     pub fn from_name(name: StringValue) -> SpanBuilder
         ensures { builder_of result ≡ from_name name }
     {
@@ -69,7 +69,7 @@ impl SpanBuilder {
         }
     }
 
-    /// Sets the attributes, in place of those that were set before.
+    /// Sets the attributes, replacing those that were set before.
     pub fn with_attributes(self, attributes: Vec<KeyValue>) -> SpanBuilder
         ensures { builder_of result ≡ record (builder_of self) {
           attributes = Some (map attribute_of attributes.items);
@@ -81,7 +81,7 @@ impl SpanBuilder {
         }
     }
 
-    /// Sets the events, in place of those that were set before.
+    /// Sets the events, replacing those that were set before.
     pub fn with_events(self, events: Vec<Event>) -> SpanBuilder
         ensures { builder_of result ≡ record (builder_of self) {
           events = Some (map event_of events.items);
@@ -93,7 +93,8 @@ impl SpanBuilder {
         }
     }
 
-    /// Sets the links, in place of those that were set before: those with a valid span context, in given order.
+    /// Sets the links, replacing those that were set before. Keeps only links with a valid span
+    /// context, in the given order.
     pub fn with_links(self, links: Vec<Link>) -> SpanBuilder
         ensures { builder_of result ≡ with_links (builder_of self) (map link_of links.items) }
     {
@@ -103,11 +104,11 @@ impl SpanBuilder {
         }
     }
 
-    /// Starts a span of this builder under the current context.
+    /// Starts a span from this builder under the current context.
     ///
     /// # Errors
     ///
-    /// `AllocError` where a request for memory fails. The builder is dropped.
+    /// `AllocError` if out of memory. The builder is dropped.
     pub fn start<T: Tracer>(
         self,
         alloc: Global,
@@ -120,11 +121,11 @@ impl SpanBuilder {
         self.start_with_context(alloc, tracer, stack.current())
     }
 
-    /// Starts a span of this builder under a parent context.
+    /// Starts a span from this builder under a parent context.
     ///
     /// # Errors
     ///
-    /// `AllocError` where a request for memory fails. The builder is dropped.
+    /// `AllocError` if out of memory. The builder is dropped.
     pub fn start_with_context<T: Tracer>(
         self,
         alloc: Global,
@@ -137,7 +138,7 @@ impl SpanBuilder {
     }
 }
 
-// The links with a valid span context, in order.
+// Returns the links with a valid span context, in order.
 fn valid_links(links: Vec<Link>) -> Vec<Link>
     ensures { map link_of result.items ≡ valid_links (map link_of links.items) }
 {
@@ -155,7 +156,7 @@ fn is_valid_link(linked: &Link) -> bool
 impl Default for SpanBuilder {
     ghost is_default = { λ b. builder_of b ≡ from_name [] };
 
-    /// A builder of the empty name, with nothing else set.
+    /// Returns a builder with an empty name and nothing else set.
     fn default() -> SpanBuilder {
         SpanBuilder::from_name(StringValue::from(""))
     }
@@ -176,11 +177,11 @@ fn copy_links(links: &Vec<Link>) -> Result<Vec<Link>, AllocError>
 impl Clone for SpanBuilder {
     ghost is_clone = { λ b copy. builder_of copy ≡ builder_of b };
 
-    /// A builder of the same parts.
+    /// Returns a builder with the same parts.
     ///
     /// # Errors
     ///
-    /// `AllocError` where a request for memory fails. The builder is unchanged.
+    /// `AllocError` if out of memory. The builder is unchanged.
     fn clone(&self) -> Result<SpanBuilder, AllocError> {
         Ok(SpanBuilder {
             span_kind: self.span_kind,

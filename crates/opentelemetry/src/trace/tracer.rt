@@ -1,5 +1,6 @@
-//! What starts spans.
-ghost use Rattle.std.specs.Prelude.{◌≡◌, IfOk, IfErr, OnErr};
+//! Tracers, which start spans.
+ghost use Rattle.std.specs.Prelude.{◌≡◌, IfOk, IfErr, IsErr, OnErr};
+ghost use Rattle.otel_context.specs.Spans.{used_up};
 ghost use Rattle.otel_context.specs.Stack.{current};
 ghost use Rattle.opentelemetry.specs.SpanBuilder.{from_name};
 ghost use Rattle.opentelemetry.specs.InSpan.{RanInSpan, NotStarted};
@@ -11,11 +12,11 @@ use otel_base::StringValue;
 use otel_context::{Context, ContextStack, Span, Spans};
 use std::alloc::{AllocError, Global};
 
-/// What starts spans (the Rust crate's `Tracer`).
+/// Starts spans (the Rust crate's `Tracer`).
 ///
-/// Who writes a tracer names, by the ghost relation `may_build`, which spans it may make of a builder under a parent
-/// context. It is a relation and no function, so that ids may be random. The other calls are made of
-/// `build_with_context`.
+/// An implementor names, by the ghost relation `may_build`, the spans that it may start from a
+/// builder under a parent context. It is a relation and not a function, so that ids may be random.
+/// The other methods are built on `build_with_context`.
 ///
 /// See `otel_examples::in_span` and `otel_examples::service`. `RecordingTracer` of the crate
 /// `otel_recording` is a tracer.
@@ -28,11 +29,11 @@ pub trait Tracer {
 
     ghost may_build: { Self → BuilderRecord → ContextRecord → Self.Span → Type 0 };
 
-    /// Starts a span of a builder under a parent context.
+    /// Starts a span from a builder under a parent context.
     ///
     /// # Errors
     ///
-    /// `AllocError` where a request for memory fails. The builder is dropped.
+    /// `AllocError` if out of memory. The builder is dropped.
     fn build_with_context(
         &self,
         alloc: Global,
@@ -41,11 +42,11 @@ pub trait Tracer {
     ) -> Result<Self::Span, AllocError>
         ensures { IfOk result (may_build self.now (builder_of builder) parent.now) };
 
-    /// Starts a span of that name under the current context.
+    /// Starts a span named `name` under the current context.
     ///
     /// # Errors
     ///
-    /// `AllocError` where a request for memory fails. The name is dropped.
+    /// `AllocError` if out of memory. The name is dropped.
     fn start(
         &self,
         alloc: Global,
@@ -57,11 +58,11 @@ pub trait Tracer {
         self.start_with_context(alloc, name, stack.current())
     }
 
-    /// Starts a span of that name under a parent context.
+    /// Starts a span named `name` under a parent context.
     ///
     /// # Errors
     ///
-    /// `AllocError` where a request for memory fails. The name is dropped.
+    /// `AllocError` if out of memory. The name is dropped.
     fn start_with_context(
         &self,
         alloc: Global,
@@ -73,18 +74,18 @@ pub trait Tracer {
         self.build_with_context(alloc, self.span_builder(name), parent)
     }
 
-    /// A builder of that name, with nothing else set.
+    /// Returns a builder with the name and nothing else set.
     fn span_builder(&self, name: StringValue) -> SpanBuilder
         ensures { builder_of result ≡ from_name name }
     {
         SpanBuilder::from_name(name)
     }
 
-    /// Starts a span of a builder under the current context.
+    /// Starts a span from a builder under the current context.
     ///
     /// # Errors
     ///
-    /// `AllocError` where a request for memory fails. The builder is dropped.
+    /// `AllocError` if out of memory. The builder is dropped.
     fn build(
         &self,
         alloc: Global,
@@ -105,9 +106,9 @@ pub trait Tracer {
     ///
     /// # Errors
     ///
-    /// `Build` where a request for memory fails before there is a span; `Refused`, with the span, where the numbers of the
-    /// table are used up or a request for memory fails. The body isn't called. The stack is as it was, and the table
-    /// holds the same spans; after `Refused` it may have used up one number.
+    /// `Build` if out of memory before there is a span; `Refused`, with the span, if the numbers of the table are used up,
+    /// and otherwise if out of memory. The body isn't called, the stack is as it was, and the table holds the same spans.
+    /// If its numbers are used up the table is unchanged; if out of memory its next number may be one higher.
     fn in_span_with_builder_and_context<F: SpanBody<Self::Span>>(
         &self,
         alloc: Global,
@@ -124,6 +125,8 @@ pub trait Tracer {
         ensures same_stack { OnErr result (stack.new ≡ stack.old) }
         ensures not_started { IfErr result
             (NotStarted (may_build self.now (builder_of builder) parent.now) spans.old spans.new) }
+        ensures used_up { spans.old.next_number ≡ used_up
+            → IsErr result × (spans.new ≡ spans.old) }
     {
         let span = match self.build_with_context(alloc, builder, parent) {
             Ok(span) => span,
@@ -143,12 +146,12 @@ pub trait Tracer {
         Ok((answer, number))
     }
 
-    /// Runs a body in a new span of that name under a parent context, as
+    /// Runs a body in a new span named `name` under a parent context, as
     /// [`Tracer::in_span_with_builder_and_context`] does.
     ///
     /// # Errors
     ///
-    /// As there.
+    /// Those of [`Tracer::in_span_with_builder_and_context`].
     fn in_span_with_context<F: SpanBody<Self::Span>>(
         &self,
         alloc: Global,
@@ -165,6 +168,8 @@ pub trait Tracer {
         ensures same_stack { OnErr result (stack.new ≡ stack.old) }
         ensures not_started { IfErr result
             (NotStarted (may_build self.now (from_name name) parent.now) spans.old spans.new) }
+        ensures used_up { spans.old.next_number ≡ used_up
+            → IsErr result × (spans.new ≡ spans.old) }
     {
         let builder = self.span_builder(name);
         self.in_span_with_builder_and_context(alloc, stack, spans, builder, parent, f)
@@ -175,7 +180,7 @@ pub trait Tracer {
     ///
     /// # Errors
     ///
-    /// As there.
+    /// Those of [`Tracer::in_span_with_builder_and_context`].
     fn in_span_with_builder<F: SpanBody<Self::Span>>(
         &self,
         alloc: Global,
@@ -193,6 +198,8 @@ pub trait Tracer {
         ensures not_started { IfErr result (NotStarted
             (may_build self.now (builder_of builder) (current stack.old.live))
             spans.old spans.new) }
+        ensures used_up { spans.old.next_number ≡ used_up
+            → IsErr result × (spans.new ≡ spans.old) }
     {
         let copied: Result<_, _> = stack.current().clone();
         match copied {
@@ -203,12 +210,12 @@ pub trait Tracer {
         }
     }
 
-    /// Runs a body in a new span of that name under the current context, as
+    /// Runs a body in a new span named `name` under the current context, as
     /// [`Tracer::in_span_with_builder_and_context`] does.
     ///
     /// # Errors
     ///
-    /// As there.
+    /// Those of [`Tracer::in_span_with_builder_and_context`].
     fn in_span<F: SpanBody<Self::Span>>(
         &self,
         alloc: Global,
@@ -225,6 +232,8 @@ pub trait Tracer {
         ensures same_stack { OnErr result (stack.new ≡ stack.old) }
         ensures not_started { IfErr result (NotStarted
             (may_build self.now (from_name name) (current stack.old.live)) spans.old spans.new) }
+        ensures used_up { spans.old.next_number ≡ used_up
+            → IsErr result × (spans.new ≡ spans.old) }
     {
         let builder = self.span_builder(name);
         self.in_span_with_builder(alloc, stack, spans, builder, f)

@@ -1,13 +1,14 @@
-//! What makes tracers.
+//! Providers, which make tracers.
 ghost use Rattle.std.specs.Prelude.{IfOk};
 
 use crate::trace::tracer::Tracer;
 use otel_base::{InstrumentationScope, StringValue};
 use std::alloc::{AllocError, Global};
 
-/// What makes tracers (the Rust crate's `TracerProvider`).
+/// Makes tracers (the Rust crate's `TracerProvider`).
 ///
-/// Who writes a provider names, by the ghost relation `may_give`, which tracers it may make for a scope.
+/// An implementor names, by the ghost relation `may_give`, the tracers that it may make for a
+/// scope.
 ///
 /// ```
 /// let tracer = provider.tracer(alloc, StringValue::from("lib"))?;
@@ -21,11 +22,11 @@ pub trait TracerProvider {
 
     ghost may_give: { Self → Scope → Self.Tracer → Type 0 };
 
-    /// A tracer for the library or module of a scope.
+    /// Returns a tracer for the library or module of a scope.
     ///
     /// # Errors
     ///
-    /// `AllocError` where a request for memory fails. The scope is dropped.
+    /// `AllocError` if out of memory. The scope is dropped.
     fn tracer_with_scope(
         &self,
         alloc: Global,
@@ -33,11 +34,12 @@ pub trait TracerProvider {
     ) -> Result<Self::Tracer, AllocError>
         ensures { IfOk result (may_give self.now scope) };
 
-    /// A tracer for the library or module of that name, without version, schema URL and attributes.
+    /// Returns a tracer for the library or module named `name`, without version, schema URL and
+    /// attributes.
     ///
     /// # Errors
     ///
-    /// `AllocError` where a request for memory fails. The name is dropped.
+    /// `AllocError` if out of memory. The name is dropped.
     fn tracer(&self, alloc: Global, name: StringValue) -> Result<Self::Tracer, AllocError>
         ensures { IfOk result (may_give self.now (scope_of_name name)) }
     {

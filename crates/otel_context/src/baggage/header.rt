@@ -12,7 +12,7 @@ use otel_base::{Key, StringValue};
 use percent_encoding::{AsciiSet, NON_ALPHANUMERIC, PercentEncode, ascii_set, utf8_percent_encode};
 use std::fmt;
 
-/// The bytes that are escaped: all but A-Z, a-z, 0-9 and . - _ ~ (RFC 3986, section 2.3).
+/// The bytes to escape: all except A-Z, a-z, 0-9 and . - _ ~ (RFC 3986, section 2.3).
 const ESCAPED: AsciiSet = ascii_set!(
     NON_ALPHANUMERIC
         .remove(b'.')

@@ -1,4 +1,4 @@
-//! What stands beside a value: its metadata, and a key and a value with it.
+//! The metadata of a value, and a member made of a key, a value and metadata.
 ghost use Rattle.std.specs.Prelude.{◌≡◌, [], IfOk, IsOk, IsTrue, Some};
 ghost use Rattle.std.specs.Str.{trim};
 ghost use Rattle.otel_base.specs.Value.{is_text};
@@ -12,12 +12,12 @@ use std::alloc::{AllocError, Global};
 use std::fmt;
 use std::marker::Model;
 
-/// The properties that may stand beside a value of a [`Baggage`](super::Baggage).
+/// The properties of a value in a [`Baggage`](super::Baggage).
 ///
-/// The text is kept as it is, but for white space at its ends; nothing reads the properties in it.
-/// W3C baggage writes them as names or pairs that semicolons divide, as in `ttl=30;private`.
-/// Texts are compared and ordered by their bytes. The default is the empty text, which stands for
-/// no properties.
+/// The text is kept as it is, without the white space at its ends; the properties in it aren't
+/// parsed. W3C baggage writes them as names or pairs separated by semicolons, as in
+/// `ttl=30;private`. Texts are compared and ordered by their bytes. The default is the empty text,
+/// which means no properties.
 ///
 /// ```
 /// let metadata = BaggageMetadata::new(alloc, " ttl=30 ")?;
@@ -41,12 +41,12 @@ impl Model for BaggageMetadata {
 }
 
 impl BaggageMetadata {
-    /// Metadata of the text without the Unicode white space at its ends (`From<&str>` of the Rust
-    /// crate).
+    /// Returns the text without the Unicode white space at its ends, as metadata (`From<&str>` of
+    /// the Rust crate).
     ///
     /// # Errors
     ///
-    /// `AllocError` where the request for the copy's memory fails.
+    /// Returns an error if memory runs out.
     pub fn new(alloc: Global, text: &str) -> Result<BaggageMetadata, AllocError>
         ensures { IfOk result (λ m. m ≡ trim text.now) }
     {
@@ -56,7 +56,7 @@ impl BaggageMetadata {
         })
     }
 
-    /// The text, with no white space at its ends.
+    /// Returns the text, which has no white space at its ends.
     pub fn as_str(&self) -> &str
         ensures text { result.now ≡ self.now }
         ensures trimmed { IsTrimmed self.now }
@@ -68,7 +68,7 @@ impl BaggageMetadata {
 impl Default for BaggageMetadata {
     ghost is_default = { λ m. m ≡ [] };
 
-    /// The empty text. It takes no memory.
+    /// Returns the empty text. It takes no memory.
     fn default() -> BaggageMetadata {
         BaggageMetadata {
             text: StringValue::from(""),
@@ -79,11 +79,11 @@ impl Default for BaggageMetadata {
 impl Clone for BaggageMetadata {
     ghost is_clone = { λ s copy. copy ≡ s };
 
-    /// The same text.
+    /// Returns a copy.
     ///
     /// # Errors
     ///
-    /// `AllocError` where a request for memory fails. The original is unchanged.
+    /// Returns an error if memory runs out. The original is then unchanged.
     fn clone(&self) -> Result<BaggageMetadata, AllocError> {
         Ok(BaggageMetadata {
             text: self.text.clone()?,
@@ -100,10 +100,10 @@ impl fmt::Display for BaggageMetadata {
     }
 }
 
-/// A key with its value and its metadata: a member of a baggage, as
-/// [`Baggage::from_key_values_with_metadata`](super::Baggage) takes them.
+/// A key with its value and its metadata: a member of a baggage, for
+/// [`Baggage::from_key_values_with_metadata`](super::Baggage).
 ///
-/// The key isn't checked before it is inserted into a baggage.
+/// The key isn't checked until it is inserted into a baggage.
 ///
 /// ```
 /// let member = KeyValueMetadata::new(Key::from("k"), StringValue::from("v"), metadata);
@@ -126,7 +126,7 @@ impl Model for KeyValueMetadata {
 }
 
 impl KeyValueMetadata {
-    /// The three parts together.
+    /// Returns a member made of the three parts.
     pub fn new(key: Key, value: StringValue, metadata: BaggageMetadata) -> KeyValueMetadata
         ensures { result ≡ member_of key value metadata }
     {
@@ -137,15 +137,15 @@ impl KeyValueMetadata {
         }
     }
 
-    /// An attribute's key and the printed text of its value, with no metadata (`From<KeyValue>` of
-    /// the Rust crate).
+    /// Returns a member with the attribute's key, the printed text of its value, and no metadata
+    /// (`From<KeyValue>` of the Rust crate).
     ///
-    /// A value that is a text is handed on without a request for memory.
+    /// A value that is a text is moved, and takes no memory.
     ///
     /// # Errors
     ///
-    /// `AllocError` where the value is no text and a request for the memory of its printed text
-    /// fails. The attribute is dropped.
+    /// Returns an error if the value isn't a text and memory for its printed text runs out. The
+    /// attribute is then dropped.
     pub fn from_key_value(
         alloc: Global,
         attribute: KeyValue,
@@ -165,11 +165,11 @@ impl KeyValueMetadata {
 impl Clone for KeyValueMetadata {
     ghost is_clone = { λ s copy. copy ≡ s };
 
-    /// The same three parts.
+    /// Returns a copy.
     ///
     /// # Errors
     ///
-    /// `AllocError` where a request for memory fails. The original is unchanged.
+    /// Returns an error if memory runs out. The original is then unchanged.
     fn clone(&self) -> Result<KeyValueMetadata, AllocError> {
         Ok(KeyValueMetadata {
             key: self.key.clone()?,

@@ -1,4 +1,4 @@
-//! How many bytes a baggage has, and whether a member is accepted.
+//! The size of a baggage in bytes, and whether a member is accepted.
 ghost use Rattle.std.specs.Prelude.{◌≡◌, ◌+◌, ◌≤◌, length, ◌&&◌, nat_le, nat_lt, Some, None};
 ghost use Rattle.std.specs.Prelude.{if◌then◌else◌, true};
 ghost use Rattle.std.specs.Str.{is_utf8};
@@ -14,13 +14,13 @@ use super::metadata::BaggageMetadata;
 use indexmap::IndexMap;
 use otel_base::{Key, StringValue};
 
-/// The most members of a baggage.
+/// The maximum number of members of a baggage.
 const MAX_KEY_VALUE_PAIRS: usize = 64;
 
-/// The most bytes of all keys, values and metadata together.
+/// The maximum number of bytes of all keys, values and metadata together.
 const MAX_LEN_OF_ALL_PAIRS: usize = 8192;
 
-/// The bytes of a member.
+/// Returns the number of bytes of a member.
 pub(super) fn weight_of(key: &Key, pair: &(StringValue, BaggageMetadata)) -> usize
     requires { weight_of (entry_member (key.now, pair.now)) ≤ max_len_of_all_pairs }
     ensures { result ≡ weight_of (entry_member (key.now, pair.now)) }
@@ -28,7 +28,7 @@ pub(super) fn weight_of(key: &Key, pair: &(StringValue, BaggageMetadata)) -> usi
     key.as_str().len() + pair.0.as_str().len() + pair.1.as_str().len()
 }
 
-/// The bytes of others together with those of a member, unless they are too many.
+/// Returns the bytes of the others plus those of a member, or `None` if they are more than 8192.
 fn weight_with(others: usize, key: &str, value: &str, metadata: &str) -> Option<usize>
     ensures { let total = others + (length key.now + (length value.now + length metadata.now)) in
         result ≡ (if nat_le total max_len_of_all_pairs then Some total else None) }
@@ -41,7 +41,8 @@ fn weight_with(others: usize, key: &str, value: &str, metadata: &str) -> Option<
     Some(MAX_LEN_OF_ALL_PAIRS - left)
 }
 
-/// Whether one more member may have this key: it is valid, and there are fewer than 64 members.
+/// Returns `true` if a member with this new key may be added: it is valid, and there are fewer than
+/// 64 members.
 fn takes_new_key(held: &IndexMap<Key, (StringValue, BaggageMetadata)>, key: &Key) -> bool
     ensures { let few = nat_lt (length held.now.entries) max_key_value_pairs in
         result ≡ (is_key key.now && few) }
@@ -49,8 +50,8 @@ fn takes_new_key(held: &IndexMap<Key, (StringValue, BaggageMetadata)>, key: &Key
     is_key_valid(key.as_str()) && held.len() < MAX_KEY_VALUE_PAIRS
 }
 
-/// The bytes of the members of other keys, where this key may stand.
-/// A key that is present isn't checked again.
+/// Returns the bytes of the members with other keys, or `None` if this key isn't accepted. A key
+/// that is present isn't checked again.
 fn weight_of_others(
     held: &IndexMap<Key, (StringValue, BaggageMetadata)>,
     total: usize,
@@ -72,7 +73,7 @@ fn weight_of_others(
     }
 }
 
-/// The bytes of all members after an insert of this one, where it is accepted.
+/// Returns the bytes of all members after inserting this one, or `None` if it isn't accepted.
 pub(super) fn weight_after(
     held: &IndexMap<Key, (StringValue, BaggageMetadata)>,
     total: usize,

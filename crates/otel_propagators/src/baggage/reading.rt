@@ -1,4 +1,4 @@
-//! Reading the value of a `baggage` header.
+//! Reads the value of a `baggage` header.
 ghost use Rattle.std.specs.Prelude.{◌≡◌, ◌<◌, ◌≤◌, ◌&&◌, nat_le, true, false, length, take};
 ghost use Rattle.std.specs.Prelude.{IfOk, OnOk, MatchOption, Some, None, if◌then◌else◌};
 ghost use Rattle.std.specs.Prelude.{option_copied};
@@ -23,7 +23,7 @@ use std::str;
 /// Room for the longest value that a baggage accepts.
 type Room = [u8; 8192];
 
-/// What stands before the first `;` of a piece, and after it. Without one all stands before it.
+/// Splits a piece at its first `;`. Without one, the second part is empty.
 fn split_metadata(piece: &str) -> (&str, &str)
     ensures before { result.0.now ≡ key_and_value piece.now }
     ensures after { result.1.now ≡ after_first is_semicolon piece.now }
@@ -34,7 +34,7 @@ fn split_metadata(piece: &str) -> (&str, &str)
     }
 }
 
-/// What stands before the first `=` and after it, if there is one.
+/// Splits a text at its first `=`, if there is one.
 fn split_value(member: &str) -> Option<(&str, &str)>
     ensures { MatchOption result (list_any is_equals member.now ≡ false) (λ parts.
         (list_any is_equals member.now ≡ true)
@@ -45,8 +45,8 @@ fn split_value(member: &str) -> Option<(&str, &str)>
     Some((key, value))
 }
 
-/// The key, the value as it is written, and the metadata of a piece, if it has a `=` before its
-/// first `;`.
+/// Returns the key, the value as it is written, and the metadata of a piece, if it has a `=` before
+/// its first `;`.
 fn split_piece(piece: &str) -> Option<(&str, &str, &str)>
     ensures { MatchOption result (list_any is_equals (key_and_value piece.now) ≡ false) (λ parts.
         (list_any is_equals (key_and_value piece.now) ≡ true)
@@ -58,8 +58,8 @@ fn split_piece(piece: &str) -> Option<(&str, &str, &str)>
     Some((cut_blanks(key), cut_blanks(value), metadata.trim()))
 }
 
-/// Writes what the value decodes to into the front of the room, and says how many bytes that are;
-/// `None`, where the room has too few.
+/// Decodes the value into the front of the room, and returns the number of bytes, or `None` if the
+/// room is too small.
 fn fill(value: &str, room: &mut Room) -> Option<usize>
     ensures { let decoded = percent_decode value.now in
         MatchOption result (max_len_of_all_pairs < length decoded)
@@ -76,7 +76,7 @@ fn fill(value: &str, room: &mut Room) -> Option<usize>
     Some(len)
 }
 
-/// The value that is written so, if it is UTF-8 and a baggage has room for it.
+/// Decodes the value, and returns it if it is UTF-8 and a baggage has room for it.
 fn decode<'a>(value: &str, room: &'a mut Room) -> Option<&'a str>
     ensures { let decoded = percent_decode value.now in
         let fits = nat_le (length decoded) max_len_of_all_pairs in
@@ -89,7 +89,7 @@ fn decode<'a>(value: &str, room: &'a mut Room) -> Option<&'a str>
     }
 }
 
-/// Inserts the member of this key, this value and this metadata, if it is accepted.
+/// Inserts the member with this key, value and metadata, if it is accepted.
 fn insert_member(
     alloc: Global,
     baggage: &mut Baggage,
@@ -107,8 +107,8 @@ fn insert_member(
     Ok(())
 }
 
-/// Inserts the member that the piece is, if it is one and is accepted. Only then is memory asked
-/// for: whatever decides it has no allocator.
+/// Inserts the member that the piece stands for, if there is one and it is accepted. Only then is
+/// memory allocated: what decides it has no allocator.
 fn insert_piece(
     alloc: Global,
     baggage: &mut Baggage,

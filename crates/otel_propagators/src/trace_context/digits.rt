@@ -5,7 +5,7 @@ ghost use Rattle.otel_propagators.specs.Digits.{IsDigitOf, IsNumberOf, IsNumberB
 
 use std::alloc::{AllocError, Global};
 
-/// The value of a digit.
+/// Returns the value of a digit.
 fn digit_value(byte: u8) -> Option<u8>
     ensures { IsDigitOf byte result }
 {
@@ -16,7 +16,7 @@ fn digit_value(byte: u8) -> Option<u8>
     }
 }
 
-/// The number of at most 32 digits, if all bytes are digits.
+/// Reads a number of at most 32 digits, if all bytes are digits.
 fn read_number(bytes: &[u8]) -> Option<u128>
     requires { length bytes.now ≤ 32 }
     ensures { IsNumberOf (length bytes.now) bytes.now result }
@@ -29,7 +29,7 @@ fn read_number(bytes: &[u8]) -> Option<u128>
     Some(number)
 }
 
-/// The number of so many digits at the front, and what stands after them.
+/// Reads a number of `count` digits at the front. Returns it with the bytes after it.
 pub(crate) fn number_before(bytes: &[u8], count: usize) -> Option<(u128, &[u8])>
     requires { count ≤ 32 }
     ensures { IsNumberBefore count bytes.now result }
@@ -39,7 +39,7 @@ pub(crate) fn number_before(bytes: &[u8], count: usize) -> Option<(u128, &[u8])>
     Some((number, rest))
 }
 
-/// The two digits of a byte.
+/// Returns the two digits of a byte.
 pub(crate) fn byte_text(alloc: Global, byte: u8) -> Result<String, AllocError>
     ensures { IfOk result (λ text. string_bytes text ≡ id_text 2 byte) }
 {

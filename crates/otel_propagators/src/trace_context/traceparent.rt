@@ -1,4 +1,4 @@
-//! The value of the header `traceparent`, written and read.
+//! Writes and reads the value of the header `traceparent`.
 ghost use Rattle.std.specs.Prelude.{◌≡◌, ◌∷◌, [], IfOk, string_bytes};
 ghost use Rattle.otel_propagators.specs.TraceParent.{parent_text, parent_of};
 ghost use Rattle.otel_propagators.specs.TraceContext.{parent, remote};
@@ -10,7 +10,7 @@ use opentelemetry::trace::{SpanContext, SpanId, TraceFlags, TraceId, TraceState}
 use std::alloc::{AllocError, Global};
 use std::marker::Model;
 
-/// What a `traceparent` says: two ids, neither of which is 0, and flags.
+/// What a `traceparent` holds: two ids, neither of which is 0, and flags.
 #[derive(Clone, Copy)]
 pub(crate) struct Parent {
     trace_id: TraceId,
@@ -37,7 +37,8 @@ impl Model for Parent {
 }
 
 impl Parent {
-    /// The span context of these ids and flags that came from another process with the trace state.
+    /// Returns the span context with these ids and flags and the trace state, as one that came from
+    /// another process.
     pub(crate) fn remote(self, trace_state: TraceState) -> SpanContext
         ensures { result ≡ remote self trace_state }
     {
@@ -45,7 +46,7 @@ impl Parent {
     }
 }
 
-/// The value of `traceparent` for a span context.
+/// Writes the value of `traceparent` for a span context.
 pub(crate) fn write(alloc: Global, span_context: &SpanContext) -> Result<String, AllocError>
     ensures { IfOk result (λ text. string_bytes text ≡ parent_text (parent span_context.now)) }
 {
@@ -55,21 +56,21 @@ pub(crate) fn write(alloc: Global, span_context: &SpanContext) -> Result<String,
     format!(in alloc; "00-{trace_id}-{span_id}-{flags}")
 }
 
-/// What stands after the front.
+/// Returns the bytes after `front`, if they begin with it.
 fn after<'a>(bytes: &'a [u8], front: &[u8]) -> Option<&'a [u8]>
     ensures { IsAfter front.now bytes.now result }
 {
     bytes.strip_prefix(front)
 }
 
-/// What stands after the version, of which `00` alone is read.
+/// Returns the bytes after the version, of which only `00` is read.
 fn after_version(bytes: &[u8]) -> Option<&[u8]>
     ensures { IsAfter (48 ∷ 48 ∷ 45 ∷ []) bytes.now result }
 {
     after(bytes, b"00-")
 }
 
-/// The numbers of the trace id, the span id and the flags.
+/// Reads the numbers of the trace id, the span id and the flags.
 fn numbers(bytes: &[u8]) -> Option<(u128, u128, u128)>
     ensures { AreNumbersOf bytes.now result }
 {
@@ -85,7 +86,7 @@ fn numbers(bytes: &[u8]) -> Option<(u128, u128, u128)>
     Some((trace_id, span_id, flags))
 }
 
-/// The ids and flags of these numbers, if neither id is 0.
+/// Returns the ids and flags of these numbers, if neither id is 0.
 fn parent_from(trace_id: u128, span_id: u64, flags: u8) -> Option<Parent>
     ensures { IsParentFrom trace_id span_id flags result }
 {

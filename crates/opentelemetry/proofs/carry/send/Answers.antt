@@ -22,5 +22,5 @@ returns-clause-without_members g c = λ none.
       texts_moved _ _ _ _
           (carried_sameᵐ _ _ own.entry-2-1 (own.own-2.entry own.at-2-1) own.same-2-1 CarrierState (λ j r. j.1.state r.now) _)
           (after ∙ sym (ap (λ m. map_state m.entries) (c.carrier-2-1.given.1 refl)))
-          left.1,
+          (ap (λ s. s.texts) left.1),
     )

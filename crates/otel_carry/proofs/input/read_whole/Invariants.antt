@@ -1,4 +1,4 @@
--- What was read so far and what the input has left are together what it had.
+-- What was read so far and what is left of the input are together what it had.
 use Rattle.std.specs.Io.KnownBytes.{Consumes}
 use Rattle.otel_carry.proofs.input.read_whole.Given as goal
 

@@ -1,7 +1,6 @@
 use Rattle.std.proofs.Common.{◌<◌, length, refl, ◌∙◌, arith}
 use Rattle.std.specs.Prelude.{slice_set}
 use Rattle.std.proofs.lemmas.List.{length-set}
-use Rattle.otel_context.specs.View.{record_of}
 use Rattle.otel_context.specs.declared.slots.Slot.{Slot}
 use Rattle.otel_context.proofs.LinkLemmas.{read, kept, written, dead_slot, with_newer, with_older}
 use Rattle.otel_context.proofs.slots.unlink.Goals as goal
@@ -31,13 +30,13 @@ returns-clause-unlinked c =
     let n1 = kept (λ (t : Slot). t.newer) xs p x (dead_slot x) is_x c.requires.position refl in
     let n2 = written (λ (t : Slot). t.newer) ys o (with_newer n y) o_in in
     let n3 = kept (λ (t : Slot). t.newer) zs n z (with_older o z) is_z n_in refl in
-    let k1 = kept (λ (t : Slot). record_of t.parts) xs p x (dead_slot x) is_x c.requires.position refl in
-    let k2 = kept (λ (t : Slot). record_of t.parts) ys o y (with_newer n y) is_y o_in refl in
-    let k3 = kept (λ (t : Slot). record_of t.parts) zs n z (with_older o z) is_z n_in refl in
+    let k1 = kept (λ (t : Slot). t.parts) xs p x (dead_slot x) is_x c.requires.position refl in
+    let k2 = kept (λ (t : Slot). t.parts) ys o y (with_newer n y) is_y o_in refl in
+    let k3 = kept (λ (t : Slot). t.parts) zs n z (with_older o z) is_z n_in refl in
     record {
       size = length-set zs n (with_older o z) ∙ length-set ys o (with_newer n y) ∙ length-set xs p (dead_slot x);
       live_set = record { here = l3 p ∙ l2 p ∙ l1.here; others = λ q g. l3 q ∙ l2 q ∙ l1.others q g };
       older_set = record { here = o3.here; others = λ q g. o3.others q g ∙ o2 q ∙ o1 q };
       newer_set = record { here = n3 o ∙ n2.here; others = λ q g. n3 q ∙ n2.others q g ∙ n1 q };
-      kept_same = λ q. k3 q ∙ k2 q ∙ k1 q;
+      parts_same = λ q. k3 q ∙ k2 q ∙ k1 q;
     }

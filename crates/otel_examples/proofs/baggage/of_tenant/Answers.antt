@@ -3,7 +3,7 @@ use Rattle.otel_context.specs.Baggage.{insert}
 use Rattle.otel_context.specs.BaggageMember.{Member, member_of}
 use Rattle.otel_examples.proofs.baggage.of_tenant.Goals as goal
 
--- two inserts into the empty baggage, where the texts are these
+-- two inserts into the empty baggage, if the texts are these
 two : (none first both : List Member) (j v k w : List ℕ)
     → j ≡ codes "tenant" → v ≡ codes "acme" → k ≡ codes "region" → w ≡ codes "eu west"
     → none ≡ [] → first ≡ insert none (member_of j v []) → both ≡ insert first (member_of k w [])

@@ -1,4 +1,4 @@
-use Rattle.std.proofs.Common.{◌≤◌, take}
+use Rattle.std.proofs.Common.{◌≡◌, ◌≤◌, [], take}
 use Rattle.std.specs.List.{flat_map}
 use Rattle.opentelemetry.specs.Carrier.{Sets}
 use Rattle.opentelemetry.proofs.propagation.composite.TextMapCompositePropagator.inject_context.Given as goal
@@ -11,4 +11,5 @@ invariant-loop-member g l =
           ((goal.Injector-dyn g l.injector.now).state l.injector.now.1).texts;
       count : ((goal.Injector-dyn g l.fn.injector.now).state l.fn.injector.now.1).refusals
           ≤ ((goal.Injector-dyn g l.injector.now).state l.injector.now.1).refusals;
+      untouched : l.member-items ≡ [] → (goal.Injector-dyn g l.injector.now).state l.injector.now.1 ≡ (goal.Injector-dyn g l.fn.injector.now).state l.fn.injector.now.1;
     }

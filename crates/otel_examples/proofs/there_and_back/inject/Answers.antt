@@ -3,8 +3,8 @@ use denote.Param.Object.{read_made}
 use borrow.Pointer.Hide.{carried_sameᵐ}
 use Rattle.opentelemetry.specs.Carrier.{CarrierState, map_state}
 use Rattle.opentelemetry.proofs.Setting.{injects_moved}
-use Rattle.otel_propagators.proofs.there_and_back.inject.OwnLists as own
-use Rattle.otel_propagators.proofs.there_and_back.inject.Goals as goal
+use Rattle.otel_examples.proofs.there_and_back.inject.OwnLists as own
+use Rattle.otel_examples.proofs.there_and_back.inject.Goals as goal
 
 pub returns : goal.returns
 returns g c =

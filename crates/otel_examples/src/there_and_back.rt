@@ -1,5 +1,6 @@
-//! Callers of both propagators, proved from their contracts and the law alone.
+//! A context that is sent by the W3C headers and arrives: by two propagators, one after the other.
 ghost use Rattle.std.specs.Prelude.{◌≡◌, ◌++◌, IfOk, OnErr, false};
+ghost use Rattle.otel_context.specs.Context.{empty_context};
 ghost use Rattle.opentelemetry.specs.Carrier.{SetsBeginning, map_state, text_map};
 ghost use Rattle.opentelemetry.specs.Extraction.{Extracts};
 ghost use Rattle.opentelemetry.specs.Injection.{Injects};
@@ -8,11 +9,10 @@ ghost use Rattle.otel_propagators.specs.BaggagePropagator.{baggage_pairs};
 ghost use Rattle.otel_propagators.specs.Laws.{ComesBack};
 ghost use Rattle.otel_propagators.specs.TraceContext.{trace_pairs};
 
-use crate::baggage::BaggagePropagator;
-use crate::laws::{every_context, headers_there_and_back};
-use crate::trace_context::TraceContextPropagator;
 use opentelemetry::Context;
 use opentelemetry::propagation::{PropagationError, TextMapPropagator};
+use otel_propagators::laws::{every_context, headers_there_and_back};
+use otel_propagators::{BaggagePropagator, TraceContextPropagator};
 use std::alloc::Global;
 use std::collections::HashMap;
 
@@ -46,7 +46,7 @@ fn extract<P: TextMapPropagator>(
 ///
 /// # Errors
 ///
-/// `Memory` where a request for memory fails. A beginning of the pairs is set then.
+/// `Memory` if out of memory. A beginning of the pairs is set then.
 pub fn there_and_back(
     alloc: Global,
     trace: &TraceContextPropagator,
@@ -55,7 +55,7 @@ pub fn there_and_back(
     carrier: &mut HashMap<String, String>,
 ) -> Result<Context, PropagationError>
     ensures back { IfOk result (λ back.
-        ComesBack context.now (text_map carrier.old.entries) back) }
+        ComesBack context.now (text_map carrier.old.entries) empty_context back) }
     ensures err { OnErr result (SetsBeginning (text_map carrier.old.entries)
         (trace_pairs context.now ++ baggage_pairs context.now) (text_map carrier.new.entries)) }
     // Neither a propagator of these nor a map refuses.

@@ -1,5 +1,5 @@
-use Rattle.otel_propagators.proofs.Callers.{back_from, begun, begun_second, all_begun}
-use Rattle.otel_propagators.proofs.there_and_back.there_and_back.Goals as goal
+use Rattle.otel_examples.proofs.ThereAndBack.{back_from, begun, begun_second, all_begun}
+use Rattle.otel_examples.proofs.there_and_back.there_and_back.Goals as goal
 
 pub returns-in_err-inject-2-clause-err : goal.returns-in_err-inject-2-clause-err
 returns-in_err-inject-2-clause-err c = begun _ (begun_second _ _ _ _ _ c.in_ok-inject.ensures.ok c.in_err-inject-2.ensures.err)

@@ -12,9 +12,9 @@ use Rattle.otel_propagators.specs.Laws.{IsContext, ComesBack, ComesBackInTurn}
 
 pub back_from : ComesBackInTurn → (context first given : ContextRecord) (back : Result ContextRecord PropagationError) (old between new : TextMap)
     → IsContext context → Sets old (trace_pairs context) between → Sets between (baggage_pairs context) new
-    → first ≡ empty_context → given ≡ trace_extracted first new → IfOk back (λ b. b ≡ baggage_extracted given new) → IfOk back (λ b. ComesBack context old b)
+    → first ≡ empty_context → given ≡ trace_extracted first new → IfOk back (λ b. b ≡ baggage_extracted given new) → IfOk back (λ b. ComesBack context old empty_context b)
 back_from law context first given (Ok b) old between new i s t e f g =
-    law context b old new i (record { between = between; sets = inl (s, t) })
+    law context empty_context b old new i (record { between = between; sets = inl (s, t) })
     (inl (g ∙ ap (λ (x : ContextRecord). baggage_extracted x new) (f ∙ ap (λ (x : ContextRecord). trace_extracted x new) e)))
 back_from law context first given (Err e) old between new i s t f g h = tt
 
@@ -23,11 +23,11 @@ pub begun : {T P : Type 0} (r : Result T PropagationError) → P → OnErr r P
 begun (Ok t) h = tt
 begun (Err e) h = h
 
--- all pairs are a beginning of them
+-- all pairs are a prefix of themselves
 pub all_begun : (a b : TextMap) (ps : Pairs) → Sets a ps b → SetsBeginning a ps b
 all_begun a b ps s = record { done = ps; left = []; split = sym (append-nil ps); sets = s }
 
--- the first pairs and a beginning of those after them are a beginning of both
+-- the first pairs and a prefix of those after them are a prefix of both
 pub begun_second : (a b c : TextMap) (ps qs : Pairs) → Sets a ps b → SetsBeginning b qs c → SetsBeginning a (ps ++ qs) c
 begun_second a b c ps qs s t = record {
   done = ps ++ t.done;

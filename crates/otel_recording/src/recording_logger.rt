@@ -1,0 +1,114 @@
+//! A logger that keeps the records that it takes, and what makes such loggers.
+ghost use Rattle.std.specs.Prelude.{◌≡◌, IsOkAnd};
+
+use crate::recording_log_record::RecordingLogRecord;
+use opentelemetry::logs::{Logger, LoggerProvider, Severity};
+use otel_base::InstrumentationScope;
+use std::alloc::{AllocError, Global};
+use std::cell::RefCell;
+
+/// A logger that keeps the records that it takes, in order.
+///
+/// An event is enabled from the logger's least severity on.
+///
+/// ```
+/// RecordingLogger::new(alloc, scope, Severity::Trace)
+/// ```
+#[derive(Drop)]
+pub struct RecordingLogger {
+    /// The library or module that the logger is for.
+    pub scope: InstrumentationScope,
+    /// The least severity of an event that is enabled.
+    pub least: Severity,
+    emitted: RefCell<Vec<RecordingLogRecord>>,
+}
+
+impl RecordingLogger {
+    /// Makes a logger that has taken no record. It takes no memory.
+    pub fn new(alloc: Global, scope: InstrumentationScope, least: Severity) -> RecordingLogger
+        ensures scope { result.scope ≡ scope }
+        ensures least { result.least ≡ least }
+    {
+        RecordingLogger {
+            scope,
+            least,
+            emitted: RefCell::new(Vec::new(alloc)),
+        }
+    }
+
+    /// Returns the records that the logger has taken, in order.
+    pub fn into_emitted(self) -> Vec<RecordingLogRecord> {
+        let RecordingLogger {
+            scope: _,
+            least: _,
+            emitted,
+        } = self;
+        emitted.into_inner()
+    }
+}
+
+impl Logger for RecordingLogger {
+    ghost use Rattle.std.specs.Prelude.{◌≡◌, nat_le, IsOkAnd};
+    ghost use Rattle.otel_base.specs.Severity.{number};
+    ghost use Rattle.otel_recording.specs.LogRecord.{empty};
+
+    type LogRecord = RecordingLogRecord;
+
+    ghost may_create = { λ _ log. log ≡ empty };
+
+    ghost may_enable = { λ logger level _ _ enabled.
+        enabled ≡ nat_le (number logger.least) (number level) };
+
+    /// Makes a record on which nothing is set. It takes no memory.
+    fn create_log_record(&self, alloc: Global) -> Result<RecordingLogRecord, AllocError>
+        ensures { IsOkAnd result (λ log. log ≡ empty) }
+    {
+        Ok(RecordingLogRecord::new(alloc))
+    }
+
+    /// Keeps the record, behind those that it has. If out of memory, it drops it.
+    fn emit(&self, record: RecordingLogRecord) {
+        if let Ok(mut emitted) = self.emitted.try_borrow_mut() {
+            drop(emitted.push(record));
+        }
+    }
+
+    /// Whether the severity is the logger's least one or a graver one.
+    fn event_enabled(&self, level: Severity, _target: &str, _name: Option<&str>) -> bool {
+        self.least.number() <= level.number()
+    }
+}
+
+/// What makes a [`RecordingLogger`] for each scope.
+///
+/// ```
+/// RecordingLoggerProvider {
+///     least: Severity::Warn,
+/// }
+/// ```
+#[derive(Clone, Copy, Debug)]
+pub struct RecordingLoggerProvider {
+    /// The least severity of an event that its loggers enable.
+    pub least: Severity,
+}
+
+impl LoggerProvider for RecordingLoggerProvider {
+    ghost use Rattle.std.specs.Prelude.{◌≡◌, IsOkAnd};
+
+    type Logger = RecordingLogger;
+
+    ghost may_give = { λ provider scope logger.
+        (logger.scope ≡ scope) × (logger.least ≡ provider.least) };
+
+    /// Makes a logger of that scope. It takes no memory.
+    fn logger_with_scope(
+        &self,
+        alloc: Global,
+        scope: InstrumentationScope,
+    ) -> Result<RecordingLogger, AllocError>
+        ensures { IsOkAnd result (λ logger.
+            (logger.scope ≡ scope) × (logger.least ≡ self.now.least)) }
+    {
+        Ok(RecordingLogger::new(alloc, scope, self.least))
+    }
+}

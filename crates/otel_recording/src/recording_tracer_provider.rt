@@ -1,0 +1,76 @@
+//! What makes recording tracers.
+ghost use Rattle.std.specs.Prelude.{◌≡◌};
+
+use crate::recording_span::RecordingSpan;
+use crate::recording_tracer::RecordingTracer;
+use opentelemetry::Context;
+use opentelemetry::trace::{SpanBuilder, TraceId, Tracer, TracerProvider};
+use otel_base::InstrumentationScope;
+use std::alloc::{AllocError, Global};
+
+/// A [`RecordingTracer`] for a scope.
+///
+/// See [`RecordingTracerProvider`].
+#[derive(Debug, Drop)]
+pub struct ScopedTracer {
+    /// The library or module that the tracer is for.
+    pub scope: InstrumentationScope,
+    /// What starts its spans.
+    pub tracer: RecordingTracer,
+}
+
+impl Tracer for ScopedTracer {
+    ghost use Rattle.std.specs.Prelude.{◌≡◌};
+    ghost use Rattle.otel_recording.specs.Tracer.{started};
+
+    type Span = RecordingSpan;
+
+    ghost may_build = { λ scoped builder parent span.
+        span ≡ started scoped.tracer.trace_id builder parent };
+
+    fn build_with_context(
+        &self,
+        alloc: Global,
+        builder: SpanBuilder,
+        parent: &Context,
+    ) -> Result<RecordingSpan, AllocError> {
+        self.tracer.build_with_context(alloc, builder, parent)
+    }
+}
+
+/// What makes a [`ScopedTracer`] for each scope.
+///
+/// ```
+/// RecordingTracerProvider {
+///     trace_id: TraceId::from(7),
+/// }
+/// ```
+#[derive(Clone, Copy, Debug)]
+pub struct RecordingTracerProvider {
+    /// The trace id of spans without a parent.
+    pub trace_id: TraceId,
+}
+
+impl TracerProvider for RecordingTracerProvider {
+    ghost use Rattle.std.specs.Prelude.{◌≡◌, IsOkAnd};
+
+    type Tracer = ScopedTracer;
+
+    ghost may_give = { λ provider scope given.
+        (given.scope ≡ scope) × (given.tracer.trace_id ≡ provider.trace_id) };
+
+    /// Makes a tracer of that scope. It takes no memory.
+    fn tracer_with_scope(
+        &self,
+        _alloc: Global,
+        scope: InstrumentationScope,
+    ) -> Result<ScopedTracer, AllocError>
+        ensures { IsOkAnd result (λ given.
+            (given.scope ≡ scope) × (given.tracer.trace_id ≡ self.now.trace_id)) }
+    {
+        let tracer = RecordingTracer {
+            trace_id: self.trace_id,
+        };
+        Ok(ScopedTracer { scope, tracer })
+    }
+}
