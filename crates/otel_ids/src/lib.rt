@@ -2,6 +2,7 @@
 //! trace-context-2).
 #![tactic(auto)]
 
+mod blanks;
 mod error;
 mod held;
 pub mod laws;
@@ -12,6 +13,7 @@ mod span_context;
 mod trace_context;
 mod trace_state;
 
+pub use blanks::cut_blanks;
 pub use error::TraceStateError;
 pub use held::TraceStateIter;
 pub use span_context::SpanContext;

@@ -239,6 +239,9 @@ fn lower_hex_writes_the_number(rt: HostRuntime) -> Result<(), Fail> {
     );
     let text = format!(in rt.alloc(); "{trace} {span} {flags}")?;
     assert_eq!(rt; text.as_str(), "ff a0 ff");
+    let (span, flags) = (Lower(SpanId::INVALID), Lower(TraceFlags::NOT_SAMPLED));
+    let text = format!(in rt.alloc(); "{span} {flags}")?;
+    assert_eq!(rt; text.as_str(), "0 0");
     for (number, _, short) in TRACE_IDS {
         let id = Lower(TraceId::from(*number));
         let text = format!(in rt.alloc(); "{id}")?;
@@ -248,10 +251,16 @@ fn lower_hex_writes_the_number(rt: HostRuntime) -> Result<(), Fail> {
 }
 
 #[test]
-fn lower_hex_of_a_trace_id_obeys_its_options(rt: HostRuntime) -> Result<(), Fail> {
+fn lower_hex_obeys_its_options(rt: HostRuntime) -> Result<(), Fail> {
     let id = Lower(TraceId::from(0xff));
     let text = format!(in rt.alloc(); "{id:6}|{id:<6}|{id:06}|{id:#}|{id:#08}|{id:+}")?;
     assert_eq!(rt; text.as_str(), "    ff|ff    |0000ff|0xff|0x0000ff|+ff");
+    let id = Lower(SpanId::from(0xff));
+    let text = format!(in rt.alloc(); "{id:6}|{id:<6}|{id:06}|{id:#}|{id:#08}|{id:+}")?;
+    assert_eq!(rt; text.as_str(), "    ff|ff    |0000ff|0xff|0x0000ff|+ff");
+    let flags = Lower(TraceFlags::new(0x0f));
+    let text = format!(in rt.alloc(); "{flags:3}|{flags:<3}|{flags:03}|{flags:#}|{flags:#05}")?;
+    assert_eq!(rt; text.as_str(), "  f|f  |00f|0xf|0x00f");
     Ok(())
 }
 

@@ -1,25 +1,15 @@
-use Rattle.std.proofs.Common.{◌∙◌, ap, refl, List, ℕ, false, ◌∷◌, []}
-use Rattle.std.specs.List.{flat_map}
-use Rattle.std.specs.Fmt.{padded_integral}
+use Rattle.std.proofs.Common.{◌∙◌, ap, refl}
 use Rattle.std.proofs.Output.{has_written_of_eq, has_written_styled_of_eq}
-use Rattle.otel_ids.specs.Ids.{two_digits, some_digit, without_zeros}
+use Rattle.otel_ids.specs.Ids.{bytes_digits, hex_styled, some_digit, without_zeros}
 use Rattle.otel_ids.proofs.Numerals.{bytes_text}
-use Rattle.otel_ids.proofs.Significant.{plain_number}
 use Rattle.otel_ids.proofs.trace_context.TraceIdLowerHex.fmt.Goals as goal
 
 pub returns-clause-writes : goal.returns-clause-writes
 returns-clause-writes g c = λ plain ok.
-    let digits = c.in_ok-digits.ensures ∙ ap (flat_map two_digits) c.to_bytes.ensures.bytes ∙ bytes_text 16 32 c.args.self.now refl in
-    let text = c.without_leading_zeros.ensures ∙ ap (λ (ds : List ℕ). some_digit (without_zeros ds)) digits in
-    let styled = c.pad_integral.ensures.styled plain.flush ok in
-    let unpadded = plain_number c.args.f.now.spec (48 ∷ 120 ∷ []) c.without_leading_zeros.result.now plain.bare in
-    has_written_of_eq _ _ _ _ _ (unpadded ∙ text) (record {
-      wrote = styled.wrote;
-      plain = record { bare = rw styled.spec plain.bare; flush = styled.flush };
-    })
+    let text = ap bytes_digits c.to_bytes.ensures.bytes ∙ ap (λ ds. some_digit (without_zeros ds)) (bytes_text 16 32 c.args.self.now refl) in
+    has_written_of_eq _ _ _ _ _ text (c.write_number.ensures.writes plain ok)
 
 pub returns-clause-styled : goal.returns-clause-styled
 returns-clause-styled g c = λ flush ok.
-    let digits = c.in_ok-digits.ensures ∙ ap (flat_map two_digits) c.to_bytes.ensures.bytes ∙ bytes_text 16 32 c.args.self.now refl in
-    let text = c.without_leading_zeros.ensures ∙ ap (λ (ds : List ℕ). some_digit (without_zeros ds)) digits in
-    has_written_styled_of_eq _ _ _ _ _ (ap (padded_integral c.args.f.now.spec false (48 ∷ 120 ∷ [])) text) (c.pad_integral.ensures.styled flush ok)
+    let text = ap bytes_digits c.to_bytes.ensures.bytes ∙ ap (λ ds. some_digit (without_zeros ds)) (bytes_text 16 32 c.args.self.now refl) in
+    has_written_styled_of_eq _ _ _ _ _ (ap (hex_styled c.args.f.now) text) (c.write_number.ensures.styled flush ok)
