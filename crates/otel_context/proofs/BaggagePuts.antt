@@ -282,11 +282,18 @@ module _ (ms : List Member) (m : Member) where
           (accepts_new e ∙ ap (λ b. fits (weight ms + weight_of m) && b) f ∙ and-false (fits (weight ms + weight_of m))))
           (cases_Bool may_be_new)
 
-  after_some : (n : ℕ) → weight_after ms m ≡ Some n → (accepts ms m ≡ true) × (n ≡ weight (put ms m))
+  pub after_some : (n : ℕ) → weight_after ms m ≡ Some n → (accepts ms m ≡ true) × (n ≡ weight (put ms m))
   after_some n h =
       ⊎_elim
       (λ f. let k : Some (weight (put ms m)) ≡ Some n = sym (cond-true (accepts ms m) (Some (weight (put ms m))) None f) ∙ h in (f, (cc)))
       (λ f. let k : None ≡ Some n = sym (cond-false (accepts ms m) (Some (weight (put ms m))) None f) ∙ h in absurd (cc))
+      (cases_Bool (accepts ms m))
+
+  pub accepted : is_some (weight_after ms m) ≡ accepts ms m
+  accepted =
+      ⊎_elim
+      (λ t. ap is_some (cond-true (accepts ms m) (Some (weight (put ms m))) None t) ∙ sym t)
+      (λ f. ap is_some (cond-false (accepts ms m) (Some (weight (put ms m))) None f) ∙ sym f)
       (cases_Bool (accepts ms m))
 
   pub refused : weight_after ms m ≡ None → accepts ms m ≡ false

@@ -8,7 +8,7 @@ ghost use Rattle.std.specs.Map.{keys_of};
 ghost use Rattle.std.specs.Map.Iter.{ShowsInOrder};
 ghost use Rattle.std.specs.Option.{option_copied};
 ghost use Rattle.std.specs.Str.{bytes_eq};
-ghost use Rattle.otel_context.specs.Baggage.{get, get_with_metadata, Inserts, replaced};
+ghost use Rattle.otel_context.specs.Baggage.{accepts, get, get_with_metadata, Inserts, replaced};
 ghost use Rattle.otel_context.specs.Baggage.{replaced_value, remove, from_members, IsBaggage};
 ghost use Rattle.otel_context.specs.BaggageHeader.{header};
 ghost use Rattle.otel_context.specs.BaggageMember.{member_of};
@@ -22,6 +22,7 @@ mod weight;
 
 use self::header::write_header;
 pub use self::metadata::{BaggageMetadata, KeyValueMetadata};
+pub use self::weight::{MAX_KEY_VALUE_PAIRS, MAX_LEN_OF_ALL_PAIRS};
 use self::weight::{weight_after, weight_of};
 use indexmap::{IndexMap, map};
 use otel_base::{Key, KeyValue, StringValue};
@@ -141,13 +142,29 @@ impl Baggage {
         ensures { let m = member_of key value metadata in
             Inserts self.old self.new m (replaced self.old m) result }
     {
-        let Some(total) = weight_after(&self.inner, self.content_len, &key, &value, &metadata)
+        let name = key.as_str();
+        let text = value.as_str();
+        let properties = metadata.as_str();
+        let pair = self.inner.get(&key);
+        let Some(total) = weight_after(&self.inner, self.content_len, name, pair, text, properties)
         else {
             return Ok(None);
         };
         let old = self.inner.insert(key, (value, metadata))?;
         self.content_len = total;
         Ok(old)
+    }
+
+    /// Returns `true` if the member is accepted: if an insert of it, as
+    /// [`insert_with_metadata`](Self::insert_with_metadata) does, would set it.
+    ///
+    /// Compares at most 64 keys, and takes no memory. Not in the Rust crate.
+    pub fn accepts(&self, key: &str, value: &str, metadata: &str) -> bool
+        ensures { let m = member_of key.now value.now metadata.now in
+            result ≡ accepts self.now m }
+    {
+        let pair = self.get_with_metadata(key);
+        weight_after(&self.inner, self.content_len, key, pair, value, metadata).is_some()
     }
 
     /// Removes the member with the key, and returns its value and metadata, or `None` if no member
@@ -161,7 +178,7 @@ impl Baggage {
     {
         let index = index_of(&self.inner, key)?;
         let (name, pair) = self.inner.shift_remove_index(index)?;
-        self.content_len -= weight_of(&name, &pair);
+        self.content_len -= weight_of(name.as_str(), &pair);
         Some(pair)
     }
 

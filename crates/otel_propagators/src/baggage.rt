@@ -3,7 +3,6 @@ ghost use Rattle.std.specs.Prelude.{◌≡◌, IfOk, map, string_bytes};
 ghost use Rattle.otel_context.specs.BaggageHeader.{header};
 ghost use Rattle.otel_propagators.specs.BaggagePropagator.{baggage_fields, members};
 
-mod acceptance;
 mod reading;
 
 use self::reading::read_baggage;

@@ -2,7 +2,6 @@
 #![tactic(auto)]
 
 pub mod baggage;
-mod blanks;
 pub mod laws;
 pub mod trace_context;
 

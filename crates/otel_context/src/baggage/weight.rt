@@ -1,11 +1,10 @@
 //! The size of a baggage in bytes, and whether a member is accepted.
 ghost use Rattle.std.specs.Prelude.{◌≡◌, ◌+◌, ◌≤◌, length, ◌&&◌, nat_le, nat_lt, Some, None};
-ghost use Rattle.std.specs.Prelude.{if◌then◌else◌, true};
-ghost use Rattle.std.specs.Str.{is_utf8};
+ghost use Rattle.std.specs.Prelude.{if◌then◌else◌, option_copied};
 ghost use Rattle.otel_context.specs.Baggage.{IsBaggage, max_key_value_pairs, max_len_of_all_pairs};
-ghost use Rattle.otel_context.specs.Baggage.{weight};
+ghost use Rattle.otel_context.specs.Baggage.{get_with_metadata, weight};
 ghost use Rattle.otel_context.specs.BaggageMember.{member_of, weight_of};
-ghost use Rattle.otel_context.specs.BaggageText.{is_key, IsTrimmed};
+ghost use Rattle.otel_context.specs.BaggageText.{is_key};
 ghost use Rattle.otel_context.specs.BaggageView.{entry_member, entry_members};
 ghost use Rattle.otel_context.specs.BaggageWeight.{weight_of_others, weight_after};
 
@@ -14,18 +13,19 @@ use super::metadata::BaggageMetadata;
 use indexmap::IndexMap;
 use otel_base::{Key, StringValue};
 
-/// The maximum number of members of a baggage.
-const MAX_KEY_VALUE_PAIRS: usize = 64;
+/// The maximum number of members of a baggage (W3C baggage, "Limits").
+pub const MAX_KEY_VALUE_PAIRS: usize = 64;
 
-/// The maximum number of bytes of all keys, values and metadata together.
-const MAX_LEN_OF_ALL_PAIRS: usize = 8192;
+/// The maximum number of bytes of all keys, values and metadata of a baggage together (W3C baggage,
+/// "Limits").
+pub const MAX_LEN_OF_ALL_PAIRS: usize = 8192;
 
 /// Returns the number of bytes of a member.
-pub(super) fn weight_of(key: &Key, pair: &(StringValue, BaggageMetadata)) -> usize
+pub(super) fn weight_of(key: &str, pair: &(StringValue, BaggageMetadata)) -> usize
     requires { weight_of (entry_member (key.now, pair.now)) ≤ max_len_of_all_pairs }
     ensures { result ≡ weight_of (entry_member (key.now, pair.now)) }
 {
-    key.as_str().len() + pair.0.as_str().len() + pair.1.as_str().len()
+    key.len() + pair.0.as_str().len() + pair.1.as_str().len()
 }
 
 /// Returns the bytes of the others plus those of a member, or `None` if they are more than 8192.
@@ -43,25 +43,28 @@ fn weight_with(others: usize, key: &str, value: &str, metadata: &str) -> Option<
 
 /// Returns `true` if a member with this new key may be added: it is valid, and there are fewer than
 /// 64 members.
-fn takes_new_key(held: &IndexMap<Key, (StringValue, BaggageMetadata)>, key: &Key) -> bool
+fn takes_new_key(held: &IndexMap<Key, (StringValue, BaggageMetadata)>, key: &str) -> bool
     ensures { let few = nat_lt (length held.now.entries) max_key_value_pairs in
         result ≡ (is_key key.now && few) }
 {
-    is_key_valid(key.as_str()) && held.len() < MAX_KEY_VALUE_PAIRS
+    is_key_valid(key) && held.len() < MAX_KEY_VALUE_PAIRS
 }
 
-/// Returns the bytes of the members with other keys, or `None` if this key isn't accepted. A key
-/// that is present isn't checked again.
+/// Returns the bytes of the members with other keys, or `None` if this key isn't accepted. `pair`
+/// is what the key has. A key that is present isn't checked again.
 fn weight_of_others(
     held: &IndexMap<Key, (StringValue, BaggageMetadata)>,
     total: usize,
-    key: &Key,
+    key: &str,
+    pair: Option<&(StringValue, BaggageMetadata)>,
 ) -> Option<usize>
     requires baggage { IsBaggage (entry_members held.now.entries) }
     requires sum { total ≡ weight (entry_members held.now.entries) }
+    requires pair { option_copied pair
+        ≡ get_with_metadata (entry_members held.now.entries) key.now }
     ensures { result ≡ weight_of_others (entry_members held.now.entries) key.now }
 {
-    match held.get(key) {
+    match pair {
         Some(pair) => Some(total - weight_of(key, pair)),
         None => {
             if takes_new_key(held, key) {
@@ -74,22 +77,22 @@ fn weight_of_others(
 }
 
 /// Returns the bytes of all members after inserting this one, or `None` if it isn't accepted.
+/// `pair` is what the key has.
 pub(super) fn weight_after(
     held: &IndexMap<Key, (StringValue, BaggageMetadata)>,
     total: usize,
-    key: &Key,
-    value: &StringValue,
-    metadata: &BaggageMetadata,
+    key: &str,
+    pair: Option<&(StringValue, BaggageMetadata)>,
+    value: &str,
+    metadata: &str,
 ) -> Option<usize>
     requires baggage { IsBaggage (entry_members held.now.entries) }
     requires sum { total ≡ weight (entry_members held.now.entries) }
-    ensures weight { let m = member_of key.now value.now metadata.now in
+    requires pair { option_copied pair
+        ≡ get_with_metadata (entry_members held.now.entries) key.now }
+    ensures { let m = member_of key.now value.now metadata.now in
         result ≡ weight_after (entry_members held.now.entries) m }
-    ensures utf8 { is_utf8 value.now ≡ true }
-    ensures trimmed { IsTrimmed metadata.now }
 {
-    let text = value.as_str();
-    let properties = metadata.as_str();
-    let others = weight_of_others(held, total, key)?;
-    weight_with(others, key.as_str(), text, properties)
+    let others = weight_of_others(held, total, key, pair)?;
+    weight_with(others, key, value, metadata)
 }

@@ -1,27 +1,21 @@
 //! Reads the value of a `baggage` header.
-ghost use Rattle.std.specs.Prelude.{◌≡◌, ◌<◌, ◌≤◌, ◌&&◌, nat_le, true, false, length, take};
-ghost use Rattle.std.specs.Prelude.{IfOk, OnOk, MatchOption, Some, None, if◌then◌else◌};
-ghost use Rattle.std.specs.Prelude.{option_copied};
-ghost use Rattle.std.specs.List.{list_any, before_first, after_first};
-ghost use Rattle.std.specs.Str.{is_utf8, trim};
-ghost use Rattle.percent_encoding.specs.Percent.{percent_decode};
-ghost use Rattle.otel_ids.specs.Text.{is_equals};
-ghost use Rattle.otel_context.specs.Baggage.{insert, max_len_of_all_pairs};
-ghost use Rattle.otel_context.specs.BaggageMember.{member_of};
-ghost use Rattle.otel_propagators.specs.BaggageReading.{is_semicolon, key_and_value, key_in};
-ghost use Rattle.otel_propagators.specs.BaggageReading.{written_value, metadata_in};
+ghost use Rattle.std.specs.Prelude.{◌≡◌, IfOk, OnOk, option_copied};
+ghost use Rattle.std.specs.List.{after_first};
+ghost use Rattle.otel_propagators.specs.BaggagePieces.{ArePartsOf, IsFilledWith, IsSplitAtEquals};
+ghost use Rattle.otel_propagators.specs.BaggagePieces.{decoded_value, with_member};
+ghost use Rattle.otel_propagators.specs.BaggageReading.{is_semicolon, key_and_value};
 ghost use Rattle.otel_propagators.specs.BaggageReading.{with_piece, read_baggage};
 
-use super::acceptance::accepts;
-use crate::blanks::cut_blanks;
 use opentelemetry::baggage::{Baggage, BaggageMetadata};
 use opentelemetry::{Key, StringValue};
+use otel_context::baggage::MAX_LEN_OF_ALL_PAIRS;
+use otel_ids::cut_blanks;
 use percent_encoding::percent_decode;
 use std::alloc::{AllocError, Global};
 use std::str;
 
 /// Room for the longest value that a baggage accepts.
-type Room = [u8; 8192];
+type Room = [u8; MAX_LEN_OF_ALL_PAIRS];
 
 /// Splits a piece at its first `;`. Without one, the second part is empty.
 fn split_metadata(piece: &str) -> (&str, &str)
@@ -36,10 +30,7 @@ fn split_metadata(piece: &str) -> (&str, &str)
 
 /// Splits a text at its first `=`, if there is one.
 fn split_value(member: &str) -> Option<(&str, &str)>
-    ensures { MatchOption result (list_any is_equals member.now ≡ false) (λ parts.
-        (list_any is_equals member.now ≡ true)
-        × (parts.0.now ≡ before_first is_equals member.now)
-        × (parts.1.now ≡ after_first is_equals member.now)) }
+    ensures { IsSplitAtEquals member.now result }
 {
     let (key, value) = member.split_once('=')?;
     Some((key, value))
@@ -48,10 +39,7 @@ fn split_value(member: &str) -> Option<(&str, &str)>
 /// Returns the key, the value as it is written, and the metadata of a piece, if it has a `=` before
 /// its first `;`.
 fn split_piece(piece: &str) -> Option<(&str, &str, &str)>
-    ensures { MatchOption result (list_any is_equals (key_and_value piece.now) ≡ false) (λ parts.
-        (list_any is_equals (key_and_value piece.now) ≡ true)
-        × (parts.0.now ≡ key_in piece.now) × (parts.1.now ≡ written_value piece.now)
-        × (parts.2.now ≡ metadata_in piece.now)) }
+    ensures { ArePartsOf piece.now result }
 {
     let (member, metadata) = split_metadata(piece);
     let (key, value) = split_value(member)?;
@@ -61,9 +49,7 @@ fn split_piece(piece: &str) -> Option<(&str, &str, &str)>
 /// Decodes the value into the front of the room, and returns the number of bytes, or `None` if the
 /// room is too small.
 fn fill(value: &str, room: &mut Room) -> Option<usize>
-    ensures { let decoded = percent_decode value.now in
-        MatchOption result (max_len_of_all_pairs < length decoded)
-        (λ len. (len ≤ length room.new) × (take len room.new ≡ decoded)) }
+    ensures { IsFilledWith value.now room.new result }
 {
     let mut len = 0;
     for byte in percent_decode(value.as_bytes()) {
@@ -78,9 +64,7 @@ fn fill(value: &str, room: &mut Room) -> Option<usize>
 
 /// Decodes the value, and returns it if it is UTF-8 and a baggage has room for it.
 fn decode<'a>(value: &str, room: &'a mut Room) -> Option<&'a str>
-    ensures { let decoded = percent_decode value.now in
-        let fits = nat_le (length decoded) max_len_of_all_pairs in
-        option_copied result ≡ (if is_utf8 decoded && fits then Some decoded else None) }
+    ensures { option_copied result ≡ decoded_value value.now }
 {
     let len = fill(value, room)?;
     match str::from_utf8(&room[..len]) {
@@ -97,8 +81,8 @@ fn insert_member(
     value: &str,
     metadata: &str,
 ) -> Result<(), AllocError>
-    ensures { let m = member_of key.now value.now (trim metadata.now) in
-        OnOk result (baggage.new ≡ insert baggage.old m) }
+    ensures { OnOk result
+        (baggage.new ≡ with_member baggage.old key.now value.now metadata.now) }
 {
     let key = Key::from(String::from_str(alloc, key)?);
     let value = StringValue::from(String::from_str(alloc, value)?);
@@ -123,7 +107,7 @@ fn insert_piece(
     let Some(value) = decode(value, room) else {
         return Ok(());
     };
-    if !accepts(baggage, key, value, metadata) {
+    if !baggage.accepts(key, value, metadata) {
         return Ok(());
     }
     insert_member(alloc, baggage, key, value, metadata)
@@ -135,7 +119,7 @@ pub(super) fn read_baggage(alloc: Global, text: &str) -> Result<Baggage, AllocEr
     ensures { IfOk result (λ baggage. baggage ≡ read_baggage text.now) }
 {
     let mut baggage = Baggage::new(alloc);
-    let mut room = [0; 8192];
+    let mut room = [0; MAX_LEN_OF_ALL_PAIRS];
     for piece in text.split(',') {
         insert_piece(alloc, &mut baggage, piece, &mut room)?;
     }

@@ -4,9 +4,9 @@ ghost use Rattle.otel_propagators.specs.TraceParent.{parent_text, parent_of};
 ghost use Rattle.otel_propagators.specs.TraceContext.{parent, remote};
 ghost use Rattle.otel_propagators.specs.Digits.{IsAfter, AreNumbersOf, IsParentFrom};
 
-use crate::blanks::cut_blanks;
 use crate::trace_context::digits::{byte_text, number_before};
 use opentelemetry::trace::{SpanContext, SpanId, TraceFlags, TraceId, TraceState};
+use otel_ids::cut_blanks;
 use std::alloc::{AllocError, Global};
 use std::marker::Model;
 

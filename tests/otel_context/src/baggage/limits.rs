@@ -3,6 +3,7 @@
 use crate::baggage::{printed, text_of};
 use otel_base::{Key, KeyValue, StringValue, Value};
 use otel_context::baggage::{Baggage, BaggageMetadata, KeyValueMetadata};
+use otel_context::baggage::{MAX_KEY_VALUE_PAIRS, MAX_LEN_OF_ALL_PAIRS};
 use std::alloc::{AllocError, Global};
 use std::process::Abort;
 use std::test::Fail;
@@ -330,6 +331,36 @@ fn a_replacement_is_tested_without_the_old_pair(rt: HostRuntime) -> Result<(), F
         assert_eq!(rt; text_of(answer.as_ref()), *old);
         assert_eq!(rt; text_of(baggage.get("c")), *now);
     }
+    Ok(())
+}
+
+/// A key, a value and metadata, and whether `full` accepts them.
+const ASKED: &[(&str, &str, &str, bool)] = &[
+    ("c", "", "", true),
+    ("c", "!", "", true),
+    ("c", "", "!", true),
+    ("c", "!", "!", false),
+    ("C", "", "", false),
+    ("d", "", "", false),
+];
+
+#[test]
+fn accepts_what_an_insert_sets(rt: HostRuntime) -> Result<(), Fail> {
+    let baggage = full(rt.alloc())?;
+    for (key, value, metadata, accepted) in ASKED {
+        assert_eq!(rt; baggage.accepts(key, value, metadata), *accepted);
+    }
+    let baggage = numbered(rt.alloc(), 64)?;
+    assert!(rt; baggage.accepts("key63", "value", "metadata"));
+    assert!(rt; !baggage.accepts("key64", "", ""));
+    let baggage = Baggage::new(rt.alloc());
+    let longest = " ".repeat(rt.alloc(), 8191)?;
+    assert!(rt; baggage.accepts("k", longest.as_str(), ""));
+    assert!(rt; !baggage.accepts("kk", longest.as_str(), ""));
+    assert!(rt; !baggage.accepts("k", longest.as_str(), "m"));
+    assert!(rt; !baggage.accepts("a b", "", ""));
+    assert!(rt; !baggage.accepts("", "", ""));
+    assert_eq!(rt; (MAX_KEY_VALUE_PAIRS, MAX_LEN_OF_ALL_PAIRS), (64, 8192));
     Ok(())
 }
 

@@ -1,24 +1,58 @@
-use Rattle.std.proofs.Common.{None, rules, sym, ap, ◌∙◌}
-use Rattle.std.proofs.lemmas.Bool.{cond-true}
-use Rattle.otel_context.specs.Baggage.{member_at, get_with_metadata, accepts, insert, replaced}
+use Rattle.std.proofs.Common.{◌≡◌, None, true, false, rules, sym, ap, ◌∙◌}
+use Rattle.std.specs.Str.{is_utf8}
+use Rattle.std.proofs.lemmas.Bool.{cond-true, cond-false}
+use Rattle.std.proofs.lemmas.Str.{is_utf8-from_IsUtf8}
+use Rattle.otel_context.specs.Baggage.{member_at, get_with_metadata, put, accepts, insert, replaced}
 use Rattle.otel_context.specs.BaggageMember.{member_of}
 use Rattle.otel_context.specs.BaggageView.{entry_members}
-use Rattle.otel_context.proofs.BaggagePuts.{get_is, member_missing, inserted}
+use Rattle.otel_context.proofs.BaggagePuts.{get_is, member_missing, after_some, inserted, refused}
 use Rattle.otel_context.proofs.baggage.Baggage.insert_with_metadata.Goals as goal
+
+pub weight_after-requires-clause-pair : goal.weight_after-requires-clause-pair
+weight_after-requires-clause-pair c =
+    let es = c.self.inside.inner.entries in
+    c.get-pair.ensures.value ∙ get_is es c.args.key ∙ ap (λ k. get_with_metadata (entry_members es) k) (sym c.as_str-name.ensures)
+
+pub returns-in_default : goal.returns-in_default
+returns-in_default c =
+    let m = member_of c.args.key c.args.value c.args.metadata in
+    let ms = entry_members c.self.inside.inner.entries in
+    let w = c.weight_after.ensures in
+    let e = simp (c.as_str-name.ensures, c.as_str-text.ensures, c.as_str-properties.ensures.text) at w in
+    let s = c.args.self.now in
+    let no : accepts s m ≡ false = sym (ap (λ l. accepts l m) c.self.view_is) ∙ refused ms m (sym e ∙ c.in_default.is) in
+    record {
+      ok = sym (cond-false (accepts s m) (put s m) s no);
+      returned = sym (cond-false (accepts s m) (get_with_metadata s m.key) None no);
+      err = tt;
+      err_accepted = tt;
+      err_new = tt;
+    }
 
 pub invariant_of-self-2 : goal.invariant_of-self-2
 invariant_of-self-2 c =
-    let out = inserted c.self.inside.inner.entries c.insert.new.self.entries (c.args.key, (c.args.value, c.args.metadata)) c.in-Some.total c.self.invariant.0 c.weight_after.ensures.utf8 c.weight_after.ensures.trimmed c.insert.ensures.unique c.in_ok-old.ensures.entries (sym c.weight_after.ensures.weight ∙ c.in-Some.is) in
+    let w = c.weight_after.ensures in
+    let e = simp (c.as_str-name.ensures, c.as_str-text.ensures, c.as_str-properties.ensures.text) at w in
+    let text = sym (ap is_utf8 c.as_str-text.ensures) ∙ is_utf8-from_IsUtf8 _ c.as_str-text.utf8 in
+    let out = inserted c.self.inside.inner.entries c.insert.new.self.entries (c.args.key, (c.args.value, c.args.metadata)) c.in-Some.total c.self.invariant.0 text c.as_str-properties.ensures.trimmed c.insert.ensures.unique c.in_ok-old.ensures.entries (sym e ∙ c.in-Some.is) in
     (out.baggage, out.sum)
 
 pub returns-in_err-old : goal.returns-in_err-old
 returns-in_err-old c =
     let new = sym (ap (λ l. member_at l c.args.key) c.self.view_is) ∙ member_missing c.self.inside.inner.entries c.args.key c.in_err-old.ensures.absent in
-    record { ok = search rules; returned = search rules; err = search rules; err_accepted = search rules; err_new = search (rules, new) }
+    let m = member_of c.args.key c.args.value c.args.metadata in
+    let w = c.weight_after.ensures in
+    let e = simp (c.as_str-name.ensures, c.as_str-text.ensures, c.as_str-properties.ensures.text) at w in
+    let was = after_some (entry_members c.self.inside.inner.entries) m c.in-Some.total (sym e ∙ c.in-Some.is) in
+    let yes : accepts c.args.self.now m ≡ true = sym (ap (λ l. accepts l m) c.self.view_is) ∙ was.0 in
+    record { ok = search rules; returned = search rules; err = search rules; err_accepted = search (rules, yes); err_new = search (rules, new) }
 
 pub returns : goal.returns
 returns c =
-    let out = inserted c.self.inside.inner.entries c.insert.new.self.entries (c.args.key, (c.args.value, c.args.metadata)) c.in-Some.total c.self.invariant.0 c.weight_after.ensures.utf8 c.weight_after.ensures.trimmed c.insert.ensures.unique c.in_ok-old.ensures.entries (sym c.weight_after.ensures.weight ∙ c.in-Some.is) in
+    let w = c.weight_after.ensures in
+    let e = simp (c.as_str-name.ensures, c.as_str-text.ensures, c.as_str-properties.ensures.text) at w in
+    let text = sym (ap is_utf8 c.as_str-text.ensures) ∙ is_utf8-from_IsUtf8 _ c.as_str-text.utf8 in
+    let out = inserted c.self.inside.inner.entries c.insert.new.self.entries (c.args.key, (c.args.value, c.args.metadata)) c.in-Some.total c.self.invariant.0 text c.as_str-properties.ensures.trimmed c.insert.ensures.unique c.in_ok-old.ensures.entries (sym e ∙ c.in-Some.is) in
     let ms = entry_members c.self.inside.inner.entries in
     let m = member_of c.args.key c.args.value c.args.metadata in
     record {

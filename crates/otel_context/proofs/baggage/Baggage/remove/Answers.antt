@@ -1,4 +1,4 @@
-use Rattle.std.proofs.Common.{sym, ap, ◌∙◌, arith}
+use Rattle.std.proofs.Common.{sym, ap, ◌∙◌, arith, length}
 use Rattle.otel_context.specs.Baggage.{remove, get_with_metadata}
 use Rattle.otel_context.proofs.BaggagePuts.{removed, not_found, not_removed}
 use Rattle.otel_context.proofs.baggage.Baggage.remove.Goals as goal
@@ -18,17 +18,17 @@ returns-in_err-index-clause-old c =
 pub weight_of-requires : goal.weight_of-requires
 weight_of-requires c =
     let out = removed c.self.inside.inner.entries c.shift_remove_index.new.self.entries c.args.key.now c.in_ok-index.index (c.in_ok-name.name, c.in_ok-name.pair) c.self.invariant.0 (sym c.index_of.ensures ∙ c.in_ok-index.was) (sym c.in_ok-name.was ∙ c.shift_remove_index.ensures.entry) c.shift_remove_index.ensures.entries c.shift_remove_index.ensures.unique in
-    omega (arith, out.sum, c.self.invariant.0.light)
+    omega (arith, out.sum, c.self.invariant.0.light, ap length c.as_str.ensures)
 
 pub overflow_sub-self : goal.overflow_sub-self
 overflow_sub-self c =
     let out = removed c.self.inside.inner.entries c.shift_remove_index.new.self.entries c.args.key.now c.in_ok-index.index (c.in_ok-name.name, c.in_ok-name.pair) c.self.invariant.0 (sym c.index_of.ensures ∙ c.in_ok-index.was) (sym c.in_ok-name.was ∙ c.shift_remove_index.ensures.entry) c.shift_remove_index.ensures.entries c.shift_remove_index.ensures.unique in
-    omega (arith, out.sum, c.self.invariant.1, c.weight_of.ensures)
+    omega (arith, out.sum, c.self.invariant.1, c.weight_of.ensures, ap length c.as_str.ensures)
 
 pub invariant_of-self-2 : goal.invariant_of-self-2
 invariant_of-self-2 c =
     let out = removed c.self.inside.inner.entries c.shift_remove_index.new.self.entries c.args.key.now c.in_ok-index.index (c.in_ok-name.name, c.in_ok-name.pair) c.self.invariant.0 (sym c.index_of.ensures ∙ c.in_ok-index.was) (sym c.in_ok-name.was ∙ c.shift_remove_index.ensures.entry) c.shift_remove_index.ensures.entries c.shift_remove_index.ensures.unique in
-    (out.baggage, omega (arith, out.sum, c.self.invariant.1, c.weight_of.ensures))
+    (out.baggage, omega (arith, out.sum, c.self.invariant.1, c.weight_of.ensures, ap length c.as_str.ensures))
 
 pub returns-clause-list : goal.returns-clause-list
 returns-clause-list c =

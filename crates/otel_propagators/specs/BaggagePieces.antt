@@ -1,0 +1,46 @@
+-- What the parts of a piece of a `baggage` header are read as. No public clause cites this.
+use Rattle.std.specs.Prelude.{◌≡◌, ℕ, ◌<◌, ◌≤◌, ◌&&◌, nat_le, true, false, List, length, take}
+use Rattle.std.specs.Prelude.{Option, Some, None, MatchOption, if◌then◌else◌}
+use Rattle.std.specs.List.{list_any, before_first, after_first}
+use Rattle.std.specs.Str.{is_utf8, trim}
+use denote.Ref.{Bor}
+use Rattle.percent_encoding.specs.Percent.{percent_decode}
+use Rattle.otel_ids.specs.Text.{is_equals}
+use Rattle.otel_context.specs.Baggage.{insert, max_len_of_all_pairs}
+use Rattle.otel_context.specs.BaggageMember.{Member, member_of}
+use Rattle.otel_propagators.specs.BaggageReading.{key_and_value, key_in, written_value, metadata_in}
+
+-- what stands before the first `=` and what stands after it, or None if there is no `=`
+abbrev pub IsSplitAtEquals : List ℕ → Option (Bor (List ℕ) × Bor (List ℕ)) → Type 0
+IsSplitAtEquals text result = MatchOption result (list_any is_equals text ≡ false) (λ parts.
+    (list_any is_equals text ≡ true)
+    × (parts.0.now ≡ before_first is_equals text)
+    × (parts.1.now ≡ after_first is_equals text))
+
+-- the key, the value as it is written and the metadata of a piece, or None if it has no `=` before
+-- its first `;`
+abbrev pub ArePartsOf : List ℕ → Option (Bor (List ℕ) × Bor (List ℕ) × Bor (List ℕ)) → Type 0
+ArePartsOf piece result = MatchOption result (list_any is_equals (key_and_value piece) ≡ false)
+    (λ parts.
+    (list_any is_equals (key_and_value piece) ≡ true)
+    × (parts.0.now ≡ key_in piece)
+    × (parts.1.now ≡ written_value piece)
+    × (parts.2.now ≡ metadata_in piece))
+
+-- the decoded value fills the front of the room, of this length, or None if it is longer than the
+-- room
+abbrev pub IsFilledWith : List ℕ → List ℕ → Option ℕ → Type 0
+IsFilledWith value room result =
+    MatchOption result (max_len_of_all_pairs < length (percent_decode value))
+    (λ len. (len ≤ length room) × (take len room ≡ percent_decode value))
+
+-- the decoded value, if it is UTF-8 and a baggage has room for it
+abbrev pub decoded_value : List ℕ → Option (List ℕ)
+decoded_value value =
+    let decoded = percent_decode value in
+    if is_utf8 decoded && nat_le (length decoded) max_len_of_all_pairs then Some decoded else None
+
+-- the list after an insert of the member of these texts, the metadata without white space at its
+-- ends
+abbrev pub with_member : List Member → List ℕ → List ℕ → List ℕ → List Member
+with_member ms key value metadata = insert ms (member_of key value (trim metadata))
