@@ -14,8 +14,11 @@ pub enum Failure {
 }
 
 impl From<io::Error> for Failure {
-    fn from(_error: io::Error) -> Failure {
-        Failure::Io
+    fn from(error: io::Error) -> Failure {
+        match error.kind() {
+            io::ErrorKind::OutOfMemory => Failure::NoMemory,
+            _ => Failure::Io,
+        }
     }
 }
 

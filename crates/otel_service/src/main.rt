@@ -5,18 +5,18 @@
 
 mod failure;
 mod headers;
-mod input;
 mod service;
 
 use failure::Failure;
 use otel_propagators::{BaggagePropagator, TraceContextPropagator};
 use std::alloc::Global;
-use std::io::{BufWriter, Stderr, Stdin, Stdout, Write};
+use std::io::{BufWriter, Read, Stderr, Stdin, Stdout, Write};
 use std::process::ExitCode;
 
 /// Serves one request, and writes what is sent on, and to `errors` what is left out.
-fn run(alloc: Global, input: Stdin, output: Stdout, mut errors: Stderr) -> Result<(), Failure> {
-    let bytes = input::read_whole(alloc, input)?;
+fn run(alloc: Global, mut input: Stdin, output: Stdout, mut errors: Stderr) -> Result<(), Failure> {
+    let mut bytes = Vec::new(alloc);
+    input.read_to_end(&mut bytes)?;
     let received = headers::parse(alloc, &bytes)?;
     let trace = TraceContextPropagator::new(alloc)?;
     let baggage = BaggagePropagator::new(alloc)?;
