@@ -3,3 +3,4 @@ pub mod Extracted
 pub mod Failures
 pub mod Lines
 pub mod Members
+pub mod Outcome
