@@ -1,0 +1,5 @@
+pub mod IdGenerator
+pub mod Ratio
+pub mod RatioLaws
+pub mod Sampler
+pub mod SamplerLaws

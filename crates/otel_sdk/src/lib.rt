@@ -1,0 +1,4 @@
+//! A tracing SDK for the API of the crate `opentelemetry`.
+#![tactic(auto)]
+
+pub mod trace;
