@@ -8,6 +8,7 @@
 mod context;
 mod lines;
 mod propagators;
+mod sdk;
 mod shown;
 mod tracing;
 mod values;
@@ -23,5 +24,6 @@ fn main(rt: HostRuntime) -> io::Result<()> {
     context::play(alloc, &lines);
     propagators::play(alloc, &lines);
     tracing::play(alloc, &lines);
+    sdk::play(alloc, &lines);
     lines.written()
 }

@@ -44,15 +44,7 @@ pub struct SamplingResult {
 /// A sampler names, by ghost members, its answer as a function of what it is asked, `answer`, and
 /// the texts that may describe it, `may_describe`.
 ///
-/// A sampler that keeps what has a name, and nothing else:
-///
-/// ```
-/// ghost answer = { λ _ asked. record {
-///   decision = SamplingDecision.RecordOnly;
-///   attributes = [];
-///   trace_state = [];
-/// } };
-/// ```
+/// See [`Sampler`] and [`crate::trace::ParentBased`].
 pub trait ShouldSample: Drop {
     ghost use Rattle.std.specs.Prelude.{ℕ, List};
     ghost use Rattle.otel_sdk.specs.Sampler.{Asked, Answer};

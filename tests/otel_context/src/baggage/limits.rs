@@ -2,8 +2,9 @@
 //! five ways in, and what is free again once a pair was taken out or replaced.
 use crate::baggage::{printed, text_of};
 use otel_base::{Key, KeyValue, StringValue, Value};
-use otel_context::baggage::{Baggage, BaggageMetadata, KeyValueMetadata};
-use otel_context::baggage::{MAX_KEY_VALUE_PAIRS, MAX_LEN_OF_ALL_PAIRS};
+use otel_context::baggage::{
+    Baggage, BaggageMetadata, KeyValueMetadata, MAX_KEY_VALUE_PAIRS, MAX_LEN_OF_ALL_PAIRS,
+};
 use std::alloc::{AllocError, Global};
 use std::process::Abort;
 use std::test::Fail;
