@@ -5,7 +5,7 @@ use Rattle.std.specs.Prelude.{ℕ, List, Bool, Option, Some, None, T, map, refl}
 use Rattle.std.specs.declared.rc.Rc.{Rc}
 use Rattle.std.specs.declared.alloc.Global.{Global}
 use Rattle.std.specs.Coded.{Coded, code_by, coded×, coded_ℕ, coded_bool, coded_list, coded_option}
-use Rattle.std.specs.BTreeMap.{BTreeMap}
+use Rattle.std.specs.HashMap.{HashMap}
 use Rattle.std.specs.FinMap.{FinMap, code, from_entries, is_sorted}
 use Rattle.std.specs.Cmp.Lexicographic.{slice_cmp}
 use Rattle.std.specs.Ordering.{nat_cmp}
@@ -89,9 +89,9 @@ stack_code = code_by (Live × (ℕ × ℕ))
     (λ p. record { live = p.0; accepted = p.1.0; stepped = p.1.1 })
     (λ _. refl)
 
--- the entries of a tree of spans as a finite map
-abbrev pub map_of : {S : Type 0} → BTreeMap ℕ S → FinMap nat_cmp S
-map_of tree = from_entries tree.entries
+-- the entries of a hash map of spans as a finite map
+abbrev pub map_of : {S H : Type 0} → HashMap ℕ S H → FinMap nat_cmp S
+map_of table = from_entries table.entries
 
 -- a code of span tables: that of the pair of the two fields
 abbrev pub spans_code : {S : Type 0} → Coded S → Coded (SpansState S)

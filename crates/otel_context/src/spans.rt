@@ -5,7 +5,7 @@ ghost use Rattle.std.specs.Option.{option_copied_mut};
 ghost use Rattle.std.specs.Borrow.{sem};
 
 use std::alloc::{AllocError, Global};
-use std::collections::BTreeMap;
+use std::collections::HashMap;
 use std::marker::Model;
 
 /// Why a table refused a span. Not in the Rust crate.
@@ -67,14 +67,13 @@ impl<S> SpanRefused<S> {
 /// See `otel_examples::service`.
 #[derive(Drop)]
 pub struct Spans<S> {
-    table: BTreeMap<u64, S>,
+    table: HashMap<u64, S>,
     next: u64,
 }
 
 impl<S> Model for Spans<S> {
-    ghost use Rattle.std.specs.Prelude.{◌<◌, ℕ, IsSome};
-    ghost use Rattle.std.specs.Ordering.{nat_cmp};
-    ghost use Rattle.std.specs.BTreeMap as tree;
+    ghost use Rattle.std.specs.Prelude.{◌<◌, ◌==◌, ℕ, IsSome};
+    ghost use Rattle.std.specs.HashMap as hash;
     ghost use Rattle.otel_context.specs.Spans.{SpansState};
     ghost use Rattle.otel_context.specs.View.{map_of, spans_code};
 
@@ -85,7 +84,7 @@ impl<S> Model for Spans<S> {
     ghost view = { λ s. record { spans = map_of s.table; next_number = s.next } };
 
     ghost invariant = { λ s. (number : ℕ)
-        → IsSome (tree.get nat_cmp s.table number) → number < s.next };
+        → IsSome (hash.get ◌==◌ s.table number) → number < s.next };
 }
 
 impl<S: Drop> Spans<S> {
@@ -105,13 +104,13 @@ impl<S: Drop> Spans<S> {
         ensures { result ≡ starting_at first }
     {
         Spans {
-            table: BTreeMap::new(alloc),
+            table: HashMap::new(alloc),
             next: first,
         }
     }
 
-    /// Puts a span under the next number, and returns that number. Takes time logarithmic in the
-    /// size of the table, as `get`, `get_mut` and `take` do.
+    /// Puts a span under the next number, and returns that number. Takes about the same time at any
+    /// size of the table, as `get`, `get_mut` and `take` do, but for an insert that makes room.
     ///
     /// # Errors
     ///
@@ -179,11 +178,26 @@ impl<S: Drop> Spans<S> {
     }
 
     /// Removes the span with the given number, and returns it. The number isn't given out again.
+    ///
+    /// A table with room for many times the spans that are left moves to a smaller one, or stays as
+    /// it is if out of memory.
     pub fn take(&mut self, number: u64) -> Option<S>
         ensures value { result ≡ get self.old number }
         ensures taken { self.new ≡ take self.old number }
     {
-        self.table.remove(&number)
+        let span = self.table.remove(&number);
+        self.give_back();
+        span
+    }
+
+    // Gives memory back if the table has room for many times its spans.
+    fn give_back(&mut self)
+        ensures { self.new ≡ self.old }
+    {
+        let len = self.table.len();
+        if self.table.capacity() / 8 > len + 8 {
+            self.table.shrink_to(2 * len);
+        }
     }
 
     /// Returns the number of spans in the table.

@@ -1,6 +1,6 @@
 use Rattle.std.proofs.Common.{refl, sym, ap, ◌∙◌}
-use Rattle.std.specs.BTreeMap as tree
-use Rattle.std.specs.Ordering.{nat_cmp}
+use Rattle.std.specs.Prelude.{◌==◌}
+use Rattle.std.specs.HashMap as hash
 use Rattle.otel_context.specs.View.{map_of}
 use Rattle.otel_context.proofs.SpansLemmas.{get-view, view-updates, IsSome-same_keys, OnSome-found}
 use Rattle.otel_context.proofs.spans.Spans.get_mut.Goals as goal
@@ -16,7 +16,7 @@ returns g c =
     let m = c.self.inside.table in (
       (
         refl,
-        λ w. OnSome-found c.get_mut.result (tree.get nat_cmp m c.args.number) _ c.get_mut.ensures.value (λ found.
+        λ w. OnSome-found c.get_mut.result (hash.get ◌==◌ m c.args.number) _ c.get_mut.ensures.value (λ found.
             rw (← c.self.view_is) (ap (λ spans. record { spans = spans; next_number = c.self.inside.next }) (view-updates m (c.get_mut.follows.lender w) c.args.number w ((c.get_mut.follows.holds w).3 found)))),
         rw (← c.self.view_is) (ap (λ t. record { spans = map_of t; next_number = c.self.inside.next }) c.get_mut.follows.holds-at-none),
       ),
