@@ -6,18 +6,16 @@ ghost use Rattle.std.specs.List.{before_first, after_first, flat_map};
 ghost use Rattle.std.specs.Io.KnownBytes.{Appends};
 ghost use Rattle.std.specs.Option.{option_map, option_to_list};
 ghost use Rattle.std.specs.Str.Lines.{strip_carriage_return};
-ghost use Rattle.otel_ids.specs.Text.{cut_front, cut_end, cut_blanks};
 ghost use Rattle.otel_context.specs.BaggageText.{is_delimiter, is_key_byte, is_key};
 ghost use Rattle.otel_service.specs.Headers.{is_line_feed, is_colon};
 ghost use Rattle.otel_service.specs.Headers.{header_of, headers_of, values_under, joined, value_at};
 ghost use Rattle.otel_service.specs.Headers.{is_line_text, line_of};
 
+use otel_ids::cut_blanks;
 use std::alloc::{AllocError, Global};
 use std::collections::HashMap;
 use std::io::{self, Write};
 use std::str;
-
-const BLANKS: [char; 2] = [' ', '\t'];
 
 /// Reads the headers, each a line `name: value` that ends at a line feed or at a carriage return
 /// and a line feed.
@@ -140,25 +138,6 @@ fn is_token(name: &str) -> bool
     ensures { result ≡ is_key name.now }
 {
     !name.is_empty() && are_token_bytes(name.as_bytes())
-}
-
-fn cut_front(text: &str) -> &str
-    ensures { result.now ≡ cut_front text.now }
-{
-    text.trim_start_matches(BLANKS)
-}
-
-fn cut_end(text: &str) -> &str
-    ensures { result.now ≡ cut_end text.now }
-{
-    text.trim_end_matches(BLANKS)
-}
-
-/// The text without the spaces and tabs at its ends.
-fn cut_blanks(text: &str) -> &str
-    ensures { result.now ≡ cut_blanks text.now }
-{
-    cut_end(cut_front(text))
 }
 
 /// Adds the value to those of the name.
