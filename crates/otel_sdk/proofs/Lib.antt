@@ -1,4 +1,5 @@
 pub mod DrawLemmas
+pub mod Lists
 pub mod Outcomes
 pub mod Rising
 pub mod Scaling

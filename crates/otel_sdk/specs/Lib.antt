@@ -1,5 +1,7 @@
+pub mod Attributes
 pub mod IdGenerator
 pub mod Ratio
 pub mod RatioLaws
+pub mod Resource
 pub mod Sampler
 pub mod SamplerLaws

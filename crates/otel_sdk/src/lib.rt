@@ -1,4 +1,7 @@
-//! A tracing SDK for the API of the crate `opentelemetry`.
+//! The beginning of a tracing SDK for the API of the crate `opentelemetry`, after the Rust crate
+//! `opentelemetry_sdk`: resources, samplers and generators of ids.
 #![tactic(auto)]
 
+mod attributes;
+pub mod resource;
 pub mod trace;

@@ -1,7 +1,9 @@
-//! Samplers.
+//! Resources and samplers.
 use crate::lines::Lines;
-use opentelemetry::Context;
+use crate::tracing::spans::attribute;
 use opentelemetry::trace::{SpanContext, SpanId, SpanKind, TraceFlags, TraceId, TraceState};
+use opentelemetry::{Context, StringValue};
+use otel_sdk::resource::{Resource, ResourceBuilder};
 use otel_sdk::trace::{ParentBased, Sampler, ShouldSample};
 use std::alloc::{AllocError, Global};
 
@@ -16,6 +18,29 @@ pub fn play<R: Print>(alloc: Global, lines: &Lines<'_, R>) {
     if lines.begin("parent-based-description") {
         let sampler = ParentBased::new(Sampler::AlwaysOff);
         lines.answer_of(sampler.description(alloc));
+    }
+    resources(alloc, lines);
+}
+
+fn resources<R: Print>(alloc: Global, lines: &Lines<'_, R>) {
+    if lines.begin("resource-builder") {
+        built(lines, Resource::builder(alloc));
+    }
+    if lines.begin("resource-with-attribute") {
+        built(lines, builder(alloc));
+    }
+    if lines.begin("resource-with-attributes") {
+        lines.end(with_attributes(alloc, lines));
+    }
+    if lines.begin("resource-with-service-name") {
+        let name = StringValue::from("cart");
+        built(
+            lines,
+            Resource::builder_empty(alloc).with_service_name(name),
+        );
+    }
+    if lines.begin("resource-merge") {
+        lines.end(merge(alloc, lines));
     }
 }
 
@@ -40,5 +65,32 @@ fn asked<R: Print>(alloc: Global, lines: &Lines<'_, R>) -> Result<(), AllocError
     let sampler = ParentBased::new(Sampler::TraceIdRatioBased(0.5));
     let answer = sampler.should_sample(alloc, &parent, trace_id, "s", kind, &[], &[]);
     lines.free_ok("ParentBased::should_sample", answer);
+    Ok(())
+}
+
+/// A builder with an attribute.
+fn builder(alloc: Global) -> Result<ResourceBuilder, AllocError> {
+    Resource::builder_empty(alloc).with_attribute(attribute())
+}
+
+/// Prints how many attributes there are.
+fn built<R: Print>(lines: &Lines<'_, R>, answer: Result<ResourceBuilder, AllocError>) {
+    lines.answer_of(answer.map(|builder| builder.build().len()));
+}
+
+fn with_attributes<R: Print>(alloc: Global, lines: &Lines<'_, R>) -> Result<(), AllocError> {
+    let mut attributes = Vec::new(alloc);
+    attributes.push(attribute())?;
+    built(
+        lines,
+        Resource::builder_empty(alloc).with_attributes(attributes),
+    );
+    Ok(())
+}
+
+fn merge<R: Print>(alloc: Global, lines: &Lines<'_, R>) -> Result<(), AllocError> {
+    let old = Resource::builder_empty(alloc).build();
+    let updating = builder(alloc)?.build();
+    lines.answer_of(old.merge(updating).map(|resource| resource.len()));
     Ok(())
 }

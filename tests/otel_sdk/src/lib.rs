@@ -1,6 +1,7 @@
-//! What no clause says of samplers and of generators of ids: that calls succeed, texts as printed, and worked cases.
+//! What no clause says of resources, samplers and generators of ids: that calls succeed, texts as printed, and worked cases.
 #![tactic(auto)]
 
 mod id_generator;
 mod ratio;
+mod resource;
 mod sampler;

@@ -1,0 +1,71 @@
+//! Lists of attributes with unique keys, under a limit.
+ghost use Rattle.std.specs.Prelude.{◌≡◌, map, IfOk, OnOk, OnErr};
+ghost use Rattle.otel_base.specs.View.{attribute_of};
+ghost use Rattle.otel_sdk.specs.Attributes as spec;
+
+use otel_base::{Key, KeyValue};
+use std::alloc::AllocError;
+
+// The place of the attribute with the key, if there is one.
+fn place(attributes: &[KeyValue], key: &Key) -> Option<usize>
+    ensures { result ≡ spec.place key.now (map attribute_of attributes.now) }
+{
+    attributes.iter().position(|held| held.key == *key)
+}
+
+/// Puts the attribute in the place of the one with its key, or else last.
+///
+/// # Errors
+///
+/// Returns an error if memory runs out. The list is then unchanged, and the attribute is dropped.
+pub fn put(attributes: &mut Vec<KeyValue>, attribute: KeyValue) -> Result<(), AllocError>
+    ensures ok { OnOk result (map attribute_of attributes.new.items
+        ≡ spec.put (map attribute_of attributes.old.items) (attribute_of attribute)) }
+    ensures err { OnErr result (attributes.new.items ≡ attributes.old.items) }
+{
+    match place(attributes, &attribute.key) {
+        Some(place) => attributes[place] = attribute,
+        None => attributes.push(attribute)?,
+    }
+    Ok(())
+}
+
+/// Sets the attribute, and returns whether it was kept. It is dropped if its key is new and the
+/// list has as many attributes as the limit.
+///
+/// # Errors
+///
+/// Returns an error if memory runs out. The list is then unchanged, and the attribute is dropped.
+pub fn set(
+    attributes: &mut Vec<KeyValue>,
+    limit: u32,
+    attribute: KeyValue,
+) -> Result<bool, AllocError>
+    ensures kept { IfOk result (λ kept. kept
+        ≡ spec.keeps limit (map attribute_of attributes.old.items) (attribute_of attribute)) }
+    ensures ok { OnOk result (map attribute_of attributes.new.items
+        ≡ spec.set limit (map attribute_of attributes.old.items) (attribute_of attribute)) }
+    ensures err { OnErr result (attributes.new.items ≡ attributes.old.items) }
+{
+    let is_held = place(attributes, &attribute.key).is_some();
+    if !is_held && attributes.len() >= limit as usize {
+        return Ok(false);
+    }
+    put(attributes, attribute)?;
+    Ok(true)
+}
+
+/// Puts each of the attributes in turn.
+///
+/// # Errors
+///
+/// Returns an error if memory runs out. Those before are then put, and the others are dropped.
+pub fn put_all(attributes: &mut Vec<KeyValue>, given: Vec<KeyValue>) -> Result<(), AllocError>
+    ensures { OnOk result (map attribute_of attributes.new.items
+        ≡ spec.put_all (map attribute_of attributes.old.items) (map attribute_of given.items)) }
+{
+    for attribute in given {
+        put(attributes, attribute)?;
+    }
+    Ok(())
+}
