@@ -1,5 +1,5 @@
 -- One draw before others.
-use Rattle.std.proofs.Common.{◌≡◌, ◌≢◌, ℕ, suc, ◌-◌, ◌+◌, ◌<◌, ◌≤◌, refl, sym, subst, inl, inr, arith, Option, Some, None, Result, Ok, Err}
+use Rattle.std.proofs.Common.{◌≡◌, ◌≢◌, ℕ, suc, ◌-◌, ◌+◌, ◌<◌, ◌≤◌, refl, subst, inl, inr, arith, Option, Some, None, Result, Ok, Err}
 use Rattle.otel_sdk.specs.IdGenerator.{FirstValid}
 use Rattle.otel_sdk.specs.declared.trace.id_generator.IdError.{IdError}
 use Rattle.otel_sdk.specs.declared.trace.id_generator.IdError.TheVariants.{Zero, Source}

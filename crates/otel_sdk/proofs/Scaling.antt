@@ -1,5 +1,5 @@
 -- A number times a power of two, divided by another one.
-use Rattle.std.proofs.Common.{◌≡◌, ℕ, ◌+◌, ◌-◌, ◌*◌, ◌/◌, ◌^◌, ◌<◌, ◌≤◌, sym, ap, ◌∙◌, subst, arith}
+use Rattle.std.proofs.Common.{◌≡◌, ℕ, ◌+◌, ◌-◌, ◌*◌, ◌/◌, ◌^◌, ◌<◌, ◌≤◌, sym, ap, ◌∙◌, arith}
 use Rattle.std.proofs.Math.Nat.{mul-div_cancel, mul-div-mul_right, div-eq_of_lt, pow-le-pow_right, mul_assoc, lt_of_lt_of_le}
 use Rattle.std.proofs.Math.Nat.{le_trans, le_of_eq, mul-lt-mul_of_pos_right}
 use Rattle.std.proofs.lemmas.Nat.{pow-add, pow_pos}

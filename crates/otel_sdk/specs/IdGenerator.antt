@@ -1,5 +1,5 @@
 -- Which of the ids that are drawn a generator gives.
-use Rattle.std.specs.Prelude.{◌≡◌, ◌≢◌, ℕ, zero, suc, Option, Some, None, Result, Ok, Err, MatchOption, ◌⊎◌}
+use Rattle.std.specs.Prelude.{◌≡◌, ◌≢◌, ℕ, zero, suc, Option, Result, Ok, Err, MatchOption, ◌⊎◌}
 use Rattle.otel_sdk.specs.declared.trace.id_generator.IdError.{IdError}
 use Rattle.otel_sdk.specs.declared.trace.id_generator.IdError.TheVariants.{Zero, Source}
 

@@ -1,5 +1,5 @@
 -- Laws of ratios.
-use Rattle.std.specs.Prelude.{◌≡◌, ℕ, ◌<◌, ◌≤◌, ◌^◌, true}
+use Rattle.std.specs.Prelude.{◌≡◌, ℕ, ◌≤◌, true}
 use Rattle.otel_sdk.specs.Ratio.{half, bound, samples, infinity}
 
 -- Whether a trace is sampled is a function of the ratio and of the low half of its id without the

@@ -1,9 +1,8 @@
 -- Laws of samplers.
-use Rattle.std.specs.Prelude.{◌≡◌, ℕ, Bool, true, false, ◌≤◌, if◌then◌else◌}
+use Rattle.std.specs.Prelude.{◌≡◌, if◌then◌else◌}
 use Rattle.otel_context.specs.Context.{span_context}
 use Rattle.otel_ids.specs.SpanContext.{IsValidSpanContext}
 use Rattle.otel_ids.specs.TraceFlags.{is_sampled}
-use Rattle.otel_sdk.specs.Ratio.{half, bound, samples}
 use Rattle.otel_sdk.specs.Sampler.{Asked, Answer, parent_based, unchanged}
 use Rattle.otel_sdk.specs.declared.trace.sampler.SamplingDecision.TheVariants.{Drop, RecordAndSample}
 

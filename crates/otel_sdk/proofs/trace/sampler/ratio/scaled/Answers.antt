@@ -1,4 +1,4 @@
-use Rattle.std.proofs.Common.{◌≡◌, ℕ, ◌*◌, ◌^◌, ◌<◌, sym, ◌∙◌, arith}
+use Rattle.std.proofs.Common.{sym, ◌∙◌, arith}
 use Rattle.std.proofs.Math.Nat.{mod-eq_of_lt}
 use Rattle.otel_sdk.proofs.Scaling.{scale_up, scale_down, scale_away, scale_below}
 use Rattle.otel_sdk.proofs.trace.sampler.ratio.scaled.Goals as goal
