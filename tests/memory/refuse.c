@@ -1,5 +1,5 @@
 /*
- * Makes requests for memory fail, for `sweep` beside this file.
+ * Makes allocations fail, for `sweep` beside this file.
  *
  * Preloaded into a program that the kit built, it stands in front of the two calls by which such a
  * program asks the C library for memory, malloc and realloc. Counted from the start of the program

@@ -25,7 +25,7 @@ fn current_of(report: &RunReport) -> i64 {
     }
 }
 
-/// Each letter is an attach of a context of that name, and each digit the detach of that number.
+/// Each letter is an attach of a context named by it, and each digit the detach of that number.
 fn run_steps(alloc: Global, steps: &str) -> Result<RunReport, AllocError> {
     let mut events = Vec::new(alloc);
     for step in steps.as_bytes() {

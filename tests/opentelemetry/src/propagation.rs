@@ -153,7 +153,7 @@ fn a_carrier_gives_all_its_values(rt: HostRuntime) -> Result<(), Fail> {
     Ok(())
 }
 
-/// A carrier that asks for more memory than there is when it is told to reserve, which fails.
+/// A carrier that asks for more memory than there is in `reserve`, which fails.
 #[derive(Drop)]
 struct GreedyCarrier {
     texts: HashMap<String, String>,

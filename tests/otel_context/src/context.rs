@@ -92,7 +92,7 @@ const NAMES: &[&str] = &[
     "m", "c", "x", "a", "mm", "z", "b", "ma", "y", "n", "", "d", "M", "zz", "ab", "l",
 ];
 
-/// The entry of that name where it is a whole number, else -1.
+/// The entry with that name if it is a whole number, else -1.
 fn number_at(context: &Context, name: &str) -> i64 {
     match context.get(name) {
         Some(AnyValue::Int(number)) => *number,

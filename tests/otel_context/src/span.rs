@@ -1,4 +1,4 @@
-//! What a span is told by the calls that are made of others.
+//! What the calls that are made of others pass to a span.
 use otel_base::{Key, KeyValue, StringValue, Value};
 use otel_context::Span;
 use otel_recording::{Effect, RecordingSpan};

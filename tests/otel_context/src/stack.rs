@@ -10,7 +10,7 @@ use std::process::Abort;
 use std::test::Fail;
 use test_support::{name_of, named, text_of};
 
-/// An attach of a context of that name and the position that it gets, or a removal and the name
+/// An attach of a context with that name and the position that it gets, or a removal and the name
 /// that it gives.
 #[derive(Clone, Copy)]
 enum Step {

@@ -118,7 +118,7 @@ fn ids_and_trace_states(rt: HostRuntime) -> Result<(), Fail> {
     Ok(())
 }
 
-/// Says all that a span is told.
+/// Prints all that a span is given.
 fn tell(alloc: Global, span: &mut NoopSpan, error: &AllocError) -> Result<(), AllocError> {
     span.set_attribute(alloc, KeyValue::new(Key::from("k"), Value::from("v")))?;
     span.add_event(alloc, StringValue::from("e"), Vec::new(alloc), NOW)?;

@@ -117,7 +117,7 @@ fn a_logger_keeps_the_records_that_it_takes(rt: HostRuntime) -> Result<(), Fail>
     Ok(())
 }
 
-/// A logger of that name.
+/// A logger with that name.
 fn named<P: LoggerProvider>(
     alloc: Global,
     provider: &P,
@@ -151,7 +151,7 @@ fn an_event_is_enabled_from_the_least_severity_on(rt: HostRuntime) -> Result<(),
     Ok(())
 }
 
-/// A span that a tracer of that name starts.
+/// A span that a tracer with that name starts.
 fn started<P: TracerProvider>(
     alloc: Global,
     provider: &P,

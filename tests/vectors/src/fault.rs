@@ -15,7 +15,7 @@ pub enum Fault {
     NoValue,
     /// Two public items that mean the same answer differently.
     Disagrees(&'static str),
-    /// A request for memory failed.
+    /// Out of memory.
     Memory,
 }
 

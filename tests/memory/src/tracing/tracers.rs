@@ -64,7 +64,7 @@ pub fn name() -> StringValue {
     StringValue::from("s")
 }
 
-/// A builder of that name.
+/// A builder with that name.
 pub fn builder() -> SpanBuilder {
     SpanBuilder::from_name(name())
 }

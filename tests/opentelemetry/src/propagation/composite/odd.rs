@@ -107,7 +107,7 @@ fn twice_of(alloc: Global, pairs: &[(&str, &str)]) -> Result<TwiceCarrier, Propa
     })
 }
 
-/// Extracts, for each key that the carrier gives, an entry of that name with its value.
+/// Extracts, for each key that the carrier gives, an entry named by it with its value.
 #[derive(Drop)]
 struct EveryKey;
 
