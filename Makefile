@@ -4,7 +4,7 @@
 #   make run INPUT=F                on the file F; INPUT=- is standard input
 #   make try                        the same in seconds and unproved
 #   make example                    a service at work: the headers that it sends on, for those of examples/service and for none
-#   make test                       every proof, wrong body, test, vector, misuse case and failing request for memory
+#   make test                       every proof, wrong body, test, vector, misuse case and run out of memory
 #
 # Small loops, each a part of the above:
 #
@@ -14,7 +14,7 @@
 #   make mutants                    the wrong bodies of tests/mutants; CRATE=C those of one crate
 #   make vectors                    the answers of the Rust crate
 #   make misuse                     what must not compile; CASE=NAME one case
-#   make memory                     the runs in which requests for memory fail
+#   make memory                     the runs out of memory: each allocation fails in turn
 #   make long                       the proved programs on long inputs
 #   make calls                      that each call that can run out of memory is in one of them
 #   make fuzz                       random programs and rows beside a plain model; COUNT=N so many, SEED=N others
