@@ -1,8 +1,7 @@
 //! Resources and samplers.
 use crate::lines::Lines;
-use crate::tracing::spans::attribute;
 use opentelemetry::trace::{SpanContext, SpanId, SpanKind, TraceFlags, TraceId, TraceState};
-use opentelemetry::{Context, StringValue};
+use opentelemetry::{Context, Key, KeyValue, StringValue, Value};
 use otel_sdk::resource::{Resource, ResourceBuilder};
 use otel_sdk::trace::{ParentBased, Sampler, ShouldSample};
 use std::alloc::{AllocError, Global};
@@ -66,6 +65,10 @@ fn asked<R: Print>(alloc: Global, lines: &Lines<'_, R>) -> Result<(), AllocError
     let answer = sampler.should_sample(alloc, &parent, trace_id, "s", kind, &[], &[]);
     lines.free_ok("ParentBased::should_sample", answer);
     Ok(())
+}
+
+fn attribute() -> KeyValue {
+    KeyValue::new(Key::from("k"), Value::from("v"))
 }
 
 /// A builder with an attribute.
