@@ -129,7 +129,7 @@ def build(room):
     # `rt doc` names a page of the kit.
     kit = os.path.dirname(subprocess.run(["rt", "doc"], stdout=subprocess.PIPE, text=True, check=True).stdout.strip())
     made, program = f"{room}/{NAME}.o", f"{room}/{NAME}"
-    folder = lay_program(f"{room}/work")
+    folder = lay_program(f"{room}/copy")
     others = lay_out(folder)
     if others:
         raise Failed(f"`tests/memory/sweep --fmt` lays out otherwise: {' '.join(others)}")

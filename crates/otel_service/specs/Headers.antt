@@ -35,8 +35,8 @@ abbrev pub headers_of : List ℕ → List (List ℕ × List ℕ)
 headers_of bytes =
     filter_map (λ line. header_of (strip_carriage_return line)) (slice_split is_line_feed bytes)
 
--- the values of the headers of that name, in order; names are compared without regard to case (RFC
--- 9110, section 5.1)
+-- the values of the headers with that name, in order; names are compared without regard to case
+-- (RFC 9110, section 5.1)
 abbrev pub values_under : List ℕ → List (List ℕ × List ℕ) → List (List ℕ)
 values_under name headers = map (λ h. h.1) (filter (λ h. bytes_eq (lower h.0) name) headers)
 

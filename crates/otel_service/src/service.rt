@@ -100,7 +100,7 @@ fn child_of(parent: &SpanContext) -> Result<SpanContext, AllocError> {
 
 impl Sent {
     /// Writes the headers in rising order of their names, and then the span. A header that isn't one
-    /// line is left out, and `errors` is told (see [`headers::write`]).
+    /// line is left out, and `errors` says so (see [`headers::write`]).
     ///
     /// # Errors
     ///
