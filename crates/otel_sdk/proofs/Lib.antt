@@ -1,5 +1,6 @@
 pub mod DrawLemmas
 pub mod Lists
 pub mod Outcomes
+pub mod PieceTurns
 pub mod Rising
 pub mod Scaling

@@ -3,8 +3,13 @@ ghost use Rattle.std.specs.Prelude.{◌≡◌, ◌↔◌, [], IfOk, IsTrue, leng
 ghost use Rattle.std.specs.Slice.Iter.{iter_rest};
 ghost use Rattle.otel_base.specs.View.{attribute_of, value_of};
 ghost use Rattle.otel_sdk.specs.Resource as spec;
+ghost use Rattle.otel_sdk.specs.ResourceTexts.{fault, from_texts};
+
+mod texts;
 
 use crate::attributes::{put, put_all};
+pub use crate::resource::texts::ResourceTextError;
+use crate::resource::texts::{read_attributes, set_service_name};
 use otel_base::{Key, KeyValue, StringValue, Value};
 use std::alloc::{AllocError, Global};
 use std::marker::Model;
@@ -95,6 +100,40 @@ impl Resource {
         })
     }
 
+    /// Reads a resource from the texts of the variables `OTEL_RESOURCE_ATTRIBUTES` and
+    /// `OTEL_SERVICE_NAME`, which are empty if they aren't set. It has no other attributes, and no
+    /// schema URL.
+    ///
+    /// The first text is a list of `key=value`, separated by commas, in which escapes as `%2C` stand
+    /// for bytes. The name of the service is set unless it is blank. If a piece of the list is faulty,
+    /// none of its attributes is taken, and the error names the piece (OpenTelemetry specification,
+    /// "Specifying resource information via an environment variable").
+    ///
+    /// # Errors
+    ///
+    /// Returns an error if memory runs out.
+    pub fn from_texts(
+        alloc: Global,
+        attributes: &str,
+        service_name: &str,
+    ) -> Result<(Resource, Option<ResourceTextError>), AllocError>
+        ensures resource { IfOk result (λ r. r.0 ≡ from_texts attributes.now service_name.now) }
+        ensures fault { IfOk result (λ r. option_map (λ e. e.piece) r.1 ≡ fault attributes.now) }
+    {
+        let (mut attributes, error) = match read_attributes(alloc, attributes)? {
+            Ok(attributes) => (attributes, None),
+            Err(error) => (Vec::new(alloc), Some(error)),
+        };
+        set_service_name(alloc, &mut attributes, service_name)?;
+        Ok((
+            Resource {
+                attributes,
+                schema_url: None,
+            },
+            error,
+        ))
+    }
+
     /// Merges the updating resource into this one, and returns it. Its attributes are set in turn,
     /// so its values win, and attributes that are there keep their place. The schema URL is the one
     /// that is there, or that both have, an empty one counting as none; if they differ, there is
@@ -112,6 +151,20 @@ impl Resource {
             attributes,
             schema_url: merged_url(given(self.schema_url), given(updating.schema_url)),
         })
+    }
+
+    /// Returns the value of the attribute with the key, if there is one.
+    pub fn get(&self, key: &str) -> Option<&Value>
+        ensures { option_map (λ v. value_of v.now) result ≡ spec.get key.now self.now }
+    {
+        let found = self
+            .attributes
+            .iter()
+            .find(|attribute| attribute.key.as_str() == key);
+        match found {
+            Some(attribute) => Some(&attribute.value),
+            None => None,
+        }
     }
 
     /// Returns the attributes in order.

@@ -38,6 +38,10 @@ fn resources<R: Print>(alloc: Global, lines: &Lines<'_, R>) {
             Resource::builder_empty(alloc).with_service_name(name),
         );
     }
+    if lines.begin("resource-from-texts") {
+        let read = Resource::from_texts(alloc, "a=b%2Cc,,d=e", "cart");
+        lines.answer_of(read.map(|(resource, _)| resource.len()));
+    }
     if lines.begin("resource-merge") {
         lines.end(merge(alloc, lines));
     }

@@ -97,3 +97,66 @@ fn schema_urls_merge(rt: HostRuntime) -> Result<(), Fail> {
     }
     Ok(())
 }
+
+/// Reads the texts, and shows the attributes and the number of the faulty piece.
+fn read(
+    alloc: Global,
+    attributes: &str,
+    service_name: &str,
+) -> Result<(String, Option<usize>), AllocError> {
+    let (resource, error) = Resource::from_texts(alloc, attributes, service_name)?;
+    Ok((shown(alloc, &resource)?, error.map(|error| error.piece)))
+}
+
+#[test]
+fn texts_are_read(rt: HostRuntime) -> Result<(), Fail> {
+    let alloc = rt.alloc();
+    let rows = [
+        ("key=value, k = v , a= x, a=z", "", " key=value k=v a=z"),
+        ("a=b%2Cc%3dd", "", " a=b,c=d"),
+        ("a%20b=c", "", " a b=c"),
+        ("a=%20", "", " a= "),
+        ("a=1+1", "", " a=1+1"),
+        ("a=1=2", "", " a=1=2"),
+        ("a=", "", " a="),
+        ("a=1,,b=2,", "", " a=1 b=2"),
+        ("", "", ""),
+        ("   ", "", ""),
+        ("service.name=x,k=v", " bar ", " service.name=bar k=v"),
+        ("service.name=x,k=v", " ", " service.name=x k=v"),
+    ];
+    for (attributes, service_name, wanted) in rows {
+        let (text, fault) = read(alloc, attributes, service_name)?;
+        assert_eq!(rt; text.as_str(), wanted);
+        assert_eq!(rt; fault, None);
+    }
+    Ok(())
+}
+
+#[test]
+fn a_faulty_piece_costs_all_attributes(rt: HostRuntime) -> Result<(), Fail> {
+    let alloc = rt.alloc();
+    for attributes in ["a=1,b", "a=1,=x", "a=1,b=%f", "a=1,b=%ff"] {
+        let (text, fault) = read(alloc, attributes, "")?;
+        assert_eq!(rt; text.as_str(), "");
+        assert_eq!(rt; fault, Some(1));
+    }
+    let (text, fault) = read(alloc, "a", "bar")?;
+    assert_eq!(rt; text.as_str(), " service.name=bar");
+    assert_eq!(rt; fault, Some(0));
+    Ok(())
+}
+
+#[test]
+fn code_wins_over_texts(rt: HostRuntime) -> Result<(), Fail> {
+    let alloc = rt.alloc();
+    let (texts, _) = Resource::from_texts(alloc, "service.name=x", "")?;
+    let code = Resource::builder_empty(alloc)
+        .with_service_name(StringValue::from("y"))?
+        .build();
+    let resource = Resource::builder(alloc)?.build().merge(texts)?.merge(code)?;
+    let name = resource.get("service.name").map(|name| name.as_str(alloc)).transpose()?;
+    assert!(rt; name.is_some_and(|name| name.as_str() == "y"));
+    assert!(rt; resource.get("service").is_none());
+    Ok(())
+}
