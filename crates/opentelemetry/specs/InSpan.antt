@@ -1,6 +1,6 @@
 -- What the calls that run a body in a span do.
 use Rattle.std.specs.Prelude.{◌≡◌, ℕ, Option}
-use Rattle.otel_context.specs.declared.spans.SpanRefused.{SpanRefused}
+use Rattle.otel_context.specs.declared.span.spans.SpanRefused.{SpanRefused}
 use Rattle.otel_ids.specs.SpanContext.{SpanContextRecord}
 use Rattle.otel_context.specs.Context.{ContextRecord, with_span}
 use Rattle.otel_context.specs.Active.{AttachesAt}

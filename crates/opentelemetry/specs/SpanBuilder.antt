@@ -2,7 +2,7 @@
 use Rattle.std.specs.Prelude.{ℕ, zero, suc, Bool, true, false, ◌&&◌, List, Option, Some, None}
 use Rattle.std.specs.List.{filter}
 use Rattle.otel_base.specs.KeyValue.{Attribute}
-use Rattle.otel_context.specs.declared.status.SpanKind.{SpanKind}
+use Rattle.otel_context.specs.declared.span.status.SpanKind.{SpanKind}
 use Rattle.opentelemetry.specs.Event.{EventRecord, LinkRecord}
 
 -- which side of a call the span describes, its name, when it starts in nanoseconds since 1970, and

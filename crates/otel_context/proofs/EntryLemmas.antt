@@ -16,7 +16,7 @@ use Rattle.std.specs.declared.alloc.Global.{Global}
 use Rattle.std.specs.declared.rc.Rc.{Rc}
 use Rattle.otel_base.specs.AnyValue.{Tree}
 use Rattle.otel_base.specs.View.{tree}
-use Rattle.otel_context.specs.declared.entries.Entry.{Entry}
+use Rattle.otel_context.specs.declared.context.entries.Entry.{Entry}
 use Rattle.otel_context.specs.View.{pairs, by_key, entries_seen, IsRising}
 
 abbrev pub text_cmp : List ℕ → List ℕ → Ordering

@@ -18,7 +18,7 @@ use Rattle.std.proofs.lemmas.Map.Entries.{none_past_head}
 use Rattle.std.proofs.lemmas.Map.Made.{IsSome-lookup_same_keys}
 use Rattle.otel_context.specs.View.{map_of}
 use Rattle.otel_context.specs.Spans.{SpansState, get, IsNumbered, insert, take, used_up, cause_of, HasSameSpans}
-use Rattle.otel_context.specs.declared.spans.SpanCause.TheVariants.{NumbersUsedUp, Memory}
+use Rattle.otel_context.specs.declared.span.spans.SpanCause.TheVariants.{NumbersUsedUp, Memory}
 use Rattle.std.specs.Prelude.{◌==◌, if◌then◌else◌, alloc_error}
 use Rattle.std.proofs.lemmas.Bool.{false_from_ne_true}
 

@@ -3,7 +3,7 @@ use Rattle.std.specs.Prelude.{◌≡◌, ℕ, Ok}
 use Rattle.std.specs.declared.alloc.AllocError.{AllocError}
 use Rattle.std.specs.Borrow.{MutBor}
 use Rattle.std.specs.Fn.{Once, FnOnceReturnsAtMut}
-use Rattle.otel_context.specs.declared.span_ref.SpanRef.{SpanRef}
+use Rattle.otel_context.specs.declared.span.span_ref.SpanRef.{SpanRef}
 use Rattle.otel_context.specs.Context.{ContextRecord, span_context, span_number}
 use Rattle.otel_context.specs.SpanRef as reference
 use Rattle.otel_context.specs.SpanRef.{IsSameReference, table_of, number_of}

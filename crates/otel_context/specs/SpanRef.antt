@@ -4,7 +4,7 @@ use Rattle.std.specs.Option.{option_map_or}
 use Rattle.otel_ids.specs.SpanContext.{SpanContextRecord}
 use Rattle.otel_context.specs.Spans.{SpansState, find}
 use Rattle.otel_context.specs.SpanCalls as calls
-use Rattle.otel_context.specs.declared.span_ref.SpanRef.{SpanRef}
+use Rattle.otel_context.specs.declared.span.span_ref.SpanRef.{SpanRef}
 
 module _ {S : Type 0} where
   -- the table that was lent

@@ -4,9 +4,9 @@ use Rattle.std.specs.Prelude.{◌≡◌, ◌⊎◌, ℕ, ◌+◌, ◌<◌, ◌==
 use Rattle.std.specs.Prelude.{if◌then◌else◌}
 use Rattle.std.specs.Ordering.{nat_cmp}
 use Rattle.std.specs.FinMap as map
-use Rattle.otel_context.specs.declared.spans.SpanCause.{SpanCause}
-use Rattle.otel_context.specs.declared.spans.SpanCause.TheVariants.{NumbersUsedUp, Memory}
-use Rattle.otel_context.specs.declared.spans.SpanRefused.{SpanRefused}
+use Rattle.otel_context.specs.declared.span.spans.SpanCause.{SpanCause}
+use Rattle.otel_context.specs.declared.span.spans.SpanCause.TheVariants.{NumbersUsedUp, Memory}
+use Rattle.otel_context.specs.declared.span.spans.SpanRefused.{SpanRefused}
 
 -- the spans under their numbers, and the number of the next one
 pub record SpansState (S : Type 0) : Type 0 where

@@ -3,7 +3,7 @@ use Rattle.std.specs.Prelude.{◌≡◌, ℕ, Option, OnSome}
 use Rattle.std.specs.Borrow.{LendsSo, follows_so, Fml, RattleType, MutBor}
 use Rattle.std.specs.Option.{ghost_name_of}
 use Rattle.otel_context.specs.Spans.{SpansState, replace, replace_found}
-use Rattle.otel_context.specs.contracts.spans.Spans.{the_row}
+use Rattle.otel_context.specs.contracts.span.spans.Spans.{the_row}
 
 -- once the borrow ends, the number has the span that was left behind it; at `None` the table stays
 abbrev pub LendsSpan : (S : RattleType) → MutBor (SpansState S.Denot) → ℕ

@@ -3,8 +3,8 @@ use Rattle.std.specs.Prelude.{ℕ, List, [], nat_eq, Bool}
 use Rattle.std.specs.Ordering.{nat_cmp, on, then_cmp, eq_of_both}
 use Rattle.std.specs.declared.cmp.Ordering.{Ordering}
 use Rattle.std.specs.Cmp.Lexicographic.{slice_cmp, pointwise}
-use Rattle.otel_context.specs.declared.status.Status.{Status}
-use Rattle.otel_context.specs.declared.status.Status.TheVariants.{Unset, Error, Ok}
+use Rattle.otel_context.specs.declared.span.status.Status.{Status}
+use Rattle.otel_context.specs.declared.span.status.Status.TheVariants.{Unset, Error, Ok}
 
 -- the place of a status among the three: no status is below an error, and an error below success
 -- (OpenTelemetry trace API, "Set Status")

@@ -20,8 +20,8 @@ use Rattle.otel_context.specs.Context.{EntryMap, SpanPart, ContextRecord, empty_
 use Rattle.otel_context.specs.Slots.{SlotsState}
 use Rattle.otel_context.specs.Spans.{SpansState}
 use Rattle.otel_context.specs.Stack.{Live, StackState}
-use Rattle.otel_context.specs.declared.entries.Entry.{Entry}
-use Rattle.otel_context.specs.declared.parts.ActiveSpan.{ActiveSpan}
+use Rattle.otel_context.specs.declared.context.entries.Entry.{Entry}
+use Rattle.otel_context.specs.declared.context.contents.ActiveSpan.{ActiveSpan}
 
 -- each key with the tree of its value
 abbrev pub pairs : List (Rc Entry Global) → List (List ℕ × Tree)
@@ -43,10 +43,10 @@ entries_seen entries = from_entries (pairs entries)
 abbrev pub span_part : ActiveSpan → SpanPart
 span_part span = record { context = span.context; number = span.number }
 
--- the context of these parts
+-- the context of these contents
 abbrev pub record_of : Option (Rc ContextRecord Global) → ContextRecord
 record_of None = empty_context
-record_of (Some parts) = parts.value
+record_of (Some contents) = contents.value
 
 -- a code of entries: that of the map's pairs
 abbrev pub entries_code : Coded EntryMap

@@ -2,7 +2,15 @@
 ghost use Rattle.std.specs.Prelude.{◌≡◌, false, IsOk, OnOk, OnErr};
 ghost use Rattle.otel_base.specs.View.{attribute_of};
 
-use crate::status::Status;
+mod active;
+mod span_ref;
+mod spans;
+mod status;
+
+pub use self::active::{get_active_span, mark_span_as_active};
+pub use self::span_ref::SpanRef;
+pub use self::spans::{SpanCause, SpanRefused, Spans};
+pub use self::status::{SpanKind, Status};
 use otel_base::{Key, KeyValue, StringValue, Value};
 use otel_ids::SpanContext;
 use std::alloc::{AllocError, Global};
@@ -37,7 +45,7 @@ use std::fmt::Display;
 pub trait Span: Drop {
     ghost use Rattle.std.specs.Prelude.{ℕ, List, Bool};
     ghost use Rattle.otel_ids.specs.SpanContext.{SpanContextRecord};
-    ghost use Rattle.otel_context.specs.declared.status.Status.{Status};
+    ghost use Rattle.otel_context.specs.declared.span.status.Status.{Status};
     ghost use Rattle.otel_base.specs.KeyValue.{Attribute};
     ghost use Rattle.otel_context.specs.SpanEffects.{attributes_of, SetsAttributes, SetsBeginning};
     ghost use Rattle.otel_context.specs.SpanEffects.{RecordsError};

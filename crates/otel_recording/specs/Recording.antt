@@ -5,8 +5,8 @@ use Rattle.otel_base.specs.KeyValue.{Attribute}
 use Rattle.otel_base.specs.View.{attribute_of}
 use Rattle.otel_ids.specs.SpanContext.{SpanContextRecord}
 use Rattle.otel_context.specs.SpanEffects.{attributes_of}
-use Rattle.otel_context.specs.declared.status.Status.{Status}
-use Rattle.otel_context.specs.declared.status.Status.TheVariants.{Unset}
+use Rattle.otel_context.specs.declared.span.status.Status.{Status}
+use Rattle.otel_context.specs.declared.span.status.Status.TheVariants.{Unset}
 use Rattle.otel_recording.specs.declared.recording_span.Effect.{Effect}
 use Rattle.otel_recording.specs.declared.recording_span.Effect.TheVariants as E
 

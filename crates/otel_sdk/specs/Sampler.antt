@@ -9,7 +9,7 @@ use Rattle.otel_base.specs.KeyValue.{Attribute}
 use Rattle.otel_base.specs.View.{attribute_of}
 use Rattle.otel_base.specs.declared.key_value.KeyValue.{KeyValue}
 use Rattle.otel_context.specs.Context.{ContextRecord, span_context}
-use Rattle.otel_context.specs.declared.status.SpanKind.{SpanKind}
+use Rattle.otel_context.specs.declared.span.status.SpanKind.{SpanKind}
 use Rattle.opentelemetry.specs.Event.{LinkRecord}
 use Rattle.opentelemetry.specs.View.{link_of}
 use Rattle.opentelemetry.specs.declared.trace.link.Link.{Link}

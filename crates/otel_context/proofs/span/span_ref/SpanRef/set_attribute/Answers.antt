@@ -1,0 +1,18 @@
+use Rattle.otel_context.proofs.SpanRefLemmas.{OthersStay-replaced, changed-ok, changed-err}
+use Rattle.otel_context.proofs.span.span_ref.SpanRef.set_attribute.Goals as goal
+
+pub returns-in-Some-clause-ok : goal.returns-in-Some-clause-ok
+returns-in-Some-clause-ok g c =
+    let written = rw c.in-Some.is at (c.find_mut.follows.holds c.set_attribute.new.self) in
+    changed-ok c.set_attribute.result _ c.args.self.now.spans.now c.args.self.now.number _ _ _ c.in-Some.ensures.value written c.set_attribute.ensures.ok
+
+pub returns-in-Some-clause-err : goal.returns-in-Some-clause-err
+returns-in-Some-clause-err g c =
+    let written = rw c.in-Some.is at (c.find_mut.follows.holds c.set_attribute.new.self) in
+    changed-err c.set_attribute.result c.args.self.now.spans.now c.args.self.now.number _ _ _ c.in-Some.ensures.value written c.set_attribute.ensures.err
+
+pub invariant_of-self : goal.invariant_of-self
+invariant_of-self g c =
+    let written = rw c.in-Some.is at (c.find_mut.follows.holds c.set_attribute.new.self) in
+    let s = c.args.self.now in
+    record { others = rw written (OthersStay-replaced s.number s.first.value s.spans.now c.set_attribute.new.self s.others) }

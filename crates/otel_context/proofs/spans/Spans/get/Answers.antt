@@ -1,6 +1,0 @@
-use Rattle.std.proofs.Common.{sym, ◌∙◌}
-use Rattle.otel_context.proofs.SpansLemmas.{get-view}
-use Rattle.otel_context.proofs.spans.Spans.get.Goals as goal
-
-pub returns : goal.returns
-returns g c = rw (← c.self.view_is) (c.get.ensures.value ∙ sym (get-view c.self.inside.table c.args.number))

@@ -1,6 +1,0 @@
-use Rattle.std.proofs.Common.{sym, ◌∙◌}
-use Rattle.otel_context.proofs.SpansLemmas.{len-view}
-use Rattle.otel_context.proofs.spans.Spans.len.Goals as goal
-
-pub returns : goal.returns
-returns g c = rw (← c.self.view_is) (c.len.ensures.len ∙ sym (len-view c.self.inside.table c.len.ensures.unique))

@@ -1,0 +1,72 @@
+//! The span of the current context.
+ghost use Rattle.std.specs.Prelude.{◌≡◌, IfOk, IfErr, IsErr, OnOk, OnErr};
+ghost use Rattle.otel_context.specs.Active.{AttachesAt, CallsOnce};
+ghost use Rattle.otel_context.specs.Context.{with_span};
+ghost use Rattle.otel_context.specs.Spans.{IsNumbered, insert, used_up, refusal, HasSameSpans};
+ghost use Rattle.otel_context.specs.Stack.{current};
+
+use super::{Span, SpanRef, SpanRefused, Spans};
+use crate::stack::{ContextGuard, ContextStack};
+
+/// Puts a span into the table and attaches the current context with that span, and returns the
+/// guard of its position and the number of the span.
+///
+/// At position 65534 the span goes into the table all the same, nothing is attached, and the guard
+/// isn't attached. The guard is spent as one of [`ContextStack::attach`].
+///
+/// # Errors
+///
+/// `NumbersUsedUp` if the table's next number is 18446744073709551615, and otherwise `Memory` if
+/// out of memory. The span comes back, the stack is unchanged, and the table holds the same spans.
+/// After `NumbersUsedUp` the table is unchanged; after `Memory` its next number may be one higher.
+pub fn mark_span_as_active<S: Span>(
+    stack: &mut ContextStack,
+    spans: &mut Spans<S>,
+    span: S,
+) -> Result<(ContextGuard, u64), SpanRefused<S>>
+    ensures attached { IfOk result (λ active. AttachesAt active.0
+        (with_span (current stack.old.live) (S.context_of span) spans.old.next_number)
+        stack.old stack.new) }
+    ensures number { IfOk result (λ active. active.1 ≡ spans.old.next_number) }
+    ensures numbered { IsNumbered spans.old }
+    ensures inserted { OnOk result (spans.new ≡ insert spans.old span) }
+    ensures unattached { OnErr result (stack.new ≡ stack.old) }
+    ensures same_spans { OnErr result (HasSameSpans spans.old spans.new) }
+    ensures used_up { spans.old.next_number ≡ used_up
+        → IsErr result × (spans.new ≡ spans.old) }
+    ensures refused { IfErr result (λ refused. refused ≡ refusal spans.old span) }
+{
+    let number = spans.next_number();
+    let context = match stack.current_with_span(spans, span) {
+        Ok(context) => context,
+        Err(refused) => return Err(refused),
+    };
+    match stack.attach(context) {
+        Ok(guard) => Ok((guard, number)),
+        Err(_) => match spans.take(number) {
+            Some(span) => Err(SpanRefused::no_memory(span)),
+            None => unreachable!(),
+        },
+    }
+}
+
+/// Calls `f` once on a reference to the current context's span, and returns what it returns.
+///
+/// What `f` does to the span is said by the calls of [`SpanRef`], which change no other span of the
+/// table. If `f` puts another reference in the place of the one that it is lent, nothing is promised
+/// of the table.
+///
+/// ```
+/// get_active_span(&stack, &mut spans, |span| span.end(NOW));
+/// ```
+pub fn get_active_span<T, S: Span, F: FnOnce(&mut SpanRef<'_, S>) -> T>(
+    stack: &ContextStack,
+    spans: &mut Spans<S>,
+    f: F,
+) -> T
+    requires { F.IsAlwaysCallable f }
+    ensures { CallsOnce F.FnOnce f (current stack.now.live) spans.old result spans.new }
+{
+    let mut active = stack.current().span(spans);
+    f(&mut active)
+}
