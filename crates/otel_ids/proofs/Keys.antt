@@ -154,11 +154,11 @@ pub has_from_get : (ps : List Pair) (key : List ℕ) (o : Option (Bor (List ℕ)
 has_from_get ps key o e = copied_some o ∙ ap is_some e ∙ get_any ps key
 
 -- a pair whose key is there is left out
-pub held_before : (ps : List Pair) (p : Pair) → list_any (has_key p.key) ps ≡ true → ps ≡ with_new_key ps p
-held_before ps p t = rw t refl
+pub with_new_key-present : (ps : List Pair) (p : Pair) → list_any (has_key p.key) ps ≡ true → ps ≡ with_new_key ps p
+with_new_key-present ps p t = rw t refl
 
-pub held_new : (ps : List Pair) (p : Pair) → list_any (has_key p.key) ps ≡ false → ps ++ p ∷ [] ≡ with_new_key ps p
-held_new ps p f = rw f refl
+pub with_new_key-new : (ps : List Pair) (p : Pair) → list_any (has_key p.key) ps ≡ false → ps ++ p ∷ [] ≡ with_new_key ps p
+with_new_key-new ps p f = rw f refl
 
 -- ---- values that are cut
 

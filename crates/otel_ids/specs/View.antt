@@ -1,6 +1,6 @@
--- How the code holds values, and which value that is: the pairs of a trace state as one text, their
--- header, with the lengths of each key and value. Codes let the value of another model hold these
--- values. No public clause cites this.
+-- How values are stored, and which value that is: the pairs of a trace state are one text, their
+-- header, with the lengths of each key and value. Codes let the value of another model contain
+-- these values. No public clause cites this.
 use Rattle.std.specs.Prelude.{◌≡◌, ℕ, ◌+◌, ◌<◌, ◌≤◌, Bool, List, [], ◌∷◌, length, map, take, drop}
 use Rattle.std.specs.Prelude.{slice_index}
 use Rattle.std.specs.Prelude.{Option, Some, None, refl, ◌++◌, if◌then◌else◌}
@@ -9,7 +9,7 @@ use Rattle.std.specs.Coded.{Coded, code_by, coded×, coded_ℕ, coded_bool, code
 use Rattle.std.specs.Str.{IsUtf8}
 use Rattle.std.specs.Global.{Global}
 use Rattle.std.specs.declared.rc.Rc.{Rc}
-use Rattle.otel_ids.specs.declared.held.Place.{Place}
+use Rattle.otel_ids.specs.declared.members.Place.{Place}
 use Rattle.otel_ids.specs.TraceState.{Pair, pair_with, has_key, header}
 use Rattle.otel_ids.specs.SpanContext.{SpanContextRecord}
 
@@ -29,13 +29,13 @@ cut [] text = []
 cut (p ∷ ps) text = front p text ∷ cut ps (drop (p.key + 1 + p.value + 1) text)
 
 -- the text is the header of the pairs that it is cut into, and the places are theirs
-pub record IsHeld (places : List Place) (text : List ℕ) : Type 0 where
+pub record IsStored (places : List Place) (text : List ℕ) : Type 0 where
   pub spelled : text ≡ header (cut places text)
   pub placed : places ≡ map place (cut places text)
 
 -- the same of a text that begins within a header, if it is a text still
 pub record IsLeft (places : List Place) (text : List ℕ) : Type 0 where
-  pub held : IsHeld places text
+  pub stored : IsStored places text
   pub utf8 : IsUtf8 text
 
 -- the pairs, and the pair after them where none of them has its key

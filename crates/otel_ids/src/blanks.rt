@@ -16,8 +16,8 @@ fn cut_end(text: &str) -> &str
     text.trim_end_matches(BLANKS)
 }
 
-/// Returns the text without the spaces and tabs at its ends. Other white space stays, where
-/// `str::trim` would cut it. Not in the Rust crate.
+/// Returns the text without the spaces and tabs at its ends. Unlike `str::trim`, it keeps other
+/// white space. Not in the Rust crate.
 pub fn cut_blanks(text: &str) -> &str
     ensures { result.now ≡ cut_blanks text.now }
 {

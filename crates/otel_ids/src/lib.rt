@@ -4,10 +4,10 @@
 
 mod blanks;
 mod error;
-mod held;
 pub mod laws;
 mod list_member;
 mod members;
+mod pairs;
 mod reading;
 mod span_context;
 mod trace_context;
@@ -15,7 +15,7 @@ mod trace_state;
 
 pub use blanks::cut_blanks;
 pub use error::TraceStateError;
-pub use held::TraceStateIter;
+pub use members::TraceStateIter;
 pub use span_context::SpanContext;
 pub use trace_context::{SpanId, TraceFlags, TraceId};
 pub use trace_state::TraceState;
