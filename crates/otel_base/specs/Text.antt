@@ -4,7 +4,7 @@ use Rattle.std.specs.Rc.{rc_str_bytes}
 use Rattle.otel_base.specs.declared.text.Form.{Form}
 use Rattle.otel_base.specs.declared.text.Form.TheVariants.{Owned, Static, Shared}
 
--- the UTF-8 bytes, however they are held (the Rust crate's `as_str` of `Key`): the owned and the
+-- the UTF-8 bytes, owned, static or shared (the Rust crate's `as_str` of `Key`): the owned and the
 -- static "a" both are [97]
 abbrev pub text_of : Form → List ℕ
 text_of (Owned s) = string_bytes s

@@ -15,8 +15,8 @@ use std::default::Emptied;
 
 /// A tree of values (the Rust crate's `AnyValue`, without its floats).
 ///
-/// Trees are equal where they have the same shape and content; values of different cases are never
-/// equal, and maps are equal where they hold equal trees under the same keys.
+/// Trees are equal if they have the same shape and content. Values of different variants are never
+/// equal; maps are equal if they have equal trees under the same keys.
 ///
 /// `AnyValue::from("text")` and `AnyValue::from(1)` are trees; a list and a map take memory.
 /// See `otel_examples::log_bridge`, where one is the body of a record.
@@ -37,7 +37,8 @@ pub enum AnyValue {
 }
 
 impl AnyValue {
-    /// The list of the given trees, in order (the Rust crate's `FromIterator<T> for AnyValue`).
+    /// Returns the list of the given trees, in order (the Rust crate's `FromIterator<T> for
+    /// AnyValue`).
     ///
     /// # Errors
     ///
@@ -64,7 +65,7 @@ impl AnyValue {
         Ok(AnyValue::Map(Box::new(alloc, entries)?))
     }
 
-    /// A copy of the given bytes (the Rust crate's `From<&[u8]> for AnyValue`).
+    /// Returns a tree with a copy of the given bytes (the Rust crate's `From<&[u8]> for AnyValue`).
     ///
     /// # Errors
     ///
@@ -80,8 +81,11 @@ impl AnyValue {
 impl Clone for AnyValue {
     ghost is_clone = { λ v w. tree w ≡ tree v };
 
-    /// A tree of the same meaning, made in one walk. Its `AllocError` reports that a request for
-    /// memory failed.
+    /// Returns a copy, made in one walk.
+    ///
+    /// # Errors
+    ///
+    /// `AllocError` if out of memory. The tree is unchanged.
     fn clone(&self) -> Result<AnyValue, AllocError> {
         copy(self)
     }
@@ -135,7 +139,7 @@ impl PartialEq for AnyValue {
 
     ghost laws = { on_per tree (partial_equiv_from_equiv eq-equiv) };
 
-    /// Whether both are the same tree. Takes no memory.
+    /// Returns `true` if both are the same tree. Takes no memory.
     fn eq(&self, other: &AnyValue) -> bool
         ensures value { result ≡ spec.eq (tree self.now) (tree other.now) }
         ensures same { IsTrue result ↔ (tree self.now ≡ tree other.now) }
@@ -194,7 +198,7 @@ fn same_entries(a: &BTreeMap<Key, AnyValue>, b: &BTreeMap<Key, AnyValue>) -> boo
 impl From<i8> for AnyValue {
     ghost from_gives = { λ n v. tree v ≡ integer n };
 
-    /// The integer.
+    /// Returns the tree of an integer.
     fn from(value: i8) -> AnyValue {
         AnyValue::Int(i64::from(value))
     }
@@ -203,7 +207,7 @@ impl From<i8> for AnyValue {
 impl From<i16> for AnyValue {
     ghost from_gives = { λ n v. tree v ≡ integer n };
 
-    /// The integer.
+    /// Returns the tree of an integer.
     fn from(value: i16) -> AnyValue {
         AnyValue::Int(i64::from(value))
     }
@@ -212,7 +216,7 @@ impl From<i16> for AnyValue {
 impl From<i32> for AnyValue {
     ghost from_gives = { λ n v. tree v ≡ integer n };
 
-    /// The integer.
+    /// Returns the tree of an integer.
     fn from(value: i32) -> AnyValue {
         AnyValue::Int(i64::from(value))
     }
@@ -221,7 +225,7 @@ impl From<i32> for AnyValue {
 impl From<i64> for AnyValue {
     ghost from_gives = { λ n v. tree v ≡ integer n };
 
-    /// The integer.
+    /// Returns the tree of an integer.
     fn from(value: i64) -> AnyValue {
         AnyValue::Int(value)
     }
@@ -230,7 +234,7 @@ impl From<i64> for AnyValue {
 impl From<u8> for AnyValue {
     ghost from_gives = { λ n v. tree v ≡ integer (pos n) };
 
-    /// The integer.
+    /// Returns the tree of an integer.
     fn from(value: u8) -> AnyValue {
         AnyValue::Int(i64::from(value))
     }
@@ -239,7 +243,7 @@ impl From<u8> for AnyValue {
 impl From<u16> for AnyValue {
     ghost from_gives = { λ n v. tree v ≡ integer (pos n) };
 
-    /// The integer.
+    /// Returns the tree of an integer.
     fn from(value: u16) -> AnyValue {
         AnyValue::Int(i64::from(value))
     }
@@ -248,7 +252,7 @@ impl From<u16> for AnyValue {
 impl From<u32> for AnyValue {
     ghost from_gives = { λ n v. tree v ≡ integer (pos n) };
 
-    /// The integer.
+    /// Returns the tree of an integer.
     fn from(value: u32) -> AnyValue {
         AnyValue::Int(i64::from(value))
     }
@@ -257,7 +261,7 @@ impl From<u32> for AnyValue {
 impl From<bool> for AnyValue {
     ghost from_gives = { λ b v. tree v ≡ boolean b };
 
-    /// The boolean.
+    /// Returns the tree of a boolean.
     fn from(value: bool) -> AnyValue {
         AnyValue::Boolean(value)
     }
@@ -266,7 +270,7 @@ impl From<bool> for AnyValue {
 impl From<StringValue> for AnyValue {
     ghost from_gives = { λ s v. tree v ≡ text s };
 
-    /// The text.
+    /// Returns the tree of a text.
     fn from(value: StringValue) -> AnyValue {
         AnyValue::String(value)
     }
@@ -275,7 +279,7 @@ impl From<StringValue> for AnyValue {
 impl From<String> for AnyValue {
     ghost from_gives = { λ s v. tree v ≡ text (string_bytes s) };
 
-    /// The owned text.
+    /// Returns the tree of an owned text.
     fn from(value: String) -> AnyValue {
         AnyValue::String(StringValue::from(value))
     }
@@ -284,7 +288,7 @@ impl From<String> for AnyValue {
 impl From<&'static str> for AnyValue {
     ghost from_gives = { λ s v. tree v ≡ text s.now };
 
-    /// The static text.
+    /// Returns the tree of a static text.
     fn from(value: &'static str) -> AnyValue {
         AnyValue::String(StringValue::from(value))
     }

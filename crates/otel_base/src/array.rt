@@ -15,7 +15,7 @@ use std::fmt;
 
 /// A list of values of one type (the Rust crate's `Array`, without its floats).
 ///
-/// Arrays of different types are never equal, empty ones included.
+/// Arrays of different types are never equal, even if both are empty.
 ///
 /// See [`Value`](crate::Value).
 #[derive(Debug, Drop)]
@@ -31,7 +31,7 @@ pub enum Array {
 impl From<Vec<bool>> for Array {
     ghost from_gives = { λ v a. array_of a ≡ booleans v.items };
 
-    /// The array of these booleans.
+    /// Returns the array of these booleans.
     fn from(bools: Vec<bool>) -> Array {
         Array::Bool(bools)
     }
@@ -40,7 +40,7 @@ impl From<Vec<bool>> for Array {
 impl From<Vec<i64>> for Array {
     ghost from_gives = { λ v a. array_of a ≡ integers v.items };
 
-    /// The array of these integers.
+    /// Returns the array of these integers.
     fn from(integers: Vec<i64>) -> Array {
         Array::I64(integers)
     }
@@ -49,7 +49,7 @@ impl From<Vec<i64>> for Array {
 impl From<Vec<StringValue>> for Array {
     ghost from_gives = { λ v a. array_of a ≡ texts v.items };
 
-    /// The array of these texts.
+    /// Returns the array of these texts.
     fn from(texts: Vec<StringValue>) -> Array {
         Array::String(texts)
     }
@@ -58,7 +58,7 @@ impl From<Vec<StringValue>> for Array {
 impl Clone for Array {
     ghost is_clone = { λ a copy. array_of copy ≡ array_of a };
 
-    /// An array of the same type and items.
+    /// Returns a copy.
     fn clone(&self) -> Result<Array, AllocError> {
         match self {
             Array::Bool(items) => Ok(Array::Bool(items.clone()?)),
@@ -74,7 +74,7 @@ impl PartialEq for Array {
     ghost laws = { on_per array_of (partial_equiv_from_equiv
         (equiv_from_decides spec.eq array_eq-Decides)) };
 
-    /// Whether both have the same type and the same items in order.
+    /// Returns `true` if both have the same type and the same items in the same order.
     fn eq(&self, other: &Array) -> bool
         ensures value { result ≡ spec.eq (array_of self.now) (array_of other.now) }
         ensures same { IsTrue result ↔ (array_of self.now ≡ array_of other.now) }
@@ -150,7 +150,7 @@ pub fn append_integer(value: i64, out: &mut String) -> Result<(), AllocError>
     out.push_str(digits.format(value))
 }
 
-// What stands before the item at a position from 0.
+// Returns what is printed before the item at this index.
 fn separator(position: usize) -> &'static str
     ensures { result.now ≡ spec.separator position }
 {
@@ -180,7 +180,7 @@ fn append_items<I: Item>(items: &[I], out: &mut String) -> Result<(), AllocError
 }
 
 impl Array {
-    // Appends the `Display` text.
+    // Appends the `Display` text of the item.
     pub(crate) fn append_to(&self, out: &mut String) -> Result<(), AllocError>
         ensures { Appends result out.old (spec.display (array_of self.now)) out.new }
     {

@@ -13,11 +13,11 @@ use std::rc::RcStr;
 
 /// The key of an attribute, a context entry or a baggage entry (the Rust crate's `Key`).
 ///
-/// It means its text, the list of its UTF-8 bytes, whether that is owned, static or shared.
-/// Equality, order (by the bytes), hash and `Display` look at the text only, so ordered and hashed
-/// maps may be keyed by it.
+/// Contracts see its text, the list of its UTF-8 bytes, which may be owned, static or shared.
+/// Equality, order (by bytes), hash and `Display` depend on the text only, so it can be the key of
+/// a map.
 ///
-/// A text of the program is `Key::from("tenant")`. A text made at run time has to be owned:
+/// A key in the program's text is `Key::from("tenant")`. A text made at run time has to be owned:
 ///
 /// ```
 /// let key = Key::from(String::from_str(alloc, name)?);
@@ -38,7 +38,7 @@ impl Model for Key {
 }
 
 impl Key {
-    /// The key of an owned text. Takes no memory.
+    /// Returns the key of an owned text. Takes no memory.
     pub fn new(value: String) -> Key
         ensures { result ≡ string_bytes value }
     {
@@ -47,24 +47,24 @@ impl Key {
         }
     }
 
-    /// The key of a static text. Neither it nor its clones take memory.
+    /// Returns the key of a static text. Neither it nor its clones take memory.
     pub fn from_static_str(value: &'static str) -> Key
         ensures { result ≡ value.now }
     {
         Key::from(value)
     }
 
-    /// The text.
+    /// Returns the text.
     pub fn as_str(&self) -> &str
         ensures { result.now ≡ self.now }
     {
         self.text.as_str()
     }
 
-    /// The text as an owned `String` (the Rust crate's `From<Key> for String`).
+    /// Returns the text as an owned `String` (the Rust crate's `From<Key> for String`).
     ///
-    /// A key made from a `String` gives it back without taking memory; a static or shared text is
-    /// copied.
+    /// A key made from a `String` returns that `String` and takes no memory. A static or shared
+    /// text is copied.
     ///
     /// # Errors
     ///
@@ -81,7 +81,7 @@ impl PartialEq for Key {
 
     ghost laws = { Prim.search (comparing, rules) };
 
-    /// Whether both have the same text, however it is held.
+    /// Returns `true` if both have the same text, whether owned, static or shared.
     fn eq(&self, other: &Key) -> bool
         ensures value { result ≡ pointwise nat_eq self.now other.now }
         ensures same { IsTrue result ↔ (self.now ≡ other.now) }
@@ -93,7 +93,7 @@ impl PartialEq for Key {
 impl Clone for Key {
     ghost is_clone = { λ s copy. copy ≡ s };
 
-    /// A key of the same text. Only an owned text takes memory.
+    /// Returns a key of the same text. Only an owned text takes memory.
     fn clone(&self) -> Result<Key, AllocError> {
         Ok(Key {
             text: self.text.clone()?,
@@ -104,9 +104,9 @@ impl Clone for Key {
 impl From<&'static str> for Key {
     ghost from_gives = { λ s k. k ≡ s.now };
 
-    /// The key of a static text.
+    /// Returns the key of a static text.
     ///
-    /// A text made at run time goes in as `Key::from(String::from_str(alloc, name)?)`.
+    /// For a text made at run time, write `Key::from(String::from_str(alloc, name)?)`.
     fn from(value: &'static str) -> Key {
         let text = Text::from(value);
         Key { text }
@@ -116,7 +116,7 @@ impl From<&'static str> for Key {
 impl From<String> for Key {
     ghost from_gives = { λ s k. k ≡ string_bytes s };
 
-    /// The key of an owned text.
+    /// Returns the key of an owned text.
     fn from(value: String) -> Key {
         Key::new(value)
     }
@@ -125,7 +125,7 @@ impl From<String> for Key {
 impl From<RcStr> for Key {
     ghost from_gives = { λ s k. k ≡ rc_str_bytes s };
 
-    /// The key of a shared text.
+    /// Returns the key of a shared text.
     fn from(value: RcStr) -> Key {
         let text = Text::from(value);
         Key { text }

@@ -21,12 +21,12 @@ use std::hash::{Hash, Hasher};
 pub struct KeyValue {
     /// The name of the attribute.
     pub key: Key,
-    /// What is said under that name.
+    /// The value of the attribute.
     pub value: Value,
 }
 
 impl KeyValue {
-    /// The attribute of a key and a value.
+    /// Returns the attribute of a key and a value.
     pub fn new(key: Key, value: Value) -> KeyValue
         ensures { attribute_of result ≡ (key, value_of value) }
     {
@@ -37,7 +37,7 @@ impl KeyValue {
 impl Clone for KeyValue {
     ghost is_clone = { λ a copy. attribute_of copy ≡ attribute_of a };
 
-    /// An attribute of the same key and value.
+    /// Returns a copy.
     fn clone(&self) -> Result<KeyValue, AllocError> {
         Ok(KeyValue {
             key: self.key.clone()?,
@@ -52,7 +52,7 @@ impl PartialEq for KeyValue {
     ghost laws = { on_per attribute_of
         (partial_equiv_from_equiv (equiv_from_decides spec.eq attribute_eq-Decides)) };
 
-    /// Whether both have the same key and the same value.
+    /// Returns `true` if both have the same key and the same value.
     fn eq(&self, other: &KeyValue) -> bool
         ensures value { result ≡ spec.eq (attribute_of self.now) (attribute_of other.now) }
         ensures same { IsTrue result ↔ (attribute_of self.now ≡ attribute_of other.now) }
@@ -68,9 +68,10 @@ impl Eq for KeyValue {
 impl Hash for KeyValue {
     ghost hash_input = { λ a. spec.hash (attribute_of a) };
 
-    ghost respects_eq = { λ x y h. ap spec.hash ((attribute_eq-Decides (attribute_of x) (attribute_of y)).0 h) };
+    ghost respects_eq = { λ x y h.
+        ap spec.hash ((attribute_eq-Decides (attribute_of x) (attribute_of y)).0 h) };
 
-    /// Feeds the key, then the bare value without its type, as the Rust crate does.
+    /// Hashes the key, then the value without its type, as the Rust crate does.
     fn hash<H: Hasher>(&self, state: &mut H) {
         self.key.hash(state);
         match &self.value {

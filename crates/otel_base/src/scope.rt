@@ -24,9 +24,9 @@ use std::slice::Iter;
 
 /// A library or module that makes spans or log records (the Rust crate's `InstrumentationScope`).
 ///
-/// Two scopes are equal where their names, versions and schema URLs agree and, for every key, the
-/// list of the values under that key, in given order, agrees. Equality and hash take no memory and
-/// are linear in the attributes.
+/// Two scopes are equal if they have the same name, version and schema URL and, for every key, the
+/// same values under that key, in the same order. Equality and hash take no memory, and time linear
+/// in the number of attributes.
 ///
 /// ```
 /// let scope = InstrumentationScope::builder(StringValue::from("lib"))
@@ -39,7 +39,7 @@ pub struct InstrumentationScope {
     version: Option<StringValue>,
     schema_url: Option<StringValue>,
     attributes: Vec<KeyValue>,
-    // The positions of the attributes in the order of their keys, those of one key in given order.
+    // The positions of the attributes in the order of their keys. Those of one key stay in order.
     positions: Vec<usize>,
 }
 
@@ -62,7 +62,7 @@ impl Model for InstrumentationScope {
 }
 
 impl InstrumentationScope {
-    /// Starts a scope with that name, without version, schema URL and attributes.
+    /// Returns a builder with the name, without version, schema URL and attributes.
     pub fn builder(name: StringValue) -> InstrumentationScopeBuilder
         ensures { result ≡ spec.builder name }
     {
@@ -74,14 +74,14 @@ impl InstrumentationScope {
         }
     }
 
-    /// The name of the library or module.
+    /// Returns the name of the library or module.
     pub fn name(&self) -> &str
         ensures { result.now ≡ self.now.name }
     {
         self.name.as_str()
     }
 
-    /// The version of the library or module, if one was given.
+    /// Returns the version of the library or module, if one was given.
     pub fn version(&self) -> Option<&str>
         ensures { option_map (λ v. v.now) result ≡ self.now.version }
     {
@@ -91,7 +91,7 @@ impl InstrumentationScope {
         }
     }
 
-    /// The URL of the schema that the telemetry obeys, if one was given.
+    /// Returns the URL of the schema of the telemetry, if one was given.
     pub fn schema_url(&self) -> Option<&str>
         ensures { option_map (λ v. v.now) result ≡ self.now.schema_url }
     {
@@ -101,14 +101,14 @@ impl InstrumentationScope {
         }
     }
 
-    /// The attributes in given order, repeated keys included.
+    /// Returns the attributes in the order in which they were given, with repeated keys.
     pub fn attributes(&self) -> Iter<'_, KeyValue>
         ensures { map attribute_of (iter_rest result) ≡ self.now.attributes }
     {
         self.attributes.iter()
     }
 
-    // Whether name, version and schema URL agree.
+    // Returns `true` if both have the same name, version and schema URL.
     fn has_texts_of(&self, other: &InstrumentationScope) -> bool
         ensures { result ≡ texts_eq self.now other.now }
     {
@@ -121,7 +121,7 @@ impl InstrumentationScope {
 impl Clone for InstrumentationScope {
     ghost is_clone = { λ s copy. copy ≡ s };
 
-    /// A scope of the same parts, its attributes in given order.
+    /// Returns a copy.
     fn clone(&self) -> Result<InstrumentationScope, AllocError> {
         Ok(InstrumentationScope {
             name: self.name.clone()?,
@@ -140,7 +140,7 @@ fn attribute_at(attributes: &[KeyValue], position: usize) -> Option<&KeyValue>
     attributes.get(position)
 }
 
-// Whether both lists, each walked by its positions, give the same attributes.
+// Returns `true` if both lists, each in the order of its positions, have the same attributes.
 fn same_in_order(
     left: &[KeyValue],
     left_positions: &[usize],
@@ -167,7 +167,7 @@ impl PartialEq for InstrumentationScope {
 
     ghost laws = { partial_equiv_from_equiv eq-IsEquivalence };
 
-    /// Whether both are the same scope. Takes no memory.
+    /// Returns `true` if both are the same scope. Takes no memory.
     fn eq(&self, other: &InstrumentationScope) -> bool
         ensures value { result ≡ spec.eq self.now other.now }
         ensures same { IsTrue result ↔ IsSameScope self.now other.now }
@@ -186,7 +186,7 @@ impl Eq for InstrumentationScope {
     ghost laws = { eq-IsEquivalence };
 }
 
-// The attributes at the positions, one after another.
+// Returns an iterator over the attributes at the positions, in order.
 fn hash_in_order<H: Hasher>(attributes: &[KeyValue], positions: &[usize], state: &mut H)
     requires { IsKeyOrder (map attribute_of attributes.now) positions.now }
     ensures { state.new ≡ fold H.write state.old
@@ -202,7 +202,7 @@ impl Hash for InstrumentationScope {
 
     ghost respects_eq = { hash-respects };
 
-    /// Feeds the texts, then the attributes in the order of their keys. Takes no memory.
+    /// Hashes the texts, then the attributes in the order of their keys. Takes no memory.
     fn hash<H: Hasher>(&self, state: &mut H) {
         self.name.hash(state);
         self.version.hash(state);
@@ -211,8 +211,7 @@ impl Hash for InstrumentationScope {
     }
 }
 
-/// The parts of an instrumentation scope while they are given (the Rust crate's
-/// `InstrumentationScopeBuilder`).
+/// Builds an instrumentation scope (the Rust crate's `InstrumentationScopeBuilder`).
 ///
 /// See [`InstrumentationScope`].
 #[derive(Debug, Drop)]
@@ -237,7 +236,7 @@ impl Model for InstrumentationScopeBuilder {
     } };
 }
 
-// How the keys at two positions compare; a position without an attribute is below the others.
+// Compares the keys at two positions. A position without an attribute is less than the others.
 fn by_key(attributes: &[KeyValue], a: usize, b: usize) -> Ordering
     ensures { result ≡ position_cmp (map attribute_of attributes.now) a b }
 {
@@ -246,7 +245,8 @@ fn by_key(attributes: &[KeyValue], a: usize, b: usize) -> Ordering
     first.cmp(&second)
 }
 
-// The positions of the attributes in the order of their keys, those of one key in given order.
+// Returns the positions of the attributes in the order of their keys. Those of one key stay in
+// order.
 fn key_order(alloc: Global, attributes: &[KeyValue]) -> Result<Vec<usize>, AllocError>
     ensures order { IfOk result (λ v. IsKeyOrder (map attribute_of attributes.now) v.items) }
     ensures empty { length attributes.now ≡ 0 → IsOk result }
@@ -260,7 +260,7 @@ fn key_order(alloc: Global, attributes: &[KeyValue]) -> Result<Vec<usize>, Alloc
 }
 
 impl InstrumentationScopeBuilder {
-    /// Sets the version; the last call wins.
+    /// Sets the version, and replaces that of an earlier call.
     pub fn with_version(mut self, version: StringValue) -> InstrumentationScopeBuilder
         ensures { result ≡ spec.with_version version self }
     {
@@ -268,7 +268,7 @@ impl InstrumentationScopeBuilder {
         self
     }
 
-    /// Sets the schema URL; the last call wins.
+    /// Sets the schema URL, and replaces that of an earlier call.
     pub fn with_schema_url(mut self, schema_url: StringValue) -> InstrumentationScopeBuilder
         ensures { result ≡ spec.with_schema_url schema_url self }
     {
@@ -276,8 +276,8 @@ impl InstrumentationScopeBuilder {
         self
     }
 
-    /// Sets the attributes in place of those of an earlier call. Their order, and repeated keys,
-    /// are kept.
+    /// Sets the attributes, and replaces those of an earlier call. Keeps their order and repeated
+    /// keys.
     pub fn with_attributes(mut self, attributes: Vec<KeyValue>) -> InstrumentationScopeBuilder
         ensures { result ≡ spec.with_attributes (map attribute_of attributes.items) self }
     {
@@ -285,14 +285,14 @@ impl InstrumentationScopeBuilder {
         self
     }
 
-    /// The scope of the given parts.
+    /// Returns the scope of what was given.
     ///
-    /// Puts the positions of the attributes into the order of their keys, once. Without attributes
-    /// it takes no memory.
+    /// Sorts the positions of the attributes by their keys, once. Takes no memory if there are no
+    /// attributes.
     ///
     /// # Errors
     ///
-    /// `AllocError` if there are attributes and memory runs out. The parts are
+    /// `AllocError` if out of memory, which is possible only with attributes. What was given is
     /// dropped.
     pub fn build(self, alloc: Global) -> Result<InstrumentationScope, AllocError>
         ensures built { IfOk result (λ s. s ≡ self) }

@@ -1,4 +1,4 @@
-//! How grave a log record is.
+//! The severity of a log record.
 ghost use Rattle.std.specs.Prelude.{◌≡◌, ◌↔◌, ◌==◌, IsTrue};
 ghost use Rattle.std.proofs.Common.{rules};
 ghost use Rattle.std.specs.Cmp.{partial_order_from_own_ties, unsigned_ties};
@@ -8,7 +8,7 @@ ghost use Rattle.otel_base.specs.Severity as spec;
 
 use std::cmp::Ordering;
 
-/// A normalized severity of the OpenTelemetry logs data model, least grave first.
+/// A severity of the OpenTelemetry logs data model, from the least severe.
 ///
 /// Severities are ordered by their numbers.
 ///
@@ -68,7 +68,7 @@ pub enum Severity {
 }
 
 impl Severity {
-    /// The short name of the OpenTelemetry logs data model, as `WARN2`.
+    /// Returns the short name of the OpenTelemetry logs data model, as `WARN2`.
     pub fn name(&self) -> &'static str
         ensures { result.now ≡ spec.name self.now }
     {
@@ -100,9 +100,8 @@ impl Severity {
         }
     }
 
-    /// The number of the OpenTelemetry logs data model, from 1 for `TRACE` to 24 for `FATAL4`.
-    ///
-    /// It stands for `severity as u8`. Not in the Rust crate.
+    /// Returns the number of the OpenTelemetry logs data model, from 1 for `TRACE` to 24 for
+    /// `FATAL4`. Not in the Rust crate, which has `severity as u8`.
     pub fn number(&self) -> u8
         ensures { result ≡ spec.number self.now }
     {
@@ -115,7 +114,7 @@ impl PartialEq for Severity {
 
     ghost laws = { Prim.search (comparing, rules) };
 
-    /// Whether both are the same severity.
+    /// Returns `true` if both are the same severity.
     fn eq(&self, other: &Severity) -> bool
         ensures value { result ≡ (spec.number self.now == spec.number other.now) }
         ensures same { IsTrue result ↔ (self.now ≡ other.now) }

@@ -16,10 +16,11 @@ use std::rc::RcStr;
 
 /// A text as a value (the Rust crate's `StringValue`).
 ///
-/// It means its text, the list of its UTF-8 bytes, whether that is owned, static or shared.
-/// Equality, order (by the bytes), hash and `Display` look at the text only.
+/// Contracts see its text, the list of its UTF-8 bytes, which may be owned, static or shared.
+/// Equality, order (by bytes), hash and `Display` depend on the text only.
 ///
-/// A text of the program is `StringValue::from("acme")`. A text made at run time has to be owned:
+/// A value in the program's text is `StringValue::from("acme")`. A text made at run time has to be
+/// owned:
 ///
 /// ```
 /// let text = StringValue::from(String::from_str(alloc, name)?);
@@ -40,17 +41,17 @@ impl Model for StringValue {
 }
 
 impl StringValue {
-    /// The text.
+    /// Returns the text.
     pub fn as_str(&self) -> &str
         ensures { result.now ≡ self.now }
     {
         self.text.as_str()
     }
 
-    /// The text as an owned `String` (the Rust crate's `From<StringValue> for String`).
+    /// Returns the text as an owned `String` (the Rust crate's `From<StringValue> for String`).
     ///
-    /// A value made from a `String` gives it back without taking memory; a static or shared text is
-    /// copied.
+    /// A value made from a `String` returns that `String` and takes no memory. A static or shared
+    /// text is copied.
     ///
     /// # Errors
     ///
@@ -61,14 +62,14 @@ impl StringValue {
         self.text.into_string(alloc)
     }
 
-    /// The `Display` text of a value (the Rust crate's `From<Value> for StringValue`).
+    /// Returns the `Display` text of a value (the Rust crate's `From<Value> for StringValue`).
     ///
-    /// A text is handed on without taking memory.
+    /// A value that is a text is moved, and takes no memory.
     ///
     /// # Errors
     ///
-    /// `AllocError` if the value is no text and memory runs out. The value is
-    /// dropped.
+    /// `AllocError` if out of memory, which is possible only for a value that isn't a text. The
+    /// value is dropped.
     pub fn from_value(alloc: Global, value: Value) -> Result<StringValue, AllocError>
         ensures text { IfOk result (λ s. s ≡ display (value_of value)) }
         ensures without_memory { IsTrue (is_text (value_of value)) → IsOk result }
@@ -89,7 +90,7 @@ impl PartialEq for StringValue {
 
     ghost laws = { Prim.search (comparing, rules) };
 
-    /// Whether both have the same text, however it is held.
+    /// Returns `true` if both have the same text, whether owned, static or shared.
     fn eq(&self, other: &StringValue) -> bool
         ensures value { result ≡ pointwise nat_eq self.now other.now }
         ensures same { IsTrue result ↔ (self.now ≡ other.now) }
@@ -101,7 +102,7 @@ impl PartialEq for StringValue {
 impl Clone for StringValue {
     ghost is_clone = { λ s copy. copy ≡ s };
 
-    /// A value of the same text. Only an owned text takes memory.
+    /// Returns a value of the same text. Only an owned text takes memory.
     fn clone(&self) -> Result<StringValue, AllocError> {
         Ok(StringValue {
             text: self.text.clone()?,
@@ -112,9 +113,9 @@ impl Clone for StringValue {
 impl From<&'static str> for StringValue {
     ghost from_gives = { λ s k. k ≡ s.now };
 
-    /// The value of a static text.
+    /// Returns the value of a static text.
     ///
-    /// A text made at run time goes in as `StringValue::from(String::from_str(alloc, name)?)`.
+    /// For a text made at run time, write `StringValue::from(String::from_str(alloc, name)?)`.
     fn from(value: &'static str) -> StringValue {
         StringValue {
             text: Text::from(value),
@@ -125,7 +126,7 @@ impl From<&'static str> for StringValue {
 impl From<String> for StringValue {
     ghost from_gives = { λ s k. k ≡ string_bytes s };
 
-    /// The value of an owned text.
+    /// Returns the value of an owned text.
     fn from(value: String) -> StringValue {
         StringValue {
             text: Text::from(value),
@@ -136,7 +137,7 @@ impl From<String> for StringValue {
 impl From<RcStr> for StringValue {
     ghost from_gives = { λ s k. k ≡ rc_str_bytes s };
 
-    /// The value of a shared text.
+    /// Returns the value of a shared text.
     fn from(value: RcStr) -> StringValue {
         StringValue {
             text: Text::from(value),

@@ -1,4 +1,4 @@
-//! A text that is owned, static or shared. It means its bytes, however it is held.
+//! A text that is owned, static or shared. Contracts see its bytes only.
 ghost use Rattle.std.specs.Prelude.{◌≡◌, IfOk, string_bytes, Some, refl, nat_eq, ℕ, List};
 ghost use Rattle.std.specs.Rc.{rc_str_bytes};
 ghost use Rattle.std.specs.Ordering.{nat_cmp};
@@ -15,7 +15,7 @@ use std::hash::{Hash, Hasher};
 use std::marker::Model;
 use std::rc::RcStr;
 
-// How a text is held. A static or shared one is cloned without taking memory.
+// A text, which is owned, static or shared. Cloning a static or shared one takes no memory.
 #[derive(Drop)]
 enum Form {
     Owned(String),

@@ -38,7 +38,7 @@ pub enum Value {
 impl From<bool> for Value {
     ghost from_gives = { λ b v. value_of v ≡ boolean b };
 
-    /// The value of a boolean.
+    /// Returns the value of a boolean.
     fn from(value: bool) -> Value {
         Value::Bool(value)
     }
@@ -47,7 +47,7 @@ impl From<bool> for Value {
 impl From<i64> for Value {
     ghost from_gives = { λ n v. value_of v ≡ integer n };
 
-    /// The value of an integer.
+    /// Returns the value of an integer.
     fn from(value: i64) -> Value {
         Value::I64(value)
     }
@@ -56,7 +56,7 @@ impl From<i64> for Value {
 impl From<StringValue> for Value {
     ghost from_gives = { λ s v. value_of v ≡ text s };
 
-    /// The value of a text.
+    /// Returns the value of a text.
     fn from(value: StringValue) -> Value {
         Value::String(value)
     }
@@ -65,7 +65,7 @@ impl From<StringValue> for Value {
 impl From<&'static str> for Value {
     ghost from_gives = { λ s v. value_of v ≡ text s.now };
 
-    /// The value of a static text.
+    /// Returns the value of a static text.
     fn from(value: &'static str) -> Value {
         Value::String(StringValue::from(value))
     }
@@ -74,7 +74,7 @@ impl From<&'static str> for Value {
 impl From<String> for Value {
     ghost from_gives = { λ s v. value_of v ≡ text (string_bytes s) };
 
-    /// The value of an owned text.
+    /// Returns the value of an owned text.
     fn from(value: String) -> Value {
         Value::String(StringValue::from(value))
     }
@@ -83,20 +83,20 @@ impl From<String> for Value {
 impl From<RcStr> for Value {
     ghost from_gives = { λ s v. value_of v ≡ text (rc_str_bytes s) };
 
-    /// The value of a shared text.
+    /// Returns the value of a shared text.
     fn from(value: RcStr) -> Value {
         Value::String(StringValue::from(value))
     }
 }
 
 impl Value {
-    /// The `Display` text.
+    /// Returns the `Display` text.
     ///
-    /// A text is borrowed and takes no memory; any other value is written out.
+    /// A value that is a text is borrowed, and takes no memory.
     ///
     /// # Errors
     ///
-    /// `AllocError` if the value is no text and memory runs out.
+    /// `AllocError` if out of memory, which is possible only for a value that isn't a text.
     pub fn as_str(&self, alloc: Global) -> Result<CowStr<'_>, AllocError>
         ensures text { IfOk result (λ s. cow_str_bytes s ≡ spec.display (value_of self.now)) }
         ensures without_memory { IsTrue (is_text (value_of self.now)) → IsOk result }
@@ -113,7 +113,7 @@ impl Value {
 }
 
 impl Value {
-    // Appends the `Display` text.
+    // Appends the `Display` text of the value.
     pub(crate) fn append_to(&self, out: &mut String) -> Result<(), AllocError>
         ensures { Appends result out.old (spec.display (value_of self.now)) out.new }
     {
@@ -129,7 +129,7 @@ impl Value {
 impl Clone for Value {
     ghost is_clone = { λ a copy. value_of copy ≡ value_of a };
 
-    /// A value of the same type and content.
+    /// Returns a copy.
     fn clone(&self) -> Result<Value, AllocError> {
         match self {
             Value::Bool(value) => Ok(Value::Bool(*value)),
@@ -146,7 +146,7 @@ impl PartialEq for Value {
     ghost laws = { on_per value_of (partial_equiv_from_equiv
         (equiv_from_decides spec.eq value_eq-Decides)) };
 
-    /// Whether both have the same type and content.
+    /// Returns `true` if both have the same type and content.
     fn eq(&self, other: &Value) -> bool
         ensures value { result ≡ spec.eq (value_of self.now) (value_of other.now) }
         ensures same { IsTrue result ↔ (value_of self.now ≡ value_of other.now) }
