@@ -6,3 +6,4 @@ pub mod Resource
 pub mod ResourceTexts
 pub mod Sampler
 pub mod SamplerLaws
+pub mod SpanData

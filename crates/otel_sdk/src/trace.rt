@@ -1,7 +1,9 @@
-//! Samplers and generators of ids.
+//! What spans record, samplers and generators of ids.
+mod data;
 mod id_generator;
 mod sampler;
 
+pub use data::{SpanData, SpanEvents, SpanLinks};
 pub use id_generator::{CountedIdGenerator, IdError, IdGenerator, RandomIdGenerator};
 pub use sampler::parent_based::ParentBased;
 pub use sampler::{Sampler, SamplingDecision, SamplingResult, ShouldSample, laws};
