@@ -7,3 +7,4 @@ pub mod ResourceTexts
 pub mod Sampler
 pub mod SamplerLaws
 pub mod SpanData
+pub mod SpanLimits
