@@ -1,3 +1,4 @@
+mod FirstChars
 pub mod DrawLemmas
 pub mod Lists
 pub mod Outcomes

@@ -3,5 +3,6 @@
 #![tactic(auto)]
 
 mod attributes;
+mod cutting;
 pub mod resource;
 pub mod trace;
