@@ -1,5 +1,6 @@
-mod FirstChars
+mod BatchLemmas
 pub mod DrawLemmas
+mod FirstChars
 pub mod Lists
 pub mod Outcomes
 pub mod PieceTurns

@@ -1,5 +1,7 @@
 pub mod Attributes
+pub mod Export
 pub mod IdGenerator
+pub mod Processor
 pub mod Ratio
 pub mod RatioLaws
 pub mod Resource

@@ -1,8 +1,10 @@
 //! The beginning of a tracing SDK for the API of the crate `opentelemetry`, after the Rust crate
-//! `opentelemetry_sdk`: resources, samplers and generators of ids.
+//! `opentelemetry_sdk`: resources, samplers, generators of ids, and the way of ended spans to an
+//! exporter.
 #![tactic(auto)]
 
 mod attributes;
 mod cutting;
+pub mod error;
 pub mod resource;
 pub mod trace;

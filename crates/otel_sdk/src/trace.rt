@@ -1,11 +1,20 @@
-//! What spans record, samplers and generators of ids.
+//! What spans record, exporters and processors of spans, samplers and generators of ids.
 mod data;
+mod export;
 mod id_generator;
+mod in_memory_exporter;
 mod limits;
+mod processor;
 mod sampler;
 
 pub use data::{SpanData, SpanEvents, SpanLinks};
+pub use export::SpanExporter;
 pub use id_generator::{CountedIdGenerator, IdError, IdGenerator, RandomIdGenerator};
+pub use in_memory_exporter::InMemorySpanExporter;
 pub use limits::SpanLimits;
+pub use processor::batch::BatchSpanProcessor;
+pub use processor::config::{BatchConfig, BatchConfigBuilder};
+pub use processor::simple::SimpleSpanProcessor;
+pub use processor::{EndRefused, SpanProcessor};
 pub use sampler::parent_based::ParentBased;
 pub use sampler::{Sampler, SamplingDecision, SamplingResult, ShouldSample, laws};

@@ -1,0 +1,74 @@
+//! Processors of spans, which hand ended spans to an exporter.
+ghost use Rattle.std.specs.Prelude.{◌≡◌, IfErr, OnOk, MatchOption};
+ghost use Rattle.otel_sdk.specs.Processor.{IsHandedIn};
+
+pub(crate) mod batch;
+mod batches;
+pub(crate) mod config;
+pub(crate) mod simple;
+
+use crate::error::{OTelSdkError, OTelSdkResult};
+use crate::resource::Resource;
+use crate::trace::data::SpanData;
+use std::rc::Rc;
+
+/// Why the end of a span failed. Not in the Rust crate.
+///
+/// See [`SpanProcessor::on_end`].
+#[derive(Debug, Drop)]
+pub struct EndRefused {
+    /// The span, if it wasn't taken; else it was, and only its export failed.
+    pub span: Option<SpanData>,
+    /// What failed.
+    pub error: OTelSdkError,
+}
+
+/// Takes ended spans, and hands the sampled ones to an exporter (the Rust crate's
+/// `SpanProcessor`). There are no threads: spans are exported in the calls only.
+///
+/// A processor names, by the ghost member `taken`, the sampled spans that it took, in order, and how
+/// many it dropped.
+///
+/// See [`crate::trace::BatchSpanProcessor`] and [`crate::trace::SimpleSpanProcessor`].
+pub trait SpanProcessor: Drop {
+    ghost use Rattle.otel_sdk.specs.Processor.{Taken};
+
+    ghost taken: { Self → Taken };
+
+    /// Takes a span that has ended. A span that isn't sampled is let go.
+    ///
+    /// # Errors
+    ///
+    /// `AlreadyShutdown` after [`SpanProcessor::shutdown`], `Memory` if out of memory: nothing
+    /// changes, and the span comes back. If no span comes back, it was taken, and the error is that
+    /// of the exporter.
+    fn on_end(&mut self, span: SpanData) -> Result<(), EndRefused>
+        ensures ok { OnOk result (IsHandedIn span (taken self.old) (taken self.new)) }
+        ensures err { IfErr result (λ refused. MatchOption refused.span
+            (IsHandedIn span (taken self.old) (taken self.new))
+            (λ back. (back ≡ span) × (taken self.new ≡ taken self.old))) };
+
+    /// Hands the spans that are queued to the exporter, and flushes it.
+    ///
+    /// # Errors
+    ///
+    /// `AlreadyShutdown` after [`SpanProcessor::shutdown`], or the exporter's. What it didn't accept
+    /// stays queued, in order.
+    fn force_flush(&mut self) -> OTelSdkResult
+        ensures { taken self.new ≡ taken self.old };
+
+    /// Flushes the processor, and shuts it and its exporter down. From then on each call returns
+    /// `AlreadyShutdown`.
+    ///
+    /// # Errors
+    ///
+    /// `AlreadyShutdown` after an earlier call, or the exporter's. If the flush failed, the
+    /// processor stays open for another try.
+    fn shutdown(&mut self) -> OTelSdkResult;
+
+    /// Tells the exporter the resource of the spans to come. Does nothing unless a processor says
+    /// otherwise.
+    fn set_resource(&mut self, _resource: Rc<Resource>)
+        ensures { taken self.new ≡ taken self.old }
+    {}
+}

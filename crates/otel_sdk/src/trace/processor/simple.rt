@@ -1,0 +1,127 @@
+//! The processor that exports each span when it ends.
+ghost use Rattle.std.specs.Prelude.{◌≡◌, [], IfErr, OnOk, MatchOption};
+ghost use Rattle.otel_sdk.specs.Processor as spec;
+ghost use Rattle.otel_sdk.specs.Processor.{IsFlushed, IsHandedIn, taken_of};
+ghost use Rattle.otel_sdk.specs.Processor.{IsRefusedIfClosed, FailedIfOpen, FlushedIfClosed};
+
+use crate::error::OTelSdkResult;
+use crate::resource::Resource;
+use crate::trace::data::SpanData;
+use crate::trace::export::SpanExporter;
+use crate::trace::processor::batch::BatchSpanProcessor;
+use crate::trace::processor::config::BatchConfigBuilder;
+use crate::trace::processor::{EndRefused, SpanProcessor};
+use std::alloc::Global;
+use std::marker::Model;
+use std::rc::Rc;
+
+/// Exports each sampled span when it ends, in a batch of its own (the Rust crate's
+/// `SimpleSpanProcessor`).
+///
+/// A span that the exporter refuses is queued, up to 2,048 of them, and is handed in again, before
+/// others, at the next end or flush.
+///
+/// ```
+/// let mut processor = SimpleSpanProcessor::new(alloc, exporter);
+/// ```
+#[derive(Drop)]
+pub struct SimpleSpanProcessor<E> {
+    inner: BatchSpanProcessor<E>,
+}
+
+impl<E> Model for SimpleSpanProcessor<E> {
+    ghost use Rattle.otel_sdk.specs.Processor.{ProcessorState};
+
+    ghost Value = { ProcessorState E };
+
+    ghost view = { λ p. p.inner };
+}
+
+impl<E: SpanExporter> SimpleSpanProcessor<E> {
+    /// Returns a processor without spans. Takes no memory.
+    pub fn new(alloc: Global, exporter: E) -> SimpleSpanProcessor<E>
+        ensures { result ≡ spec.new exporter spec.single_limits }
+    {
+        let config = BatchConfigBuilder::default()
+            .with_max_export_batch_size(1)
+            .build();
+        SimpleSpanProcessor {
+            inner: BatchSpanProcessor::new(alloc, exporter, config),
+        }
+    }
+
+    /// Returns the exporter.
+    pub fn exporter(&self) -> &E
+        ensures { result.now ≡ self.now.exporter }
+    {
+        self.inner.exporter()
+    }
+
+    /// Returns how many sampled spans met a full queue and were dropped. Stops at the greatest
+    /// `u64`.
+    pub fn dropped_spans(&self) -> u64
+        ensures { result ≡ self.now.dropped_spans }
+    {
+        self.inner.dropped_spans()
+    }
+}
+
+impl<E: SpanExporter> SpanProcessor for SimpleSpanProcessor<E> {
+    ghost use Rattle.otel_sdk.specs.Processor.{taken_of};
+
+    ghost taken = { taken_of E.accepted };
+
+    /// Queues a sampled span, and flushes the processor. A span that isn't sampled is let go.
+    ///
+    /// # Errors
+    ///
+    /// `AlreadyShutdown` after [`SpanProcessor::shutdown`], else `Memory` if out of memory: nothing
+    /// changes, and the span comes back. Else that of the flush, and no span comes back: what the
+    /// exporter didn't accept stays queued, in order.
+    fn on_end(&mut self, span: SpanData) -> Result<(), EndRefused>
+        ensures ok { OnOk result (IsFlushed E.accepted (spec.after_end span self.old) self.new
+            × (self.new.queue ≡ [])) }
+        ensures refused { IfErr result (λ refused. MatchOption refused.span
+            (IsFlushed E.accepted (spec.after_end span self.old) self.new)
+            (λ back. (back ≡ span) × (self.new ≡ self.old)
+            × (refused.error ≡ spec.cause self.old))) }
+        ensures handed_in { OnOk result
+            (IsHandedIn span (taken_of E.accepted self.old) (taken_of E.accepted self.new)) }
+        ensures not_exported { IfErr result (λ refused. MatchOption refused.span
+            (IsHandedIn span (taken_of E.accepted self.old) (taken_of E.accepted self.new))
+            (λ back. (back ≡ span)
+            × (taken_of E.accepted self.new ≡ taken_of E.accepted self.old))) }
+    {
+        self.inner.on_end(span)?;
+        match self.inner.force_flush() {
+            Ok(()) => Ok(()),
+            Err(error) => Err(EndRefused { span: None, error }),
+        }
+    }
+
+    fn force_flush(&mut self) -> OTelSdkResult
+        ensures flushed { IsFlushed E.accepted self.old self.new }
+        ensures taken { taken_of E.accepted self.new ≡ taken_of E.accepted self.old }
+        ensures ok { OnOk result (self.new.queue ≡ []) }
+        ensures closed { IsRefusedIfClosed result self.old self.new }
+    {
+        self.inner.force_flush()
+    }
+
+    fn shutdown(&mut self) -> OTelSdkResult
+        ensures closed { IsRefusedIfClosed result self.old self.new }
+        ensures open { FailedIfOpen E.accepted result self.old self.new }
+        ensures shut_down { FlushedIfClosed E.accepted E.shuts_down self.old self.new }
+    {
+        self.inner.shutdown()
+    }
+
+    /// Tells the exporter the resource of the spans to come.
+    fn set_resource(&mut self, resource: Rc<Resource>)
+        ensures exporter { E.accepted self.new.exporter ≡ E.accepted self.old.exporter }
+        ensures same { self.new ≡ record self.old { exporter = self.new.exporter } }
+        ensures taken { taken_of E.accepted self.new ≡ taken_of E.accepted self.old }
+    {
+        self.inner.set_resource(resource);
+    }
+}
