@@ -1,4 +1,6 @@
-//! Resources and samplers.
+//! Resources, samplers, and the way of spans to an exporter.
+mod export;
+
 use crate::lines::Lines;
 use opentelemetry::trace::{SpanContext, SpanId, SpanKind, TraceFlags, TraceId, TraceState};
 use opentelemetry::{Context, Key, KeyValue, StringValue, Value};
@@ -19,6 +21,7 @@ pub fn play<R: Print>(alloc: Global, lines: &Lines<'_, R>) {
         lines.answer_of(sampler.description(alloc));
     }
     resources(alloc, lines);
+    export::play(alloc, lines);
 }
 
 fn resources<R: Print>(alloc: Global, lines: &Lines<'_, R>) {

@@ -1,7 +1,10 @@
-//! What no clause says of resources, samplers and generators of ids: that calls succeed, texts as printed, and worked cases.
+//! What no clause says of resources, samplers, generators of ids, processors and exporters: that
+//! calls succeed, texts as printed, and worked cases.
 #![tactic(auto)]
 
+mod exporter;
 mod id_generator;
+mod processor;
 mod ratio;
 mod resource;
 mod sampler;

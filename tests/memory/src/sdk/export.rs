@@ -1,0 +1,112 @@
+//! Processors and exporters of spans.
+use crate::lines::Lines;
+use opentelemetry::trace::{SpanContext, SpanId, SpanKind, Status, TraceFlags, TraceId, TraceState};
+use opentelemetry::{InstrumentationScope, StringValue};
+use otel_sdk::trace::{
+    BatchSpanProcessor, EndRefused, InMemorySpanExporter, SimpleSpanProcessor, SpanData,
+    SpanEvents, SpanExporter, SpanLinks, SpanProcessor,
+};
+use std::alloc::{AllocError, Global};
+use std::rc::Rc;
+
+pub fn play<R: Print>(alloc: Global, lines: &Lines<'_, R>) {
+    if lines.begin("batch-processor-on-end") {
+        lines.end(end_queued(alloc, lines));
+    }
+    if lines.begin("batch-processor-force-flush") {
+        lines.end(flush(alloc, lines));
+    }
+    if lines.begin("simple-processor-on-end") {
+        lines.end(end_exported(alloc, lines));
+    }
+    if lines.begin("finished-spans") {
+        lines.end(finished(alloc, lines));
+    }
+}
+
+/// A sampled span that ended.
+fn span(alloc: Global) -> Result<SpanData, AllocError> {
+    let scope = InstrumentationScope::builder(StringValue::from("s")).build(alloc)?;
+    let (trace_id, span_id) = (TraceId::from(1), SpanId::from(2));
+    let state = TraceState::NONE;
+    Ok(SpanData {
+        span_context: SpanContext::new(trace_id, span_id, TraceFlags::SAMPLED, false, state),
+        parent_span_id: SpanId::INVALID,
+        parent_span_is_remote: false,
+        span_kind: SpanKind::Internal,
+        name: StringValue::from("work"),
+        start_time: 1,
+        end_time: 2,
+        attributes: Vec::new(alloc),
+        dropped_attributes_count: 0,
+        events: SpanEvents {
+            events: Vec::new(alloc),
+            dropped_count: 0,
+        },
+        links: SpanLinks {
+            links: Vec::new(alloc),
+            dropped_count: 0,
+        },
+        status: Status::Unset,
+        instrumentation_scope: Rc::new(alloc, scope)?,
+    })
+}
+
+fn processor(alloc: Global) -> BatchSpanProcessor<InMemorySpanExporter> {
+    let exporter = InMemorySpanExporter::new(alloc);
+    BatchSpanProcessor::new(alloc, exporter, Default::default())
+}
+
+/// Prints the answer, and returns how many spans it leaves in the queue, if all accepted ones leave
+/// it: one that comes back isn't there.
+fn ended<R: Print>(lines: &Lines<'_, R>, answer: Result<(), EndRefused>, taken: usize) -> usize {
+    match answer {
+        Ok(()) => {
+            lines.answer(&"taken");
+            taken
+        }
+        Err(refused) => {
+            lines.answer(&refused.error);
+            if refused.span.is_some() { 0 } else { 1 }
+        }
+    }
+}
+
+fn end_queued<R: Print>(alloc: Global, lines: &Lines<'_, R>) -> Result<(), AllocError> {
+    let span = span(alloc)?;
+    let mut processor = processor(alloc);
+    let count = ended(lines, processor.on_end(span), 1);
+    lines.due(processor.queued_spans() == count && processor.dropped_spans() == 0);
+    Ok(())
+}
+
+fn flush<R: Print>(alloc: Global, lines: &Lines<'_, R>) -> Result<(), AllocError> {
+    let span = span(alloc)?;
+    let mut processor = processor(alloc);
+    if processor.on_end(span).is_err() {
+        return Err(AllocError);
+    }
+    let answer = processor.force_flush();
+    let left = if answer.is_ok() { 0 } else { 1 };
+    lines.answer_named("flushed", answer);
+    lines.due(processor.queued_spans() == left);
+    Ok(())
+}
+
+fn end_exported<R: Print>(alloc: Global, lines: &Lines<'_, R>) -> Result<(), AllocError> {
+    let span = span(alloc)?;
+    let mut processor = SimpleSpanProcessor::new(alloc, InMemorySpanExporter::new(alloc));
+    let count = ended(lines, processor.on_end(span), 0);
+    lines.due(processor.queued_spans() == count && processor.dropped_spans() == 0);
+    Ok(())
+}
+
+fn finished<R: Print>(alloc: Global, lines: &Lines<'_, R>) -> Result<(), AllocError> {
+    let batch = [span(alloc)?];
+    let mut exporter = InMemorySpanExporter::new(alloc);
+    if exporter.export(&batch).is_err() {
+        return Err(AllocError);
+    }
+    lines.answer_of(exporter.get_finished_spans().map(|spans| spans.len()));
+    Ok(())
+}

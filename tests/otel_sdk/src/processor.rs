@@ -1,0 +1,255 @@
+//! What processors hand to an exporter: worked runs.
+use opentelemetry::trace::{
+    SpanContext, SpanId, SpanKind, Status, TraceFlags, TraceId, TraceState,
+};
+use opentelemetry::{InstrumentationScope, StringValue};
+use otel_sdk::error::{OTelSdkError, OTelSdkResult};
+use otel_sdk::trace::{
+    BatchConfigBuilder, BatchSpanProcessor, InMemorySpanExporter, SimpleSpanProcessor, SpanData,
+    SpanEvents, SpanExporter, SpanLinks, SpanProcessor,
+};
+use std::alloc::{AllocError, Global};
+use std::rc::Rc;
+use std::test::Fail;
+
+/// A span that ended, with this number for its span id.
+pub fn span(alloc: Global, number: u64, flags: u8) -> Result<SpanData, AllocError> {
+    let scope = InstrumentationScope::builder(StringValue::from("tests")).build(alloc)?;
+    Ok(SpanData {
+        span_context: SpanContext::new(
+            TraceId::from(7),
+            SpanId::from(number),
+            TraceFlags::new(flags),
+            false,
+            TraceState::NONE,
+        ),
+        parent_span_id: SpanId::INVALID,
+        parent_span_is_remote: false,
+        span_kind: SpanKind::Internal,
+        name: StringValue::from("work"),
+        start_time: 1,
+        end_time: 2,
+        attributes: Vec::new(alloc),
+        dropped_attributes_count: 0,
+        events: SpanEvents {
+            events: Vec::new(alloc),
+            dropped_count: 0,
+        },
+        links: SpanLinks {
+            links: Vec::new(alloc),
+            dropped_count: 0,
+        },
+        status: Status::Unset,
+        instrumentation_scope: Rc::new(alloc, scope)?,
+    })
+}
+
+/// An exporter with a plan: at `+` it accepts a batch, and else refuses it. It writes down each
+/// batch as the spans' numbers in brackets, with a `!` if it refuses it.
+#[derive(Drop)]
+struct Planned {
+    kept: InMemorySpanExporter,
+    plan: &'static [u8],
+    log: String,
+}
+
+impl Planned {
+    fn new(alloc: Global, plan: &'static str) -> Planned {
+        Planned {
+            kept: InMemorySpanExporter::new(alloc),
+            plan: plan.as_bytes(),
+            log: String::new(alloc),
+        }
+    }
+}
+
+impl SpanExporter for Planned {
+    ghost accepted = { λ e. e.kept.accepted };
+
+    ghost shuts_down = { λ _ _. Unit {0} };
+
+    fn export(&mut self, batch: &[SpanData]) -> OTelSdkResult {
+        let mut gap = "[";
+        for span in batch {
+            self.log.push_str(gap)?;
+            let number = span.span_context.span_id().to_bytes()[7];
+            self.log.push((b'0' + number % 10) as char)?;
+            gap = " ";
+        }
+        self.log.push(']')?;
+        let [first, rest @ ..] = self.plan else {
+            return Err(OTelSdkError::AlreadyShutdown);
+        };
+        let accepts = *first == b'+';
+        self.plan = rest;
+        if accepts {
+            return self.kept.export(batch);
+        }
+        self.log.push('!')?;
+        Err(OTelSdkError::InternalFailure(String::new(*self.log.allocator())))
+    }
+
+    fn force_flush(&mut self) -> OTelSdkResult {
+        self.kept.force_flush()
+    }
+
+    fn shutdown(&mut self) -> OTelSdkResult {
+        self.kept.shutdown()
+    }
+}
+
+/// Writes down the error of a call: `closed` or `failed`.
+fn report(errors: &mut String, error: &OTelSdkError) -> Result<(), AllocError> {
+    errors.push_str(match error {
+        OTelSdkError::AlreadyShutdown => " closed",
+        _ => " failed",
+    })
+}
+
+/// Makes the calls of a script: `e1` ends the sampled span 1, `u1` ends it unsampled, `f` flushes,
+/// and `s` shuts down. Returns the errors.
+fn played<P: SpanProcessor>(
+    alloc: Global,
+    processor: &mut P,
+    script: &'static str,
+) -> Result<String, Fail> {
+    let mut errors = String::new(alloc);
+    for call in script.split(' ') {
+        let error = match call.as_bytes() {
+            [b'f'] => processor.force_flush().err(),
+            [b's'] => processor.shutdown().err(),
+            [kind, number] => {
+                let flags = if *kind == b'e' { 3 } else { 2 };
+                let span = span(alloc, (*number - b'0') as u64, flags)?;
+                processor.on_end(span).err().map(|refused| refused.error)
+            }
+            _ => None,
+        };
+        if let Some(error) = error {
+            report(&mut errors, &error)?;
+        }
+    }
+    Ok(errors)
+}
+
+/// The limits of the queue and of a batch, the exporter's plan, the calls; the batches that the
+/// exporter is handed, the errors, how many spans are left in the queue, and how many were dropped.
+type Row = (
+    usize,
+    usize,
+    &'static str,
+    &'static str,
+    &'static str,
+    &'static str,
+    usize,
+    u64,
+);
+
+const RUNS: &[Row] = &[
+    (4, 2, "++", "e1 e2 e3 f", "[1 2][3]", "", 0, 0),
+    (4, 2, "-++", "e1 e2 e3 f", "[1 2]!", " failed", 3, 0),
+    (
+        4,
+        2,
+        "-++",
+        "e1 e2 e3 f f",
+        "[1 2]![1 2][3]",
+        " failed",
+        0,
+        0,
+    ),
+    (
+        4,
+        2,
+        "+-+",
+        "e1 e2 e3 f e4 f",
+        "[1 2][3]![3 4]",
+        " failed",
+        0,
+        0,
+    ),
+    (4, 2, "++", "e1 e2 e3 e4 e5 e6 f", "[1 2][3 4]", "", 0, 2),
+    (
+        4,
+        2,
+        "-++",
+        "e1 e2 e3 e4 f e5 f",
+        "[1 2]![1 2][3 4]",
+        " failed",
+        0,
+        1,
+    ),
+    (4, 2, "-+", "e1 s e2 s", "[1]![1 2]", " failed", 0, 0),
+    (
+        4,
+        2,
+        "+",
+        "e1 s e2 f s",
+        "[1]",
+        " closed closed closed",
+        0,
+        0,
+    ),
+    (4, 2, "", "f", "", "", 0, 0),
+    (4, 2, "+", "e1 f f", "[1]", "", 0, 0),
+    (4, 2, "+", "e2 e1 f", "[2 1]", "", 0, 0),
+    (4, 2, "+", "e1 u2 f", "[1]", "", 0, 0),
+    (2, 4, "+", "e1 e2 e3 f", "[1 2]", "", 0, 1),
+    (0, 0, "+", "e1 e2 f", "[1]", "", 0, 1),
+];
+
+#[test]
+fn batches_are_handed_over(rt: HostRuntime) -> Result<(), Fail> {
+    let alloc = rt.alloc();
+    for (queue, batch, plan, script, batches, errors, queued, dropped) in RUNS {
+        let config = BatchConfigBuilder::default()
+            .with_max_queue_size(*queue)
+            .with_max_export_batch_size(*batch)
+            .build();
+        let mut processor = BatchSpanProcessor::new(alloc, Planned::new(alloc, plan), config);
+        let found = played(alloc, &mut processor, script)?;
+        assert_eq!(rt; processor.exporter().log.as_str(), *batches, "{script}");
+        assert_eq!(rt; found.as_str(), *errors, "{script}");
+        assert_eq!(rt; processor.queued_spans(), *queued, "{script}");
+        assert_eq!(rt; processor.dropped_spans(), *dropped, "{script}");
+    }
+    Ok(())
+}
+
+#[test]
+fn a_simple_processor_exports_each_span(rt: HostRuntime) -> Result<(), Fail> {
+    let alloc = rt.alloc();
+    let mut processor = SimpleSpanProcessor::new(alloc, Planned::new(alloc, "-++"));
+    let errors = played(alloc, &mut processor, "e1 u2 e3 s e4")?;
+    assert_eq!(rt; processor.exporter().log.as_str(), "[1]![1][3]");
+    assert_eq!(rt; errors.as_str(), " failed closed");
+    assert_eq!(rt; processor.dropped_spans(), 0);
+    Ok(())
+}
+
+#[test]
+fn a_queue_has_room_for_2048_spans(rt: HostRuntime) -> Result<(), Fail> {
+    let alloc = rt.alloc();
+    let exporter = InMemorySpanExporter::new(alloc);
+    let mut processor = BatchSpanProcessor::new(alloc, exporter, Default::default());
+    for number in 0..2050 {
+        assert!(rt; processor.on_end(span(alloc, number, 1)?).is_ok());
+    }
+    assert_eq!(rt; processor.queued_spans(), 2048);
+    assert_eq!(rt; processor.dropped_spans(), 2);
+    Ok(())
+}
+
+#[test]
+fn a_span_that_is_not_taken_comes_back(rt: HostRuntime) -> Result<(), Fail> {
+    let alloc = rt.alloc();
+    let exporter = InMemorySpanExporter::new(alloc);
+    let mut processor = BatchSpanProcessor::new(alloc, exporter, Default::default());
+    assert!(rt; processor.shutdown().is_ok());
+    let Err(refused) = processor.on_end(span(alloc, 5, 1)?) else {
+        return Err(Fail::from("taken"));
+    };
+    let back = refused.span.ok_or("no span comes back")?;
+    assert_eq!(rt; back.span_context.span_id(), SpanId::from(5));
+    Ok(())
+}
