@@ -1,6 +1,6 @@
 -- What processors of ended spans keep, and what their calls do.
-use Rattle.std.specs.Prelude.{◌≡◌, ◌⊎◌, ℕ, ◌+◌, ◌-◌, ◌^◌, Bool, true, false, List, [], ◌∷◌, ◌++◌, length}
-use Rattle.std.specs.Prelude.{Result, IsErr, IsErrOf, IsTrue, not, MatchBool, nat_lt, min, max}
+use Rattle.std.specs.Prelude.{◌≡◌, ◌⊎◌, ℕ, ◌+◌, ◌-◌, ◌^◌, Bool, true, false, List, [], ◌∷◌, ◌++◌}
+use Rattle.std.specs.Prelude.{length, Result, IsErr, IsErrOf, IsTrue, not, MatchBool, nat_lt, min, max}
 use Rattle.std.specs.Prelude.{if◌then◌else◌, alloc_error, refl}
 use Rattle.otel_ids.specs.TraceFlags as flags
 use Rattle.otel_sdk.specs.SpanData.{SpanRecord}
@@ -125,7 +125,8 @@ module _ {E : Type 0} where
     pub closed : new ≡ record flushed { exporter = new.exporter; is_shut_down = true }
 
   -- a call of a processor that was shut down changes nothing
-  abbrev pub IsRefusedIfClosed : Result (Unit {0}) OTelSdkError → ProcessorState E → ProcessorState E → Type 0
+  abbrev pub IsRefusedIfClosed : Result (Unit {0}) OTelSdkError
+      → ProcessorState E → ProcessorState E → Type 0
   IsRefusedIfClosed answer old new =
       IsTrue old.is_shut_down → IsErrOf answer AlreadyShutdown × (new ≡ old)
 

@@ -9,7 +9,7 @@ use thiserror::Error;
 /// nothing waits here).
 ///
 /// ```
-/// assert!(rt; matches!(exporter.export(&[]), Err(OTelSdkError::AlreadyShutdown)));
+/// assert!(rt; matches!(answer, Err(OTelSdkError::AlreadyShutdown)));
 /// ```
 #[derive(Debug, Drop, Error)]
 pub enum OTelSdkError {

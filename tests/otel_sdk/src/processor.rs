@@ -206,7 +206,8 @@ fn batches_are_handed_over(rt: HostRuntime) -> Result<(), Fail> {
             .with_max_queue_size(*queue)
             .with_max_export_batch_size(*batch)
             .build();
-        let mut processor = BatchSpanProcessor::new(alloc, Planned::new(alloc, plan), config);
+        let exporter = Planned::new(alloc, plan);
+        let mut processor = BatchSpanProcessor::new(alloc, exporter, config);
         let found = played(alloc, &mut processor, script)?;
         assert_eq!(rt; processor.exporter().log.as_str(), *batches, "{script}");
         assert_eq!(rt; found.as_str(), *errors, "{script}");
@@ -219,10 +220,12 @@ fn batches_are_handed_over(rt: HostRuntime) -> Result<(), Fail> {
 #[test]
 fn a_simple_processor_exports_each_span(rt: HostRuntime) -> Result<(), Fail> {
     let alloc = rt.alloc();
-    let mut processor = SimpleSpanProcessor::new(alloc, Planned::new(alloc, "-++"));
+    let exporter = Planned::new(alloc, "-++");
+    let mut processor = SimpleSpanProcessor::new(alloc, exporter);
     let errors = played(alloc, &mut processor, "e1 u2 e3 s e4")?;
     assert_eq!(rt; processor.exporter().log.as_str(), "[1]![1][3]");
     assert_eq!(rt; errors.as_str(), " failed closed");
+    assert_eq!(rt; processor.queued_spans(), 0);
     assert_eq!(rt; processor.dropped_spans(), 0);
     Ok(())
 }
@@ -237,6 +240,15 @@ fn a_queue_has_room_for_2048_spans(rt: HostRuntime) -> Result<(), Fail> {
     }
     assert_eq!(rt; processor.queued_spans(), 2048);
     assert_eq!(rt; processor.dropped_spans(), 2);
+    let exporter = InMemorySpanExporter::new(alloc);
+    let config = BatchConfigBuilder::default()
+        .with_max_queue_size(4096)
+        .build();
+    let mut processor = BatchSpanProcessor::new(alloc, exporter, config);
+    for number in 0..2050 {
+        assert!(rt; processor.on_end(span(alloc, number, 1)?).is_ok());
+    }
+    assert_eq!(rt; processor.queued_spans(), 2050);
     Ok(())
 }
 

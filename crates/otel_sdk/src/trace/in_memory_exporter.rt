@@ -1,5 +1,6 @@
 //! An exporter that keeps spans in memory.
-ghost use Rattle.std.specs.Prelude.{◌≡◌, [], ◌∷◌, ◌++◌, false, IsOk, IsTrue, OnOk, OnErr, IfOk, IsErrOf};
+ghost use Rattle.std.specs.Prelude.{◌≡◌, [], ◌∷◌, ◌++◌, false};
+ghost use Rattle.std.specs.Prelude.{IsOk, IsTrue, OnOk, OnErr, IfOk, IsErrOf};
 ghost use Rattle.otel_sdk.specs.Export.{spans_of};
 
 mod copies;
@@ -85,7 +86,8 @@ impl SpanExporter for InMemorySpanExporter {
     fn export(&mut self, batch: &[SpanData]) -> OTelSdkResult
         ensures ok { OnOk result (self.new.accepted ≡ self.old.accepted ++ batch.now ∷ []) }
         ensures err { OnErr result (self.new ≡ self.old) }
-        ensures closed { IsTrue self.old.is_shut_down → IsErrOf result OTelSdkError.AlreadyShutdown }
+        ensures closed { IsTrue self.old.is_shut_down
+            → IsErrOf result OTelSdkError.AlreadyShutdown }
     {
         if self.is_shut_down {
             return Err(OTelSdkError::AlreadyShutdown);

@@ -26,8 +26,8 @@ pub struct EndRefused {
 /// Takes ended spans, and hands the sampled ones to an exporter (the Rust crate's
 /// `SpanProcessor`). There are no threads: spans are exported in the calls only.
 ///
-/// A processor names, by the ghost member `taken`, the sampled spans that it took, in order, and how
-/// many it dropped.
+/// A processor names, by the ghost member `taken`, the sampled spans that it took, in order, and
+/// how many it dropped.
 ///
 /// See [`crate::trace::BatchSpanProcessor`] and [`crate::trace::SimpleSpanProcessor`].
 pub trait SpanProcessor: Drop {
@@ -52,8 +52,8 @@ pub trait SpanProcessor: Drop {
     ///
     /// # Errors
     ///
-    /// `AlreadyShutdown` after [`SpanProcessor::shutdown`], or the exporter's. What it didn't accept
-    /// stays queued, in order.
+    /// `AlreadyShutdown` after [`SpanProcessor::shutdown`], or the exporter's. What it didn't
+    /// accept stays queued, in order.
     fn force_flush(&mut self) -> OTelSdkResult
         ensures { taken self.new ≡ taken self.old };
 

@@ -1,7 +1,10 @@
 //! Processors and exporters of spans.
 use crate::lines::Lines;
-use opentelemetry::trace::{SpanContext, SpanId, SpanKind, Status, TraceFlags, TraceId, TraceState};
+use opentelemetry::trace::{
+    SpanContext, SpanId, SpanKind, Status, TraceFlags, TraceId, TraceState,
+};
 use opentelemetry::{InstrumentationScope, StringValue};
+use otel_sdk::error::OTelSdkResult;
 use otel_sdk::trace::{
     BatchSpanProcessor, EndRefused, InMemorySpanExporter, SimpleSpanProcessor, SpanData,
     SpanEvents, SpanExporter, SpanLinks, SpanProcessor,
@@ -16,8 +19,20 @@ pub fn play<R: Print>(alloc: Global, lines: &Lines<'_, R>) {
     if lines.begin("batch-processor-force-flush") {
         lines.end(flush(alloc, lines));
     }
+    if lines.begin("batch-processor-shutdown") {
+        lines.end(shut_down(alloc, lines));
+    }
     if lines.begin("simple-processor-on-end") {
         lines.end(end_exported(alloc, lines));
+    }
+    if lines.begin("simple-processor-force-flush") {
+        lines.end(again(alloc, lines, |processor| processor.force_flush()));
+    }
+    if lines.begin("simple-processor-shutdown") {
+        lines.end(again(alloc, lines, |processor| processor.shutdown()));
+    }
+    if lines.begin("exporter-export") {
+        lines.end(export(alloc, lines));
     }
     if lines.begin("finished-spans") {
         lines.end(finished(alloc, lines));
@@ -51,6 +66,8 @@ fn span(alloc: Global) -> Result<SpanData, AllocError> {
         instrumentation_scope: Rc::new(alloc, scope)?,
     })
 }
+
+type Simple = SimpleSpanProcessor<InMemorySpanExporter>;
 
 fn processor(alloc: Global) -> BatchSpanProcessor<InMemorySpanExporter> {
     let exporter = InMemorySpanExporter::new(alloc);
@@ -93,11 +110,56 @@ fn flush<R: Print>(alloc: Global, lines: &Lines<'_, R>) -> Result<(), AllocError
     Ok(())
 }
 
+fn shut_down<R: Print>(alloc: Global, lines: &Lines<'_, R>) -> Result<(), AllocError> {
+    let span = span(alloc)?;
+    let mut processor = processor(alloc);
+    if processor.on_end(span).is_err() {
+        return Err(AllocError);
+    }
+    let answer = processor.shutdown();
+    let left = if answer.is_ok() { 0 } else { 1 };
+    lines.answer_named("shut down", answer);
+    lines.due(processor.queued_spans() == left);
+    Ok(())
+}
+
+fn simple(alloc: Global) -> Simple {
+    SimpleSpanProcessor::new(alloc, InMemorySpanExporter::new(alloc))
+}
+
 fn end_exported<R: Print>(alloc: Global, lines: &Lines<'_, R>) -> Result<(), AllocError> {
     let span = span(alloc)?;
-    let mut processor = SimpleSpanProcessor::new(alloc, InMemorySpanExporter::new(alloc));
+    let mut processor = simple(alloc);
     let count = ended(lines, processor.on_end(span), 0);
     lines.due(processor.queued_spans() == count && processor.dropped_spans() == 0);
+    Ok(())
+}
+
+/// A call after an end that may have left its span in the queue.
+fn again<R: Print>(
+    alloc: Global,
+    lines: &Lines<'_, R>,
+    call: fn(&mut Simple) -> OTelSdkResult,
+) -> Result<(), AllocError> {
+    let mut processor = simple(alloc);
+    if let Err(refused) = processor.on_end(span(alloc)?) {
+        if refused.span.is_some() {
+            return Err(AllocError);
+        }
+    }
+    let answer = call(&mut processor);
+    let left = if answer.is_ok() { 0 } else { 1 };
+    lines.answer_named("done", answer);
+    lines.due(processor.queued_spans() == left);
+    Ok(())
+}
+
+fn export<R: Print>(alloc: Global, lines: &Lines<'_, R>) -> Result<(), AllocError> {
+    let batch = [span(alloc)?];
+    let mut exporter = InMemorySpanExporter::new(alloc);
+    lines.answer_named("accepted", exporter.export(&batch));
+    lines.free_ok("InMemorySpanExporter::force_flush", exporter.force_flush());
+    lines.free_ok("InMemorySpanExporter::shutdown", exporter.shutdown());
     Ok(())
 }
 

@@ -22,7 +22,7 @@ use std::rc::Rc;
 /// queued, in order.
 ///
 /// ```
-/// let mut processor = BatchSpanProcessor::new(alloc, exporter, BatchConfig::default());
+/// let mut processor = BatchSpanProcessor::new(alloc, exporter, config);
 /// ```
 #[derive(Drop)]
 pub struct BatchSpanProcessor<E> {

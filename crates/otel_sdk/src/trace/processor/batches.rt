@@ -15,7 +15,8 @@ pub(crate) fn export_batches<E: SpanExporter>(
 ) -> (usize, OTelSdkResult)
     requires { 0 < size }
     ensures within { result.0 ≤ length spans.now }
-    ensures exported { AreExported size spans.now (E.accepted exporter.old) (E.accepted exporter.new)
+    ensures exported { AreExported size spans.now
+        (E.accepted exporter.old) (E.accepted exporter.new)
         (drop (length spans.now - result.0) spans.now) }
     ensures outcome { IsOk result.1 ↔ (result.0 ≡ 0) }
 {

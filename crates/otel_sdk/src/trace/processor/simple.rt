@@ -1,5 +1,5 @@
 //! The processor that exports each span when it ends.
-ghost use Rattle.std.specs.Prelude.{◌≡◌, [], IfErr, OnOk, MatchOption};
+ghost use Rattle.std.specs.Prelude.{◌≡◌, [], length, IfErr, OnOk, MatchOption};
 ghost use Rattle.otel_sdk.specs.Processor as spec;
 ghost use Rattle.otel_sdk.specs.Processor.{IsFlushed, IsHandedIn, taken_of};
 ghost use Rattle.otel_sdk.specs.Processor.{IsRefusedIfClosed, FailedIfOpen, FlushedIfClosed};
@@ -63,6 +63,13 @@ impl<E: SpanExporter> SimpleSpanProcessor<E> {
         ensures { result ≡ self.now.dropped_spans }
     {
         self.inner.dropped_spans()
+    }
+
+    /// Returns the number of spans that are queued, as the exporter refused them.
+    pub fn queued_spans(&self) -> usize
+        ensures { result ≡ length self.now.queue }
+    {
+        self.inner.queued_spans()
     }
 }
 
