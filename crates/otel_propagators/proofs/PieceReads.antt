@@ -1,11 +1,11 @@
 -- What the pieces of a header are read as.
-use Rattle.std.proofs.Common.{◌≡◌, ℕ, ◌+◌, ◌<◌, ◌≤◌, Bool, true, false, List, [], ◌∷◌, ◌++◌, length, drop, get_or, Some, None, inl, inr, refl, sym, ap, subst, ◌∙◌, arith, append_assoc, All}
+use Rattle.std.proofs.Common.{◌≡◌, ℕ, ◌+◌, ◌<◌, ◌≤◌, Bool, true, false, List, [], ◌∷◌, ◌++◌, length, drop, get_or, Option, Some, None, inl, inr, refl, sym, ap, subst, ◌∙◌, arith, append_assoc, All}
 use Rattle.std.specs.Prelude.{◌&&◌, ◌||◌, nat_lt, nat_le, map, IsUtf8, if◌then◌else◌}
 use Rattle.std.specs.List.{list_all, list_any, before_first, after_first, join_with_byte, AllByRecursion}
 use Rattle.std.specs.Str.{bytes_eq, trim, is_utf8}
 use Rattle.otel_ids.proofs.Turns.{next_piece}
 use Rattle.std.proofs.Math.Bool.{and-false}
-use Rattle.std.proofs.lemmas.Bool.{cases_Bool, and_parts, and_from, or_from, or_right, cond-true, cond-false, cond_both, le-leb, lt-ltb, eqb-true, false_from_ne_true}
+use Rattle.std.proofs.lemmas.Bool.{cases_Bool, and_parts, and_from, or_from, or_right, or_parts, cond-true, cond-false, cond_both, le-leb, lt-ltb, eqb-true, eq-eqb, both_ways, false_from_ne_true}
 use Rattle.std.proofs.lemmas.Bool.Decides.{nat_tests}
 use Rattle.std.proofs.lemmas.List.{append-nil, length-append, drop_all}
 use Rattle.std.proofs.lemmas.List.Elements.{All-head, All-tail, All-nil}
@@ -14,13 +14,15 @@ use Rattle.std.proofs.lemmas.List.Sums.{sum_by-append, sum_by-cons}
 use Rattle.std.proofs.lemmas.Map.Keys.{IsDistinct-head, IsDistinct-tail}
 use Rattle.std.proofs.lemmas.Str.{IsUtf8-from_is_utf8, is_utf8-from_IsUtf8}
 use Rattle.percent_encoding.specs.Percent.{percent_decode}
+use Rattle.percent_encoding.proofs.PercentLemmas.{percent_decode-nil, percent_decode_not_percent, length-percent_decode}
 use Rattle.otel_ids.specs.Text.{is_comma, is_equals, is_blank, cut_blanks}
-use Rattle.otel_context.specs.BaggageText.{is_key_byte, is_key, escaped}
+use Rattle.otel_context.specs.BaggageText.{is_key_byte, is_key, escaped, IsTrimmed}
 use Rattle.otel_context.specs.BaggageMember.{Member, member_of, has_key, weight_of, IsValidMember}
 use Rattle.otel_context.specs.Baggage.{max_key_value_pairs, max_len_of_all_pairs, weight, put, accepts, insert, IsBaggage}
 use Rattle.otel_context.specs.BaggageHeader.{metadata_text, member_text, header}
 use Rattle.otel_context.specs.BaggageLaws.{HasNoComma}
 use Rattle.otel_context.proofs.BaggageTrims.{trim_twice}
+use Rattle.otel_propagators.specs.BaggagePieces.{is_percent, decoded_value, with_value}
 use Rattle.otel_propagators.specs.BaggageReading.{is_semicolon, pieces, key_and_value, key_in, written_value, value_in, metadata_in, member_in, is_member, with_piece, with_pieces, BaggageReads, ReadsBaggage}
 use Rattle.otel_propagators.proofs.FirstCuts.{none_append, some_at, none_from_all, none_from_not, none_All, before_at, after_at, before_none, after_none, no_blanks, utf8_cut, utf8_after}
 use Rattle.otel_propagators.proofs.EscapedValues.{is_written, all_written, decoded}
@@ -208,56 +210,76 @@ reads_baggage t u = pieces_baggage [] (pieces t) no_members (joined_utf8 (pieces
 
 -- ---- what the code does with a piece
 
--- whether a value of these bytes may be that of a member
-abbrev pub may_stand : List ℕ → Bool
-may_stand bytes = is_utf8 bytes && nat_le (length bytes) max_len_of_all_pairs
+-- whether these bytes are UTF-8 and no more than so many
+abbrev pub may_stand : ℕ → List ℕ → Bool
+may_stand longest bytes = is_utf8 bytes && nat_le (length bytes) longest
 
-pub decoded_some : (found bytes : List ℕ) → found ≡ bytes → IsUtf8 bytes → length bytes ≤ max_len_of_all_pairs → Some found ≡ (if may_stand bytes then Some bytes else None)
-decoded_some found bytes e u few =
-    ap Some e ∙ sym (cond-true (may_stand bytes) (Some bytes) None (and_from (is_utf8 bytes) (nat_le (length bytes) max_len_of_all_pairs) (is_utf8-from_IsUtf8 bytes u) (le-leb (length bytes) max_len_of_all_pairs few)))
+pub decoded_some : (longest : ℕ) (found bytes : List ℕ) → found ≡ bytes → IsUtf8 bytes → length bytes ≤ longest → Some found ≡ (if may_stand longest bytes then Some bytes else None)
+decoded_some longest found bytes e u few =
+    ap Some e ∙ sym (cond-true (may_stand longest bytes) (Some bytes) None (and_from (is_utf8 bytes) (nat_le (length bytes) longest) (is_utf8-from_IsUtf8 bytes u) (le-leb (length bytes) longest few)))
 
-pub decoded_none : (bytes : List ℕ) → ¬ IsUtf8 bytes → None ≡ (if may_stand bytes then Some bytes else None)
-decoded_none bytes n =
-    sym (cond-false (may_stand bytes) (Some bytes) None (false_from_ne_true (may_stand bytes) (λ t. n (IsUtf8-from_is_utf8 bytes (and_parts (is_utf8 bytes) (nat_le (length bytes) max_len_of_all_pairs) t).0))))
+pub decoded_none : (longest : ℕ) (bytes : List ℕ) → ¬ IsUtf8 bytes → None ≡ (if may_stand longest bytes then Some bytes else None)
+decoded_none longest bytes n =
+    sym (cond-false (may_stand longest bytes) (Some bytes) None (false_from_ne_true (may_stand longest bytes) (λ t. n (IsUtf8-from_is_utf8 bytes (and_parts (is_utf8 bytes) (nat_le (length bytes) longest) t).0))))
 
-stands : (found bytes : List ℕ) → Some found ≡ (if may_stand bytes then Some bytes else None) → (is_utf8 bytes ≡ true) × (found ≡ bytes)
-stands found bytes h =
-    elim (cases_Bool (may_stand bytes)) [
-      | inl t ↦ let e : Some found ≡ Some bytes = h ∙ cond-true (may_stand bytes) (Some bytes) None t in ((and_parts (is_utf8 bytes) (nat_le (length bytes) max_len_of_all_pairs) t).0, (cc))
-      | inr f ↦ let e : Some found ≡ None = h ∙ cond-false (may_stand bytes) (Some bytes) None f in absurd (cc)
+stands : (longest : ℕ) (found bytes : List ℕ) → Some found ≡ (if may_stand longest bytes then Some bytes else None) → (is_utf8 bytes ≡ true) × (found ≡ bytes)
+stands longest found bytes h =
+    elim (cases_Bool (may_stand longest bytes)) [
+      | inl t ↦ let e : Some found ≡ Some bytes = h ∙ cond-true (may_stand longest bytes) (Some bytes) None t in ((and_parts (is_utf8 bytes) (nat_le (length bytes) longest) t).0, (cc))
+      | inr f ↦ let e : Some found ≡ None = h ∙ cond-false (may_stand longest bytes) (Some bytes) None f in absurd (cc)
     ]
 
-stands_not : (bytes : List ℕ) → None ≡ (if may_stand bytes then Some bytes else None) → may_stand bytes ≡ false
-stands_not bytes h =
-    false_from_ne_true (may_stand bytes) (λ t. let e : None ≡ Some bytes = h ∙ cond-true (may_stand bytes) (Some bytes) None t in cc)
+stands_not : (longest : ℕ) (bytes : List ℕ) → None ≡ (if may_stand longest bytes then Some bytes else None) → may_stand longest bytes ≡ false
+stands_not longest bytes h =
+    false_from_ne_true (may_stand longest bytes) (λ t. let e : None ≡ Some bytes = h ∙ cond-true (may_stand longest bytes) (Some bytes) None t in cc)
 
-not_few : (n : ℕ) → nat_le n max_len_of_all_pairs ≡ false → max_len_of_all_pairs < n
-not_few n h = grind (arith, nat_tests)
+longer : (longest n : ℕ) → nat_le n longest ≡ false → longest < n
+longer longest n h = grind (arith, nat_tests)
 
 -- without such a value no member is inserted
-not_inserted : (ms : List Member) (m : Member) (readable : Bool) → readable ≡ is_utf8 m.value → may_stand m.value ≡ false → (b : Bool) → (if b && readable then insert ms m else ms) ≡ ms
-not_inserted ms m false e h b = cond-false (b && false) (insert ms m) ms (and-false b)
-not_inserted ms m true e h b =
-    let long : nat_le (length m.value) max_len_of_all_pairs ≡ false = ap (λ u. u && nat_le (length m.value) max_len_of_all_pairs) e ∙ h in
-    let same : insert ms m ≡ ms = cond-false (accepts ms m) (put ms m) ms (too_long m ms (not_few (length m.value) long)) in
+not_inserted : (longest : ℕ) (ms : List Member) (m : Member) (far : longest < length m.value → max_len_of_all_pairs < length m.value) (readable : Bool) → readable ≡ is_utf8 m.value → may_stand longest m.value ≡ false → (b : Bool) → (if b && readable then insert ms m else ms) ≡ ms
+not_inserted longest ms m far false e h b = cond-false (b && false) (insert ms m) ms (and-false b)
+not_inserted longest ms m far true e h b =
+    let long : nat_le (length m.value) longest ≡ false = ap (λ u. u && nat_le (length m.value) longest) e ∙ h in
+    let same : insert ms m ≡ ms = cond-false (accepts ms m) (put ms m) ms (too_long m ms (far (longer longest (length m.value) long))) in
     cond_both (b && true) (insert ms m) ms (λ l. l ≡ ms) (λ t. same) (λ f. refl)
 
-module _ (ms : List Member) (piece : List ℕ) (value : List ℕ) (v : value ≡ written_value piece) where
-  -- it is skipped
-  pub piece_skipped : None ≡ (if may_stand (percent_decode value) then Some (percent_decode value) else None) → ms ≡ with_piece ms piece
-  piece_skipped h =
-      sym (not_inserted ms (member_in piece) (is_utf8 (value_in piece)) refl (ap (λ (x : List ℕ). may_stand (percent_decode x)) (sym v) ∙ stands_not (percent_decode value) h) (list_any is_equals (key_and_value piece)))
+-- a value without `%` decodes to itself
+pub without_percent : (value : List ℕ) → list_any is_percent value ≡ false → percent_decode value ≡ value
+without_percent [] h = percent_decode-nil
+without_percent (b ∷ bs) h =
+    let apart = or_parts (is_percent b) (list_any is_percent bs) h in
+    percent_decode_not_percent b bs (λ e. both_ways (is_percent b) apart.0 (eq-eqb b 37 e)) ∙ ap (λ (x : List ℕ). b ∷ x) (without_percent bs apart.1)
 
-  -- it is a member
-  pub piece_is : (u : IsUtf8 piece) (key metadata found : List ℕ) → list_any is_equals (key_and_value piece) ≡ true → key ≡ key_in piece → metadata ≡ metadata_in piece
-      → Some found ≡ (if may_stand (percent_decode value) then Some (percent_decode value) else None) → (insert ms (member_of key found metadata) ≡ with_piece ms piece) × (insert ms (member_of key found (trim metadata)) ≡ with_piece ms piece)
-  piece_is u key metadata found some k d t =
-      let r = stands found (percent_decode value) t in
-      let decodes : found ≡ value_in piece = r.1 ∙ ap percent_decode v in
-      let utf8 : is_utf8 (value_in piece) ≡ true = ap (λ (x : List ℕ). is_utf8 (percent_decode x)) (sym v) ∙ r.0 in
-      let cut : trim metadata ≡ metadata_in piece = ap trim d ∙ trim_twice (after_first is_semicolon piece) (utf8_after is_semicolon semicolon_small piece u) in
-      let is = sym (cond-true (is_member piece) (insert ms (member_in piece)) ms (and_from (list_any is_equals (key_and_value piece)) (is_utf8 (value_in piece)) some utf8)) in
-      (ap (insert ms) (λ i. member_of (k i) (decodes i) (d i)) ∙ is, ap (insert ms) (λ i. member_of (k i) (decodes i) (cut i)) ∙ is)
+-- the metadata of a piece has no white space at its ends
+pub metadata_trimmed : (piece metadata : List ℕ) → IsUtf8 piece → metadata ≡ metadata_in piece → IsTrimmed metadata
+metadata_trimmed piece metadata u d = subst IsTrimmed (sym d) (trim_twice (after_first is_semicolon piece) (utf8_after is_semicolon semicolon_small piece u))
+
+-- in a room of its length
+pub plain_value : (value : List ℕ) → IsUtf8 value → list_any is_percent value ≡ false → decoded_value (length value) value ≡ Some value
+plain_value value u none =
+    let same = without_percent value none in
+    sym (decoded_some (length value) value (percent_decode value) (sym same) (subst IsUtf8 (sym same) u) (length-percent_decode value).0)
+
+-- a room as long as the value is written is no shorter than what it decodes to
+pub room_enough : (longest : ℕ) (value : List ℕ) → length value ≤ longest → longest < length (percent_decode value) → max_len_of_all_pairs < length (percent_decode value)
+room_enough longest value le long = absurd (omega (arith, (length-percent_decode value).0))
+
+module _ (ms : List Member) (piece key value metadata : List ℕ) (some : list_any is_equals (key_and_value piece) ≡ true) (k : key ≡ key_in piece) (v : value ≡ written_value piece) (d : metadata ≡ metadata_in piece) where
+  -- the member of a value that is read
+  piece_is : (found : List ℕ) → is_utf8 (percent_decode value) ≡ true → found ≡ percent_decode value → insert ms (member_of key found metadata) ≡ with_piece ms piece
+  piece_is found t e =
+      let decodes : found ≡ value_in piece = e ∙ ap percent_decode v in
+      let utf8 : is_utf8 (value_in piece) ≡ true = ap (λ (x : List ℕ). is_utf8 (percent_decode x)) (sym v) ∙ t in
+      ap (insert ms) (λ i. member_of (k i) (decodes i) (d i)) ∙ sym (cond-true (is_member piece) (insert ms (member_in piece)) ms (and_from (list_any is_equals (key_and_value piece)) (is_utf8 (value_in piece)) some utf8))
+
+  -- the list after a value that was decoded into a room
+  pub piece_decoded : (longest : ℕ) (found : Option (List ℕ)) → (longest < length (percent_decode value) → max_len_of_all_pairs < length (percent_decode value)) → found ≡ decoded_value longest value → with_value ms key found metadata ≡ with_piece ms piece
+  piece_decoded longest None far h =
+      sym (not_inserted longest ms (member_in piece) (subst (λ (x : List ℕ). longest < length (percent_decode x) → max_len_of_all_pairs < length (percent_decode x)) v far) (is_utf8 (value_in piece)) refl (ap (λ (x : List ℕ). may_stand longest (percent_decode x)) (sym v) ∙ stands_not longest (percent_decode value) h) (list_any is_equals (key_and_value piece)))
+  piece_decoded longest (Some text) far h =
+      let r = stands longest text (percent_decode value) h in
+      piece_is text r.0 r.1
 
 -- ---- the loop
 

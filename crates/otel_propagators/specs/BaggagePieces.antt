@@ -1,12 +1,14 @@
 -- What the parts of a piece of a `baggage` header are read as. No public clause cites this.
-use Rattle.std.specs.Prelude.{◌≡◌, ℕ, ◌<◌, ◌≤◌, ◌&&◌, nat_le, true, false, List, length, take}
+use Rattle.std.specs.Prelude.{◌≡◌, ℕ, Bool, ◌<◌, ◌≤◌, ◌==◌, ◌&&◌, nat_le, true, false}
+use Rattle.std.specs.Prelude.{List, length, take}
 use Rattle.std.specs.Prelude.{Option, Some, None, MatchOption, if◌then◌else◌}
 use Rattle.std.specs.List.{list_any, before_first, after_first}
+use Rattle.std.specs.Option.{option_map_or}
 use Rattle.std.specs.Str.{is_utf8, trim}
 use denote.Ref.{Bor}
-use Rattle.percent_encoding.specs.Percent.{percent_decode}
+use Rattle.percent_encoding.specs.Percent.{percent_decode, percent_sign}
 use Rattle.otel_ids.specs.Text.{is_equals}
-use Rattle.otel_context.specs.Baggage.{insert, max_len_of_all_pairs}
+use Rattle.otel_context.specs.Baggage.{insert}
 use Rattle.otel_context.specs.BaggageMember.{Member, member_of}
 use Rattle.otel_propagators.specs.BaggageReading.{key_and_value, key_in, written_value, metadata_in}
 
@@ -27,20 +29,30 @@ ArePartsOf piece result = MatchOption result (list_any is_equals (key_and_value 
     × (parts.1.now ≡ written_value piece)
     × (parts.2.now ≡ metadata_in piece))
 
+-- whether the byte is a `%`
+abbrev pub is_percent : ℕ → Bool
+is_percent b = b == percent_sign
+
 -- the decoded value fills the front of the room, of this length, or None if it is longer than the
 -- room
 abbrev pub IsFilledWith : List ℕ → List ℕ → Option ℕ → Type 0
 IsFilledWith value room result =
-    MatchOption result (max_len_of_all_pairs < length (percent_decode value))
+    MatchOption result (length room < length (percent_decode value))
     (λ len. (len ≤ length room) × (take len room ≡ percent_decode value))
 
--- the decoded value, if it is UTF-8 and a baggage has room for it
-abbrev pub decoded_value : List ℕ → Option (List ℕ)
-decoded_value value =
+-- the decoded value, if it is UTF-8 and no longer than this
+abbrev pub decoded_value : ℕ → List ℕ → Option (List ℕ)
+decoded_value longest value =
     let decoded = percent_decode value in
-    if is_utf8 decoded && nat_le (length decoded) max_len_of_all_pairs then Some decoded else None
+    if is_utf8 decoded && nat_le (length decoded) longest then Some decoded else None
 
 -- the list after an insert of the member of these texts, the metadata without white space at its
 -- ends
 abbrev pub with_member : List Member → List ℕ → List ℕ → List ℕ → List Member
 with_member ms key value metadata = insert ms (member_of key value (trim metadata))
+
+-- the list after an insert of the member of these texts, if there is a value; without one, the list
+-- as it was
+abbrev pub with_value : List Member → List ℕ → Option (List ℕ) → List ℕ → List Member
+with_value ms key value metadata =
+    option_map_or (λ text. insert ms (member_of key text metadata)) value ms

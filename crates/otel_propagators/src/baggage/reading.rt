@@ -1,8 +1,10 @@
 //! Reads the value of a `baggage` header.
-ghost use Rattle.std.specs.Prelude.{◌≡◌, IfOk, OnOk, option_copied};
-ghost use Rattle.std.specs.List.{after_first};
+ghost use Rattle.std.specs.Prelude.{◌≡◌, length, not, Some, IfOk, IsTrue, OnOk, option_copied};
+ghost use Rattle.std.specs.List.{after_first, list_any};
+ghost use Rattle.otel_context.specs.BaggageText.{IsTrimmed};
 ghost use Rattle.otel_propagators.specs.BaggagePieces.{ArePartsOf, IsFilledWith, IsSplitAtEquals};
-ghost use Rattle.otel_propagators.specs.BaggagePieces.{decoded_value, with_member};
+ghost use Rattle.otel_propagators.specs.BaggagePieces.{decoded_value, is_percent};
+ghost use Rattle.otel_propagators.specs.BaggagePieces.{with_member, with_value};
 ghost use Rattle.otel_propagators.specs.BaggageReading.{is_semicolon, key_and_value};
 ghost use Rattle.otel_propagators.specs.BaggageReading.{with_piece, read_baggage};
 
@@ -14,8 +16,9 @@ use percent_encoding::percent_decode;
 use std::alloc::{AllocError, Global};
 use std::str;
 
-/// Room for the longest value that a baggage accepts.
-type Room = [u8; MAX_LEN_OF_ALL_PAIRS];
+/// The longest value, in bytes as it is written, that is decoded into a short room. To clear a room
+/// for the longest value that a baggage accepts takes longer than to read a short header.
+const SHORT_LEN: usize = 1024;
 
 /// Splits a piece at its first `;`. Without one, the second part is empty.
 fn split_metadata(piece: &str) -> (&str, &str)
@@ -46,9 +49,18 @@ fn split_piece(piece: &str) -> Option<(&str, &str, &str)>
     Some((cut_blanks(key), cut_blanks(value), metadata.trim()))
 }
 
+/// Returns `true` if the value has no `%`, so that it stands for itself.
+fn is_plain(value: &str) -> bool
+    ensures sign { result ≡ not (list_any is_percent value.now) }
+    ensures itself { IsTrue result
+        → decoded_value (length value.now) value.now ≡ Some value.now }
+{
+    !value.as_bytes().contains(&b'%')
+}
+
 /// Decodes the value into the front of the room, and returns the number of bytes, or `None` if the
 /// room is too small.
-fn fill(value: &str, room: &mut Room) -> Option<usize>
+fn fill(value: &str, room: &mut [u8]) -> Option<usize>
     ensures { IsFilledWith value.now room.new result }
 {
     let mut len = 0;
@@ -62,9 +74,9 @@ fn fill(value: &str, room: &mut Room) -> Option<usize>
     Some(len)
 }
 
-/// Decodes the value, and returns it if it is UTF-8 and a baggage has room for it.
-fn decode<'a>(value: &str, room: &'a mut Room) -> Option<&'a str>
-    ensures { option_copied result ≡ decoded_value value.now }
+/// Decodes the value, and returns it if it is UTF-8 and the room is large enough.
+fn decode<'a>(value: &str, room: &'a mut [u8]) -> Option<&'a str>
+    ensures { option_copied result ≡ decoded_value (length room.old) value.now }
 {
     let len = fill(value, room)?;
     match str::from_utf8(&room[..len]) {
@@ -91,20 +103,20 @@ fn insert_member(
     Ok(())
 }
 
-/// Inserts the member that the piece stands for, if there is one and it is accepted. Only then is
-/// memory allocated: what decides it has no allocator.
-fn insert_piece(
+/// Inserts the member with this key, value and metadata, if there is a value and the member is
+/// accepted. Only then is memory allocated: what decides it has no allocator.
+fn insert_value(
     alloc: Global,
     baggage: &mut Baggage,
-    piece: &str,
-    room: &mut Room,
+    key: &str,
+    value: Option<&str>,
+    metadata: &str,
 ) -> Result<(), AllocError>
-    ensures { OnOk result (baggage.new ≡ with_piece baggage.old piece.now) }
+    requires { IsTrimmed metadata.now }
+    ensures { OnOk result
+        (baggage.new ≡ with_value baggage.old key.now (option_copied value.entry) metadata.now) }
 {
-    let Some((key, value, metadata)) = split_piece(piece) else {
-        return Ok(());
-    };
-    let Some(value) = decode(value, room) else {
+    let Some(value) = value else {
         return Ok(());
     };
     if !baggage.accepts(key, value, metadata) {
@@ -113,15 +125,33 @@ fn insert_piece(
     insert_member(alloc, baggage, key, value, metadata)
 }
 
+/// Inserts the member that the piece stands for, if there is one and it is accepted. A value that
+/// has no `%` is copied once, into the member.
+fn insert_piece(alloc: Global, baggage: &mut Baggage, piece: &str) -> Result<(), AllocError>
+    ensures { OnOk result (baggage.new ≡ with_piece baggage.old piece.now) }
+{
+    let Some((key, value, metadata)) = split_piece(piece) else {
+        return Ok(());
+    };
+    if is_plain(value) {
+        insert_value(alloc, baggage, key, Some(value), metadata)
+    } else if value.len() <= SHORT_LEN {
+        let mut room = [0; SHORT_LEN];
+        insert_value(alloc, baggage, key, decode(value, &mut room), metadata)
+    } else {
+        let mut room = [0; MAX_LEN_OF_ALL_PAIRS];
+        insert_value(alloc, baggage, key, decode(value, &mut room), metadata)
+    }
+}
+
 /// The baggage that the text is read as: the members of its pieces, in order, from the empty
 /// baggage on.
 pub(super) fn read_baggage(alloc: Global, text: &str) -> Result<Baggage, AllocError>
     ensures { IfOk result (λ baggage. baggage ≡ read_baggage text.now) }
 {
     let mut baggage = Baggage::new(alloc);
-    let mut room = [0; MAX_LEN_OF_ALL_PAIRS];
     for piece in text.split(',') {
-        insert_piece(alloc, &mut baggage, piece, &mut room)?;
+        insert_piece(alloc, &mut baggage, piece)?;
     }
     Ok(baggage)
 }
