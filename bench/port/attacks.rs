@@ -92,7 +92,7 @@ fn pairs(alloc: Global, size: usize) -> Result<String, AllocError> {
 }
 
 /// Extracts the baggage of the header.
-fn extract(alloc: Global, text: String, times: u64) -> Result<Option<u64>, AllocError> {
+pub fn extract(alloc: Global, text: String, times: u64) -> Result<Option<u64>, AllocError> {
     let mut carrier = HashMap::new(alloc);
     carrier.insert(String::from_str(alloc, "baggage")?, text)?;
     let propagator = BaggagePropagator::new(alloc)?;

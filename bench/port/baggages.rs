@@ -11,7 +11,12 @@ pub fn play(task: &Task<'_>, alloc: Global) -> Result<Option<u64>, AllocError> {
         "baggage_insert_to_string" => repeat(FillingAndPrinting { alloc, pairs }, task.times),
         "baggage_copy_texts" => repeat(CopyingTexts(pairs), task.times),
         "baggage_to_string" => print_all(alloc, filled(alloc, &pairs)?, task.times),
-        "baggage_get_middle" => get(alloc, filled(alloc, &pairs)?, task),
+        "baggage_get_middle" => get(alloc, filled(alloc, &pairs)?, task.size / 2, task.times),
+        "baggage_get_last" => {
+            let last = task.size.saturating_sub(1);
+            get(alloc, filled(alloc, &pairs)?, last, task.times)
+        }
+        "baggage_get_absent" => get(alloc, filled(alloc, &pairs)?, task.size, task.times),
         _ => Ok(None),
     }
 }
@@ -20,9 +25,15 @@ fn print_all(alloc: Global, baggage: Baggage, times: u64) -> Result<Option<u64>,
     repeat(Printing { alloc, baggage }, times)
 }
 
-fn get(alloc: Global, baggage: Baggage, task: &Task<'_>) -> Result<Option<u64>, AllocError> {
-    let key = format!(in alloc; "key{}", task.size / 2)?;
-    repeat(Getting { baggage, key }, task.times)
+/// Looks up the key of that number.
+fn get(
+    alloc: Global,
+    baggage: Baggage,
+    number: usize,
+    times: u64,
+) -> Result<Option<u64>, AllocError> {
+    let key = format!(in alloc; "key{number}")?;
+    repeat(Getting { baggage, key }, times)
 }
 
 /// So many pairs, `key0` and `value 0` and so on.

@@ -1,28 +1,22 @@
 //! Operations on contexts.
 use crate::operation::{Operation, Task, add, repeat};
+use opentelemetry::context::ContextStack;
 use opentelemetry::logs::AnyValue;
 use opentelemetry::trace::{SpanContext, TraceState};
 use opentelemetry::{Context, Key, SpanId, StringValue, TraceFlags, TraceId};
 use std::alloc::{AllocError, Global};
 
-/// The names of entries beside `name`.
-const NAMES: [&str; 15] = [
-    "extra1", "extra2", "extra3", "extra4", "extra5", "extra6", "extra7", "extra8", "extra9",
-    "extra10", "extra11", "extra12", "extra13", "extra14", "extra15",
-];
-
 pub fn play(task: &Task<'_>, alloc: Global) -> Result<Option<u64>, AllocError> {
     match task.name {
         "context_clone" => repeat(Copying(named(alloc)?), task.times),
         "context_clone_remote" => repeat(Copying(remote(alloc)?), task.times),
-        "context_get_oldest" => get(with_entries(alloc, task.size)?, "name", task.times),
-        "context_get_newest" => {
-            get(
-                with_entries(alloc, task.size)?,
-                newest_name(task.size),
-                task.times,
-            )
-        }
+        "context_clone_current" => repeat(
+            CopyingCurrent(stack_of(named(alloc)?, alloc)?),
+            task.times,
+        ),
+        "context_get_oldest" => get(alloc, String::from_str(alloc, "name")?, task),
+        "context_get_newest" => get(alloc, name_of(alloc, task.size.saturating_sub(1))?, task),
+        "context_get_absent" => get(alloc, String::from_str(alloc, "number")?, task),
         "context_with_value" => {
             let context = with_entries(alloc, task.size)?;
             repeat(Deriving { alloc, context }, task.times)
@@ -62,31 +56,38 @@ pub fn remote(alloc: Global) -> Result<Context, AllocError> {
 #[inline(never)]
 fn with_entries(alloc: Global, size: usize) -> Result<Context, AllocError> {
     let mut context = named(alloc)?;
-    let mut entries = 1;
-    for name in NAMES {
-        if entries < size {
-            entries += 1;
-            context = context.with_value(alloc, Key::from(name), AnyValue::Int(1))?;
-        }
+    for number in 1..size {
+        let key = Key::from(name_of(alloc, number)?);
+        context = context.with_value(alloc, key, AnyValue::Int(1))?;
     }
     Ok(context)
 }
 
-/// The name of the entry that was set last.
-fn newest_name(size: usize) -> &'static str {
-    match NAMES.get(size.wrapping_sub(2)) {
-        Some(name) => *name,
-        None => "name",
-    }
+/// The name of that entry beside `name`.
+fn name_of(alloc: Global, number: usize) -> Result<String, AllocError> {
+    format!(in alloc; "extra{number}")
 }
 
-fn get(context: Context, key: &'static str, times: u64) -> Result<Option<u64>, AllocError> {
-    repeat(Getting { context, key }, times)
+/// A stack whose current context is that one.
+fn stack_of(context: Context, alloc: Global) -> Result<ContextStack, AllocError> {
+    let mut stack = ContextStack::new(alloc)?;
+    stack.push(context)?;
+    Ok(stack)
+}
+
+fn get(alloc: Global, key: String, task: &Task<'_>) -> Result<Option<u64>, AllocError> {
+    let context = with_entries(alloc, task.size)?;
+    repeat(Getting { context, key }, task.times)
 }
 
 #[inline(never)]
 fn clone_of(context: &Context) -> Result<Context, AllocError> {
     context.clone()
+}
+
+#[inline(never)]
+fn current_of(stack: &ContextStack) -> Result<Context, AllocError> {
+    stack.current().clone()
 }
 
 /// What a context is used for before it is let go.
@@ -123,14 +124,25 @@ impl Operation for Copying {
 }
 
 #[derive(Drop)]
+struct CopyingCurrent(ContextStack);
+
+impl Operation for CopyingCurrent {
+    fn once(&mut self, sum: &mut u64) -> Result<(), AllocError> {
+        let copy = current_of(&self.0)?;
+        look_at(&copy, sum);
+        Ok(())
+    }
+}
+
+#[derive(Drop)]
 struct Getting {
     context: Context,
-    key: &'static str,
+    key: String,
 }
 
 impl Operation for Getting {
     fn once(&mut self, sum: &mut u64) -> Result<(), AllocError> {
-        look_up(&self.context, self.key, sum);
+        look_up(&self.context, self.key.as_str(), sum);
         Ok(())
     }
 }

@@ -7,6 +7,7 @@
 mod attacks;
 mod baggages;
 mod contexts;
+mod headers;
 mod ids;
 mod injections;
 mod members;
@@ -14,6 +15,7 @@ mod operation;
 mod random;
 mod rounds;
 mod runs;
+mod spans;
 mod stacks;
 mod state_member;
 mod states;
@@ -38,6 +40,8 @@ fn play(task: &Task<'_>, alloc: Global) -> Result<Option<u64>, AllocError> {
         "inject" => injections::play(task, alloc),
         "run" => runs::play(task, alloc),
         "id" => ids::play(task, alloc),
+        "header" => headers::play(task, alloc),
+        "table" | "span" => spans::play(task, alloc),
         _ => Ok(None),
     }
 }

@@ -26,15 +26,20 @@ pub fn play(task: &Task<'_>) -> Option<u64> {
             length
         }),
         "baggage_to_string" => task.repeat(|| black_box(black_box(&baggage).to_string()).len()),
-        "baggage_get_middle" => {
-            let key = format!("key{}", task.size / 2);
-            task.repeat(|| {
-                let found = black_box(&baggage).get(black_box(key.as_str()));
-                black_box(found.map_or(0, |value| value.as_str().len()))
-            })
-        }
+        "baggage_get_middle" => get(task, &baggage, task.size / 2),
+        "baggage_get_last" => get(task, &baggage, task.size - 1),
+        "baggage_get_absent" => get(task, &baggage, task.size),
         _ => None,
     }
+}
+
+/// Looks up the key of that number.
+fn get(task: &Task<'_>, baggage: &Baggage, number: usize) -> Option<u64> {
+    let key = format!("key{number}");
+    task.repeat(|| {
+        let found = black_box(baggage).get(black_box(key.as_str()));
+        black_box(found.map_or(0, |value| value.as_str().len()))
+    })
 }
 
 /// So many pairs, `key0` and `value 0` and so on.

@@ -17,6 +17,10 @@ pub fn play(task: &Task<'_>) -> Option<u64> {
     match task.name {
         "context_clone" => copy(task, &named()),
         "context_clone_remote" => copy(task, &remote()),
+        "context_clone_current" => {
+            let _guard = named().attach();
+            task.repeat(|| look_at(&Context::current()))
+        }
         "context_get_oldest" => {
             let context = with_entries(task.size);
             task.repeat(|| {
@@ -27,9 +31,18 @@ pub fn play(task: &Task<'_>) -> Option<u64> {
         "context_get_newest" => match task.size {
             3 => get::<2>(task),
             4 => get::<3>(task),
+            8 => get::<7>(task),
             16 => get::<15>(task),
+            64 => get::<63>(task),
             _ => None,
         },
+        "context_get_absent" => {
+            let context = with_entries(task.size);
+            task.repeat(|| {
+                let found = black_box(&context).get::<Number>();
+                black_box(found.map_or(0, |number| number.0 as usize))
+            })
+        }
         "context_with_value" => {
             let context = with_entries(task.size);
             task.repeat(|| look_at(&black_box(&context).with_value(Number(1))))
@@ -92,22 +105,17 @@ fn extra<const NUMBER: usize>(context: Context, size: usize) -> Context {
     }
 }
 
-/// A context with so many values, at least its name, and at most 16.
+/// The context with the values of the types of those numbers, where so many entries have room for them.
+macro_rules! with_extras {
+    ($context:ident, $size:ident: $($number:literal)*) => {{
+        $($context = extra::<$number>($context, $size);)*
+    }};
+}
+
+/// A context with so many values, at least its name, and at most 64.
 fn with_entries(size: usize) -> Context {
     let mut context = named();
-    context = extra::<1>(context, size);
-    context = extra::<2>(context, size);
-    context = extra::<3>(context, size);
-    context = extra::<4>(context, size);
-    context = extra::<5>(context, size);
-    context = extra::<6>(context, size);
-    context = extra::<7>(context, size);
-    context = extra::<8>(context, size);
-    context = extra::<9>(context, size);
-    context = extra::<10>(context, size);
-    context = extra::<11>(context, size);
-    context = extra::<12>(context, size);
-    context = extra::<13>(context, size);
-    context = extra::<14>(context, size);
-    extra::<15>(context, size)
+    with_extras!(context, size: 1 2 3 4 5 6 7 8 9 10 11 12 13 14 15 16 17 18 19 20 21 22 23 24 25 26 27 28 29 30 31);
+    with_extras!(context, size: 32 33 34 35 36 37 38 39 40 41 42 43 44 45 46 47 48 49 50 51 52 53 54 55 56 57 58 59 60 61 62 63);
+    context
 }

@@ -5,11 +5,13 @@
 
 mod baggages;
 mod contexts;
+mod headers;
 mod ids;
 mod injections;
 mod random;
 mod rounds;
 mod runs;
+mod spans;
 mod stacks;
 mod states;
 mod task;
@@ -29,6 +31,8 @@ fn play(task: &Task<'_>) -> Option<u64> {
         "inject" => injections::play(task),
         "run" => runs::play(task),
         "id" => ids::play(task),
+        "header" => headers::play(task),
+        "table" | "span" => spans::play(task),
         _ => None,
     }
 }
