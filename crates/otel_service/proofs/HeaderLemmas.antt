@@ -23,7 +23,7 @@ use Rattle.otel_propagators.proofs.FirstCuts.{none_All}
 use Rattle.otel_context.specs.BaggageText.{is_key}
 use Rattle.opentelemetry.specs.Carrier.{lower}
 use Rattle.otel_ids.specs.Text.{cut_blanks}
-use Rattle.otel_service.specs.Headers.{is_line_feed, is_colon, header_of, headers_of, values_under, joined, value_at}
+use Rattle.otel_service.specs.Headers.{is_line_feed, is_colon, header_of, headers_of, values_under, combined_value, value_at}
 
 -- what isn't UTF-8 doesn't pass the test
 pub not_utf8 : (bs : List ℕ) → (IsUtf8 bs → ⊥) → is_utf8 bs ≡ false
@@ -78,15 +78,15 @@ all_three a b c x y p q r = rw (p, q, r) refl
 pub is_header : (line text name value cut : List ℕ) → text ≡ line → IsUtf8 line →
     (list_any is_colon text ≡ true) × (name ≡ before_first is_colon text) × (value ≡ after_first is_colon text) →
     is_key name ≡ true → cut ≡ cut_blanks value → Some (name, cut) ≡ header_of line
-is_header line text name value cut same utf8 parts token is_cut =
-    let name_is : name ≡ before_first is_colon line = parts.1 ∙ ap (before_first is_colon) same in
-    let value_is : cut ≡ cut_blanks (after_first is_colon line) = is_cut ∙ ap cut_blanks (parts.2 ∙ ap (after_first is_colon) same) in
+is_header line text name value cut same utf8 split token is_cut =
+    let name_is : name ≡ before_first is_colon line = split.1 ∙ ap (before_first is_colon) same in
+    let value_is : cut ≡ cut_blanks (after_first is_colon line) = is_cut ∙ ap cut_blanks (split.2 ∙ ap (after_first is_colon) same) in
     let header : Some (name, cut) ≡ Some (before_first is_colon line, cut_blanks (after_first is_colon line)) = cc in
     header ∙ sym (all_three _ _ _ _ _ (is_utf8-from_IsUtf8 line utf8)
-    (subst (λ (t : List ℕ). list_any is_colon t ≡ true) same parts.0)
+    (subst (λ (t : List ℕ). list_any is_colon t ≡ true) same split.0)
     (subst (λ (n : List ℕ). is_key n ≡ true) name_is token))
 
--- ---- joined values
+-- ---- combined values
 
 join_append : (v : List ℕ) (vs : List (List ℕ)) (w : List ℕ) (ws : List (List ℕ)) →
     join_with_byte 44 (v ∷ (vs ++ w ∷ ws)) ≡ join_with_byte 44 (v ∷ vs) ++ (44 ∷ join_with_byte 44 (w ∷ ws))
@@ -96,28 +96,28 @@ join_append v (u ∷ vs) w ws =
     ∙ sym (append_assoc v (44 ∷ join_with_byte 44 (u ∷ vs)) (44 ∷ join_with_byte 44 (w ∷ ws)))
 
 -- values may be joined in two steps
-pub joined_twice : (vs ws : List (List ℕ)) → joined (option_to_list (joined vs) ++ ws) ≡ joined (vs ++ ws)
-joined_twice [] ws = refl
-joined_twice (v ∷ vs) [] = ap joined (sym (ap (λ (xs : List (List ℕ)). v ∷ xs) (append-nil vs)))
-joined_twice (v ∷ vs) (w ∷ ws) = ap Some (sym (join_append v vs w ws))
+pub combined_twice : (vs ws : List (List ℕ)) → combined_value (option_to_list (combined_value vs) ++ ws) ≡ combined_value (vs ++ ws)
+combined_twice [] ws = refl
+combined_twice (v ∷ vs) [] = ap combined_value (sym (ap (λ (xs : List (List ℕ)). v ∷ xs) (append-nil vs)))
+combined_twice (v ∷ vs) (w ∷ ws) = ap Some (sym (join_append v vs w ws))
 
 -- one value is as it is
-pub joined_one : (held : Option (List ℕ)) → joined (option_to_list held ++ []) ≡ held
-joined_one None = refl
-joined_one (Some v) = refl
+pub combined_one : (before : Option (List ℕ)) → combined_value (option_to_list before ++ []) ≡ before
+combined_one None = refl
+combined_one (Some v) = refl
 
-joined_some : (vs : List (List ℕ)) (v : List ℕ) → joined (vs ++ v ∷ []) ≡ Some (join_with_byte 44 (vs ++ v ∷ []))
-joined_some [] v = refl
-joined_some (u ∷ us) v = refl
+combined_some : (vs : List (List ℕ)) (v : List ℕ) → combined_value (vs ++ v ∷ []) ≡ Some (join_with_byte 44 (vs ++ v ∷ []))
+combined_some [] v = refl
+combined_some (u ∷ us) v = refl
 
 -- the values of a name, after one more under `lowered`
 put_behind : {A : Type 0} (name value other : List ℕ) (old : Option (String A)) (joint : String A) (b : Bool) →
     (b ≡ true → string_bytes joint ≡ join_with_byte 44 (option_to_list (option_map string_bytes old) ++ value ∷ [])) →
     option_map string_bytes (cond b (Some joint) (cond b None old))
-    ≡ joined (option_to_list (option_map string_bytes old) ++ map (λ (h : List ℕ × List ℕ). h.1) (cond b ((name, value) ∷ []) []))
+    ≡ combined_value (option_to_list (option_map string_bytes old) ++ map (λ (h : List ℕ × List ℕ). h.1) (cond b ((name, value) ∷ []) []))
 put_behind name value other old joint true joins =
-    ap Some (joins refl) ∙ sym (joined_some (option_to_list (option_map string_bytes old)) value)
-put_behind name value other old joint false joins = sym (joined_one (option_map string_bytes old))
+    ap Some (joins refl) ∙ sym (combined_some (option_to_list (option_map string_bytes old)) value)
+put_behind name value other old joint false joins = sym (combined_one (option_map string_bytes old))
 
 module _ {A S : Type 0} where
   -- what a map has after a value was put behind those of a name
@@ -127,7 +127,7 @@ module _ {A S : Type 0} where
       string_bytes joint ≡ join_with_byte 44 (option_to_list (option_map string_bytes values) ++ value ∷ []) →
       hash.UpdatesBy string_eq (λ k. bytes_eq (string_bytes lowered) (string_bytes k)) old without None →
       hash.Updates string_eq without new lowered (Some joint) →
-      (other : List ℕ) → value_at new other ≡ joined (option_to_list (value_at old other) ++ values_under other ((name, value) ∷ []))
+      (other : List ℕ) → value_at new other ≡ combined_value (option_to_list (value_at old other) ++ values_under other ((name, value) ∷ []))
   added old without new name value lowered values joint is found joins removes puts other =
       ap (option_map string_bytes) (hash_map_updates_text (string_bytes lowered) without new (Some joint) puts other)
       ∙ rw (hash_map_updates_text (string_bytes lowered) old without None removes other)
@@ -161,14 +161,14 @@ headers_first bytes line (Some r) cut =
 -- the headers of a line and of what follows it are those of both
 pub read_on : (bytes line name : List ℕ) (rest : Option (Bor (List ℕ))) (old new : Option (List ℕ)) →
     MatchOption rest (slice_split is_line_feed bytes ≡ line ∷ []) (λ r. (slice_split is_line_feed bytes ≡ line ∷ slice_split is_line_feed r.now) × (length r.now < length bytes)) →
-    new ≡ joined (option_to_list old ++ values_under name (option_to_list (header_of (strip_carriage_return line)))) →
-    joined (option_to_list new ++ values_under name (option_map_or (λ r. headers_of r.now) rest []))
-    ≡ joined (option_to_list old ++ values_under name (headers_of bytes))
+    new ≡ combined_value (option_to_list old ++ values_under name (option_to_list (header_of (strip_carriage_return line)))) →
+    combined_value (option_to_list new ++ values_under name (option_map_or (λ r. headers_of r.now) rest []))
+    ≡ combined_value (option_to_list old ++ values_under name (headers_of bytes))
 unfolding header_in
 read_on bytes line name rest old new cut is =
-    let held = option_to_list old in
+    let before = option_to_list old in
     let first = values_under name (header_in line) in
     let more = values_under name (option_map_or (λ r. headers_of r.now) rest []) in
-    ap (λ (o : Option (List ℕ)). joined (option_to_list o ++ more)) is
-    ∙ joined_twice (held ++ first) more
-    ∙ ap joined (append_assoc held first more ∙ ap (λ (vs : List (List ℕ)). held ++ vs) (sym (ap (values_under name) (headers_first bytes line rest cut) ∙ values_under-append name (header_in line) _)))
+    ap (λ (o : Option (List ℕ)). combined_value (option_to_list o ++ more)) is
+    ∙ combined_twice (before ++ first) more
+    ∙ ap combined_value (append_assoc before first more ∙ ap (λ (vs : List (List ℕ)). before ++ vs) (sym (ap (values_under name) (headers_first bytes line rest cut) ∙ values_under-append name (header_in line) _)))

@@ -20,43 +20,42 @@ abbrev pub is_colon : ℕ → Bool
 is_colon b = b == 58
 
 -- The name and the value of a line `name: value`: what stands before the first colon, and what
--- follows it without the spaces and tabs at its ends (RFC 9112, section 5). A line that isn't
--- UTF-8, has no colon, or whose name is no token (RFC 9110, section 5.1) is no header. The keys of a
--- baggage are tokens too, so their test `is_key` stands here.
--- `a: b c ` has the name `a` and the value `b c`; `a : b` is no header.
+-- follows it, without spaces and tabs at its ends (RFC 9112, section 5). A line is no header if it
+-- isn't UTF-8, has no colon, or its name is no token (RFC 9110, section 5.1). The keys of a
+-- baggage are tokens too, so `is_key` tests names. `a: b c ` has the name `a` and the value `b c`;
+-- `a : b` is no header.
 abbrev pub header_of : List ℕ → Option (List ℕ × List ℕ)
 header_of line =
     if is_utf8 line && list_any is_colon line && is_key (before_first is_colon line) then
     Some (before_first is_colon line, cut_blanks (after_first is_colon line)) else None
 
--- The headers of the lines, in order. A line ends at a line feed, and a carriage return before it is
--- no part of the line (RFC 9112, section 2.2).
+-- The headers of the lines, in order. A line ends at a line feed, and a carriage return before it
+-- is no part of the line (RFC 9112, section 2.2).
 abbrev pub headers_of : List ℕ → List (List ℕ × List ℕ)
 headers_of bytes =
     filter_map (λ line. header_of (strip_carriage_return line)) (slice_split is_line_feed bytes)
 
--- the values of the headers with that name, in order; names are compared without regard to case
+-- the values of the headers with this name, in order; names are compared without regard to case
 -- (RFC 9110, section 5.1)
 abbrev pub values_under : List ℕ → List (List ℕ × List ℕ) → List (List ℕ)
 values_under name headers = map (λ h. h.1) (filter (λ h. bytes_eq (lower h.0) name) headers)
 
--- the values, joined by commas (RFC 9110, section 5.3), if there is one
--- of `a` and `b`: `a,b`
-abbrev pub joined : List (List ℕ) → Option (List ℕ)
-joined [] = None
-joined (v ∷ vs) = Some (join_with_byte 44 (v ∷ vs))
+-- the values, joined by commas (RFC 9110, section 5.3), if there are any: `a,b` of `a` and `b`
+abbrev pub combined_value : List (List ℕ) → Option (List ℕ)
+combined_value [] = None
+combined_value (v ∷ vs) = Some (join_with_byte 44 (v ∷ vs))
 
 -- the value of a name in a map of texts
 abbrev pub value_at : {A S : Type 0} → HashMap (String A) (String A) S → List ℕ → Option (List ℕ)
 value_at headers name = option_map string_bytes (get_by_text headers name)
 
--- whether the text may stand in a line of a header: no carriage return, line feed or NUL is in it
+-- whether the text may stand in a line of a header: it has no carriage return, line feed or NUL
 -- (RFC 9110, section 5.5)
 abbrev pub is_line_text : List ℕ → Bool
 is_line_text text = list_all (λ b. not (b == 13 || b == 10 || b == 0)) text
 
--- what is written of a header: its line, or nothing if it would not be one line
--- of `a` and `b` the line `a: b`; of `a` and `b` with a line feed and `c: d` after it nothing
+-- What is written of a header: its line, or nothing if that wouldn't be one line. Of `a` and `b` it
+-- is `a: b`; if a line feed and `c: d` follow the `b`, it is nothing.
 abbrev pub line_of : List ℕ × List ℕ → List ℕ
 line_of header =
     if is_line_text header.0 && is_line_text header.1 then

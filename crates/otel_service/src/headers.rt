@@ -8,7 +8,8 @@ ghost use Rattle.std.specs.Option.{option_map, option_to_list};
 ghost use Rattle.std.specs.Str.Lines.{strip_carriage_return};
 ghost use Rattle.otel_context.specs.BaggageText.{is_delimiter, is_key_byte, is_key};
 ghost use Rattle.otel_service.specs.Headers.{is_line_feed, is_colon};
-ghost use Rattle.otel_service.specs.Headers.{header_of, headers_of, values_under, joined, value_at};
+ghost use Rattle.otel_service.specs.Headers.{combined_value, header_of, headers_of};
+ghost use Rattle.otel_service.specs.Headers.{value_at, values_under};
 ghost use Rattle.otel_service.specs.Headers.{is_line_text, line_of};
 
 use otel_ids::cut_blanks;
@@ -17,20 +18,20 @@ use std::collections::HashMap;
 use std::io::{self, Write};
 use std::str;
 
-/// Reads the headers, each a line `name: value` that ends at a line feed or at a carriage return
+/// Parses the headers, each a line `name: value` that ends at a line feed or at a carriage return
 /// and a line feed.
 ///
-/// Names are compared without regard to case, and the values of a name that comes again are joined
-/// by commas (RFC 9110, sections 5.1 and 5.3). A value has no spaces and tabs at its ends. A line
-/// without a colon, with a name that is no token, as one with a blank before the colon, or with a
-/// byte that isn't UTF-8 is no header, and is passed over.
+/// Names are compared without regard to case, and the values of a repeated name are joined by
+/// commas (RFC 9110, sections 5.1 and 5.3). Spaces and tabs around a value are dropped. A line is
+/// ignored if it isn't UTF-8, has no colon, or its name is no token: one that ends in a blank is
+/// none.
 ///
 /// # Errors
 ///
 /// `AllocError` if out of memory.
 pub fn parse(alloc: Global, bytes: &[u8]) -> Result<HashMap<String, String>, AllocError>
     ensures { IfOk result (λ headers. (name : List ℕ) →
-        value_at headers name ≡ joined (values_under name (headers_of bytes.now))) }
+        value_at headers name ≡ combined_value (values_under name (headers_of bytes.now))) }
 {
     let mut headers = HashMap::new(alloc);
     let mut left = Some(bytes);
@@ -42,7 +43,7 @@ pub fn parse(alloc: Global, bytes: &[u8]) -> Result<HashMap<String, String>, All
     Ok(headers)
 }
 
-/// What stands before the first line feed, and what follows it, if there is one.
+/// Returns what stands before the first line feed, and what follows it, if there is one.
 fn first_line(bytes: &[u8]) -> (&[u8], Option<&[u8]>)
     ensures { let lines = slice_split is_line_feed in
         MatchOption result.1 (lines bytes.now ≡ result.0.now ∷ []) (λ rest.
@@ -54,21 +55,21 @@ fn first_line(bytes: &[u8]) -> (&[u8], Option<&[u8]>)
     }
 }
 
-/// Where the first line feed stands.
+/// Returns the index of the first line feed.
 fn line_feed(bytes: &[u8]) -> Option<usize>
     ensures { result ≡ position is_line_feed bytes.now }
 {
     bytes.iter().position(|byte| *byte == b'\n')
 }
 
-/// Adds the header of the line to the others, if it is one.
+/// Adds the header of the line to the others, if the line is one.
 fn read_line(
     alloc: Global,
     headers: &mut HashMap<String, String>,
     line: &[u8],
 ) -> Result<(), AllocError>
     ensures { OnOk result ((name : List ℕ) → value_at headers.new name
-        ≡ joined (option_to_list (value_at headers.old name)
+        ≡ combined_value (option_to_list (value_at headers.old name)
         ++ values_under name (option_to_list (header_of (strip_carriage_return line.now))))) }
 {
     match header_of(without_carriage_return(line)) {
@@ -77,7 +78,7 @@ fn read_line(
     }
 }
 
-/// The line without the carriage return at its end, if it has one.
+/// Returns the line without the carriage return at its end, if it has one.
 fn without_carriage_return(line: &[u8]) -> &[u8]
     ensures { result.now ≡ strip_carriage_return line.now }
 {
@@ -87,7 +88,7 @@ fn without_carriage_return(line: &[u8]) -> &[u8]
     }
 }
 
-/// The name and the value of the line, if it is a header.
+/// Returns the name and the value of the line, if it is a header.
 fn header_of(line: &[u8]) -> Option<(&str, &str)>
     ensures { option_map (λ h. (h.0.now, h.1.now)) result ≡ header_of line.now }
 {
@@ -102,18 +103,18 @@ fn header_of(line: &[u8]) -> Option<(&str, &str)>
     }
 }
 
-/// What stands before the first colon and after it, if there is one.
+/// Returns what stands before and after the first colon, if there is one.
 fn split_header(line: &str) -> Option<(&str, &str)>
-    ensures { MatchOption result (list_any is_colon line.now ≡ false) (λ parts.
+    ensures { MatchOption result (list_any is_colon line.now ≡ false) (λ cut.
         (list_any is_colon line.now ≡ true)
-        × (parts.0.now ≡ before_first is_colon line.now)
-        × (parts.1.now ≡ after_first is_colon line.now)) }
+        × (cut.0.now ≡ before_first is_colon line.now)
+        × (cut.1.now ≡ after_first is_colon line.now)) }
 {
     let (name, value) = line.split_once(':')?;
     Some((name, value))
 }
 
-/// The visible ASCII characters that stand in no token (RFC 9110, section 5.6.2).
+/// The visible ASCII characters that no token has (RFC 9110, section 5.6.2).
 const DELIMITERS: &[u8] = b"(),/:;<=>?@[\\]{}\"";
 
 fn is_delimiter(byte: u8) -> bool
@@ -148,7 +149,7 @@ fn add(
     value: &str,
 ) -> Result<(), AllocError>
     ensures { OnOk result ((other : List ℕ) → value_at headers.new other
-        ≡ joined (option_to_list (value_at headers.old other)
+        ≡ combined_value (option_to_list (value_at headers.old other)
         ++ values_under other ((name.now, value.now) ∷ []))) }
 {
     let name = name.to_ascii_lowercase(alloc)?;
@@ -157,9 +158,9 @@ fn add(
     Ok(())
 }
 
-/// The values with one more at their end, after a comma.
+/// Appends the value to the values, after a comma if there are any.
 fn join(alloc: Global, values: Option<String>, value: &str) -> Result<String, AllocError>
-    ensures { IfOk result (λ joined. string_bytes joined
+    ensures { IfOk result (λ combined. string_bytes combined
         ≡ join_with_byte 44 (option_to_list (option_map string_bytes values) ++ value.now ∷ [])) }
 {
     let Some(mut values) = values else {
@@ -170,13 +171,13 @@ fn join(alloc: Global, values: Option<String>, value: &str) -> Result<String, Al
     Ok(values)
 }
 
-/// Writes a line `name: value` of each header, in order. A header with a carriage return, a line
-/// feed or NUL in it would be other lines, with headers that its sender made up (RFC 9110, section
-/// 5.5): it is left out, and `errors` gets a line with its name.
+/// Writes a line `name: value` for each header, in order. A header with a carriage return, a line
+/// feed or NUL could be read as further headers, which its sender made up (RFC 9110, section 5.5):
+/// it is left out, and a line with its name is written to `errors`.
 ///
 /// # Errors
 ///
-/// That of a write that fails. The lines before it may have been written.
+/// The error of a write that fails. Lines before it may have been written.
 pub fn write<W: Write, E: Write>(
     output: &mut W,
     errors: &mut E,
@@ -198,7 +199,7 @@ pub fn write<W: Write, E: Write>(
     Ok(())
 }
 
-/// Whether the text may stand in a line of a header.
+/// Returns whether the text may stand in a line of a header.
 fn is_line_text(text: &str) -> bool
     ensures { result ≡ is_line_text text.now }
 {

@@ -1,6 +1,6 @@
 //! A service at work: it reads the headers of a request from standard input, starts a span under
 //! the one that they name, adds an entry to their baggage, and prints the headers of the request
-//! that it sends on, and the span.
+//! that it sends on, then the span.
 #![tactic(auto)]
 
 mod failure;
@@ -13,7 +13,8 @@ use std::alloc::Global;
 use std::io::{BufWriter, Read, Stderr, Stdin, Stdout, Write};
 use std::process::ExitCode;
 
-/// Serves one request, and writes what is sent on, and to `errors` what is left out.
+/// Serves one request. Writes what is sent on to `output`, and which headers are left out to
+/// `errors`.
 fn run(alloc: Global, mut input: Stdin, output: Stdout, mut errors: Stderr) -> Result<(), Failure> {
     let mut bytes = Vec::new(alloc);
     input.read_to_end(&mut bytes)?;

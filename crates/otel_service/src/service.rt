@@ -31,15 +31,15 @@ pub fn serve(
     baggage: &BaggagePropagator,
     received: &HashMap<String, String>,
 ) -> Result<Sent, Failure> {
-    let given = extracted(alloc, trace, baggage, received)?;
-    let context = started(alloc, &given)?;
+    let given = extract(alloc, trace, baggage, received)?;
+    let context = start_span(alloc, &given)?;
     let span = context.span_context().clone()?;
-    let headers = injected(alloc, trace, baggage, &context)?;
+    let headers = inject(alloc, trace, baggage, &context)?;
     Ok(Sent { headers, span })
 }
 
 /// Returns the context that the headers name.
-fn extracted(
+fn extract(
     alloc: Global,
     trace: &TraceContextPropagator,
     baggage: &BaggagePropagator,
@@ -49,17 +49,18 @@ fn extracted(
     baggage.extract_with_context(alloc, &given, received)
 }
 
-/// Returns the context of the service's work: that of its span, with its name in the baggage.
-fn started(alloc: Global, given: &Context) -> Result<Context, Failure> {
+/// Starts the service's span. Returns the context of its work, which has the span, and the
+/// service's name in the baggage.
+fn start_span(alloc: Global, given: &Context) -> Result<Context, Failure> {
     let span = child_of(given.span_context())?;
     let span = RecordingSpan::new(alloc, span, StringValue::from("serve"));
     let mut spans = Spans::new(alloc);
     let context = given.with_span(alloc, &mut spans, span)?;
-    Ok(named(alloc, &context)?)
+    Ok(with_service_name(alloc, &context)?)
 }
 
 /// Returns the headers of the context.
-fn injected(
+fn inject(
     alloc: Global,
     trace: &TraceContextPropagator,
     baggage: &BaggagePropagator,
@@ -72,7 +73,7 @@ fn injected(
 }
 
 /// Returns the context, with the service's name in its baggage. A full baggage stays as it is.
-fn named(alloc: Global, context: &Context) -> Result<Context, AllocError> {
+fn with_service_name(alloc: Global, context: &Context) -> Result<Context, AllocError> {
     let mut baggage = Baggage::new(alloc);
     if let Some(given) = context.baggage() {
         for (key, (value, metadata)) in given {
@@ -99,12 +100,13 @@ fn child_of(parent: &SpanContext) -> Result<SpanContext, AllocError> {
 }
 
 impl Sent {
-    /// Writes the headers in rising order of their names, and then the span. A header that isn't one
+    /// Writes the headers in ascending order of their names, then the span. A header that isn't one
     /// line is left out, and `errors` says so (see [`headers::write`]).
     ///
     /// # Errors
     ///
-    /// That of a write that fails, and `OutOfMemory` if out of memory.
+    /// The error of a write that fails, and `OutOfMemory` if out of memory. Lines before the error
+    /// may have been written.
     pub fn write<W: Write, E: Write>(
         &self,
         alloc: Global,
