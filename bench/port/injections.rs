@@ -1,6 +1,6 @@
 //! Injections by a composite of two members: that of a context's name, and that of its trace state.
 use crate::contexts::remote;
-use crate::members::NameMember;
+use crate::name_member::NameMember;
 use crate::operation::{Operation, Task, add, repeat};
 use crate::state_member::StateMember;
 use opentelemetry::Context;

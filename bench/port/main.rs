@@ -10,7 +10,7 @@ mod contexts;
 mod headers;
 mod ids;
 mod injections;
-mod members;
+mod name_member;
 mod operation;
 mod random;
 mod rounds;

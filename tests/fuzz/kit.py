@@ -40,7 +40,7 @@ def lay_programs(room):
     with open(f"{folder}/src/main.rt", encoding="utf-8") as file:
         text = file.read()
     text = replaced(text, r"input: Stdin, output: Stdout", "input: &[u8], output: &mut Vec<u8>")
-    text = replaced(text, r"use std::io::\{Stdin, Stdout\};\n", "")
+    text = replaced(text, r"use std::io::\{BufWriter, Stdin, Stdout\};\n", "use std::io::BufWriter;\n")
     text = replaced(text, r"use std::process::ExitCode;\n", "")
     text = replaced(text, r"(?ms)^fn main\(.*\Z", MAIN)
     text = replaced(text, r"(?m)^mod events;$", "mod driver;\nmod events;\nmod headers;")

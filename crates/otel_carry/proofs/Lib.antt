@@ -1,2 +1,4 @@
 pub mod EventLemmas
+pub mod GrammarLemmas
 pub mod OutcomeLemmas
+pub mod ReportLemmas

@@ -1,7 +1,7 @@
 -- The events that the lines of the input ask for, and which line is reported as faulty. Not in the
 -- Rust crate.
-use Rattle.std.specs.Prelude.{◌≡◌, ℕ, ◌+◌, ◌==◌, Bool, true, not, List, ◌∷◌, ◌++◌, length, take, filter, slice_get}
-use Rattle.std.specs.Prelude.{Option, Some, None, IsSome, IfSome, codes}
+use Rattle.std.specs.Prelude.{◌≡◌, ℕ, ◌+◌, ◌==◌, Bool, true, not, List, ◌∷◌, ◌++◌, length, take}
+use Rattle.std.specs.Prelude.{filter, slice_get, Option, Some, None, IsSome, IfSome, codes}
 use Rattle.std.specs.List.{slice_split}
 use denote.Ref.{Bor}
 use Rattle.otel_ids.specs.TraceState.{Pair}
@@ -12,11 +12,13 @@ use Rattle.opentelemetry.specs.declared.carry.event.StackEvent.{StackEvent}
 use Rattle.opentelemetry.specs.declared.carry.event.StackEvent.TheVariants.{Attach, Detach}
 use Rattle.opentelemetry.specs.Run.{attaches_of}
 use Rattle.otel_carry.specs.declared.lines.Fault.{Fault}
-use Rattle.otel_carry.specs.declared.lines.Fault.TheVariants.{UnknownCommand, BadName, BadTraceState, BadNumber}
+use Rattle.otel_carry.specs.declared.lines.Fault.TheVariants.{UnknownCommand, BadName}
+use Rattle.otel_carry.specs.declared.lines.Fault.TheVariants.{BadTraceState, BadNumber}
 use Rattle.otel_carry.specs.declared.failure.Failure.{Failure}
-use Rattle.otel_carry.specs.declared.failure.Failure.TheVariants.{Unreadable, NotUtf8, Line, NoMemory}
+use Rattle.otel_carry.specs.declared.failure.Failure.TheVariants.{Unreadable, NotUtf8, Line}
+use Rattle.otel_carry.specs.declared.failure.Failure.TheVariants.{NoMemory}
 use Rattle.otel_carry.specs.Lines.{IsName, IsNumber, IsFault}
-use Rattle.otel_carry.specs.Members.{context_for}
+use Rattle.otel_carry.specs.NamedContext.{context_for}
 
 -- the line attaches a context with this name and, if it gives one, this trace state, as `attach a
 -- v=1` does

@@ -1,11 +1,13 @@
 -- What the program shows of an extraction. Not in the Rust crate.
-use Rattle.std.specs.Prelude.{ℕ, Result, Ok, Err}
+use Rattle.std.specs.Prelude.{ℕ, List, ◌++◌, Result, Ok, Err, codes}
 use Rattle.std.specs.Option.{option_map_or}
+use Rattle.otel_ids.specs.Ids.{id_text}
 use Rattle.otel_context.specs.Context.{ContextRecord}
 use Rattle.opentelemetry.specs.declared.propagation.error.PropagationError.{PropagationError}
 use Rattle.opentelemetry.specs.declared.propagation.error.PropagationError.TheVariants as errors
 use Rattle.otel_carry.specs.declared.extraction.Extracted.{Extracted}
-use Rattle.otel_carry.specs.declared.extraction.Extracted.TheVariants.{Span, NoSpan, Refused, NoMemory}
+use Rattle.otel_carry.specs.declared.extraction.Extracted.TheVariants.{Span, NoSpan, Refused}
+use Rattle.otel_carry.specs.declared.extraction.Extracted.TheVariants.{NoMemory}
 
 -- of a context: the ids of its active span, if it has one
 abbrev pub shown_of_context : ContextRecord → Extracted
@@ -17,6 +19,13 @@ abbrev pub shown : Result ContextRecord PropagationError → Extracted
 shown (Ok context) = shown_of_context context
 shown (Err errors.Refused) = Refused
 shown (Err (errors.Memory error)) = NoMemory
+
+-- the words that are written
+abbrev pub text_of : Extracted → List ℕ
+text_of (Span trace_id span_id) = id_text 32 trace_id ++ codes " " ++ id_text 16 span_id
+text_of NoSpan = codes "none"
+text_of Refused = codes "refused"
+text_of NoMemory = codes "no memory"
 
 -- the exit status of the program: 0 if there is a context, otherwise 1
 abbrev pub status_of : Extracted → ℕ

@@ -3,7 +3,8 @@ use Rattle.std.specs.Prelude.{◌⊎◌, ℕ, List, IsUtf8}
 use Rattle.opentelemetry.specs.declared.carry.event.StackEvent.{StackEvent}
 use Rattle.otel_carry.specs.declared.lines.Fault.{Fault}
 use Rattle.otel_carry.specs.declared.failure.Failure.{Failure}
-use Rattle.otel_carry.specs.declared.failure.Failure.TheVariants.{Unreadable, NotUtf8, Line, NoMemory}
+use Rattle.otel_carry.specs.declared.failure.Failure.TheVariants.{Unreadable, NotUtf8, Line}
+use Rattle.otel_carry.specs.declared.failure.Failure.TheVariants.{NoMemory}
 use Rattle.otel_carry.specs.Events.{AskFor, IsFirstFaulty, lines_of}
 
 -- the input isn't UTF-8, or one of its lines is faulty, as the second of `attach a`, `attach`
@@ -20,8 +21,8 @@ IsGoodInput input events = IsUtf8 input × AskFor (lines_of input) events
 abbrev pub IsGood : List ℕ → Type 0
 IsGood input = (events : List StackEvent) × IsGoodInput input events
 
--- the failure is one of this input; that it can't be read or that the program is out of memory may
--- be of any
+-- The failure is possible for this input: its first fault, or, for any input, that it can't be read
+-- or that the program is out of memory.
 abbrev pub IsFailureOf : List ℕ → Failure → Type 0
 IsFailureOf input Unreadable = Unit {0}
 IsFailureOf input NotUtf8 = ¬ IsUtf8 input

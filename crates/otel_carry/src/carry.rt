@@ -1,64 +1,90 @@
 //! A whole run: from the bytes of the input to the lines of the output.
-ghost use Rattle.std.specs.Prelude.{◌≡◌, ◌≤◌, IsOk, IfOk, IfErr, IfSome};
-ghost use Rattle.otel_carry.specs.Outcome.{IsFailureOf, IsFaultyInput, IsGood, IsGoodInput};
+ghost use Rattle.std.specs.Prelude.{◌≡◌, ◌≤◌, IsOk, IfOk, IfErr, IfSome, OnOk};
+ghost use Rattle.std.specs.Io.KnownBytes.{Appends};
+ghost use Rattle.otel_context.specs.Stack.{current};
+ghost use Rattle.opentelemetry.specs.Carrier.{text_map};
+ghost use Rattle.opentelemetry.specs.Composite.{extracted_of, may_refuse_of, pairs_of};
+ghost use Rattle.opentelemetry.specs.Extraction.{Extracts};
+ghost use Rattle.otel_carry.specs.Failures.{status_of};
+ghost use Rattle.otel_carry.specs.Outcome.{IsFailureOf, IsGood, IsGoodInput};
+ghost use Rattle.otel_carry.specs.Report.{Writes, failure_line};
+ghost use Rattle.otel_carry.specs.Run.{Ends, IsRunOf, IsRunText};
 
 use crate::events::events_of;
 use crate::extraction::Extracted;
 use crate::failure::Failure;
 use crate::input::read_whole;
-use crate::report::write_report;
+use crate::report::{write_current, write_outcomes, write_texts};
 use opentelemetry::Context;
 use opentelemetry::carry::{RunReport, StackEvent, run};
-use opentelemetry::propagation::TextMapCompositePropagator;
+use opentelemetry::propagation::{PropagationError, TextMapCompositePropagator};
 use std::alloc::Global;
 use std::collections::HashMap;
-use std::io::{self, BufWriter, Read, Write};
+use std::io::{self, Read, Write};
 
-/// Reads the whole input, runs its attaches and detaches, and writes the report of the run and what
-/// the composite extracts again from the carrier. Returns the exit status of the program.
-#[tactic(auto, using(crate::proofs::OutcomeLemmas::faulty_by))]
-pub fn carry<R: Read + Drop, W: Write + Drop>(
-    alloc: Global,
-    input: R,
-    mut output: W,
-    composite: &TextMapCompositePropagator,
-) -> u8
-    ensures status { result ≤ 2 }
-    // 2 says that the input is faulty, and 0 that it isn't.
-    ensures faulty { result ≡ 2 → IfSome (R.remaining input) IsFaultyInput }
-    ensures good { result ≡ 0 → IfSome (R.remaining input) IsGood }
-{
-    match carried(alloc, input, &mut output, composite) {
-        Ok(status) => status,
-        Err(failure) => match writeln!(output, "{failure}") {
-            Ok(()) => failure.status(),
-            Err(_) => 1,
-        },
-    }
-}
-
-/// Reads the input, runs it, and writes the report of the run. Returns the status of the run.
-fn carried<R: Read + Drop, W: Write + Drop>(
+/// Reads the whole input, runs its attaches and detaches, writes the report of the run, or why
+/// there is none, and flushes the output. Returns the exit status of the program.
+///
+/// # Errors
+///
+/// The error of a write or a flush that fails, and `OutOfMemory` if out of memory while the report
+/// is written. A beginning of the report may have been written.
+pub fn carry<R: Read + Drop, W: Write>(
     alloc: Global,
     input: R,
     output: &mut W,
     composite: &TextMapCompositePropagator,
-) -> Result<u8, Failure>
-    ensures status { IfOk result (λ status. status ≤ 1) }
+) -> io::Result<u8>
+    ensures status { IfOk result (λ status. status ≤ 2) }
+    ensures ends { IfOk result (λ status. IfSome (R.remaining input) (λ bytes.
+        Ends (pairs_of (λ m. pairs (m.vtable, m.value)) composite.now)
+        (extracted_of (λ m. extracted (m.vtable, m.value)) composite.now)
+        bytes status (W.contents output.old) (W.contents output.new))) }
+{
+    let status = write_result(alloc, input, output, composite)?;
+    output.flush()?;
+    Ok(status)
+}
+
+/// Reads the whole input, runs its attaches and detaches, and writes the report of the run, or why
+/// there is none. Returns the exit status of the program.
+fn write_result<R: Read + Drop, W: Write>(
+    alloc: Global,
+    input: R,
+    output: &mut W,
+    composite: &TextMapCompositePropagator,
+) -> io::Result<u8>
+    ensures status { IfOk result (λ status. status ≤ 2) }
+    ensures ends { IfOk result (λ status. IfSome (R.remaining input) (λ bytes.
+        Ends (pairs_of (λ m. pairs (m.vtable, m.value)) composite.now)
+        (extracted_of (λ m. extracted (m.vtable, m.value)) composite.now)
+        bytes status (W.contents output.old) (W.contents output.new))) }
+{
+    let mut carrier = HashMap::new(alloc);
+    match run_input(alloc, input, composite, &mut carrier) {
+        Ok(report) => write_run(alloc, output, &report, composite, &carrier),
+        Err(failure) => write_failure(output, failure),
+    }
+}
+
+/// Reads the whole input, and runs its attaches and detaches. Returns the report of the run, which
+/// fills the carrier.
+fn run_input<R: Read + Drop>(
+    alloc: Global,
+    input: R,
+    composite: &TextMapCompositePropagator,
+    carrier: &mut HashMap<String, String>,
+) -> Result<RunReport, Failure>
     ensures good { IfOk result (λ _. IfSome (R.remaining input) IsGood) }
+    ensures run { IfOk result (λ report. OnOk report.injected (IfSome (R.remaining input) (λ bytes.
+        IsRunOf (pairs_of (λ m. pairs (m.vtable, m.value)) composite.now) bytes
+        (text_map carrier.old.entries) (text_map carrier.new.entries)
+        report.outcomes.items (current report.stack.live)))) }
     ensures failure { IfErr result (λ failure. IfSome (R.remaining input) (λ bytes.
         IsFailureOf bytes failure)) }
 {
     let events = read_events(alloc, input)?;
-    let mut lines = BufWriter::new(alloc, output).map_err(|_| Failure::NoMemory)?;
-    let mut carrier = HashMap::new(alloc);
-    let report = run(alloc, events, composite, &mut carrier)?;
-    let written = write_run(alloc, &mut lines, &report, composite, &carrier);
-    let flushed = lines.flush();
-    Ok(match written {
-        Ok(status) if flushed.is_ok() => status,
-        _ => 1,
-    })
+    Ok(run(alloc, events, composite, carrier)?)
 }
 
 /// Reads the whole input, and returns the events that its lines ask for.
@@ -73,6 +99,16 @@ fn read_events<R: Read + Drop>(alloc: Global, input: R) -> Result<Vec<StackEvent
     events_of(alloc, text)
 }
 
+/// Writes the line of the failure. Returns its exit status.
+fn write_failure<W: Write>(output: &mut W, failure: Failure) -> io::Result<u8>
+    ensures status { IfOk result (λ status. status ≡ status_of failure) }
+    ensures line { OnOk result (Appends (W.contents output.old) (W.contents output.new)
+        (failure_line failure)) }
+{
+    writeln!(output, "{failure}")?;
+    Ok(failure.status())
+}
+
 /// Writes the report and, if the injection succeeded, what the composite extracts again from the
 /// carrier. Returns the status of the run: 1 if either was an error.
 fn write_run<W: Write>(
@@ -84,13 +120,34 @@ fn write_run<W: Write>(
 ) -> io::Result<u8>
     ensures status { IfOk result (λ status. status ≤ 1) }
     ensures injected { IfOk result (λ status. status ≡ 0 → IsOk report.now.injected) }
+    ensures written { IfOk result (λ status. status ≡ 0 → Writes (IsRunText
+        (extracted_of (λ m. extracted (m.vtable, m.value)) composite.now)
+        report.now.outcomes.items (current report.now.stack.live) (text_map carrier.now.entries))
+        (W.contents output.old) (W.contents output.new)) }
 {
-    write_report(alloc, output, report, carrier)?;
+    write_outcomes(output, &report.outcomes)?;
+    write_current(output, report.stack.current())?;
     if report.injected.is_err() {
+        writeln!(output, "inject: refused")?;
         return Ok(1);
     }
-    let extraction = composite.extract_with_context(alloc, &Context::new(), carrier);
+    write_texts(alloc, output, carrier)?;
+    let extraction = extract(alloc, composite, &Context::new(), carrier);
     let extracted = Extracted::of(&extraction);
     writeln!(output, "extracted: {extracted}")?;
     Ok(extracted.status())
+}
+
+/// Returns the context that the composite extracts from the carrier, starting from the given one.
+fn extract(
+    alloc: Global,
+    composite: &TextMapCompositePropagator,
+    context: &Context,
+    carrier: &HashMap<String, String>,
+) -> Result<Context, PropagationError>
+    ensures { Extracts (extracted_of (λ m. extracted (m.vtable, m.value)) composite.now
+        context.now (text_map carrier.now.entries))
+        (may_refuse_of (λ m. may_refuse (m.vtable, m.value)) composite.now) result }
+{
+    composite.extract_with_context(alloc, context, carrier)
 }

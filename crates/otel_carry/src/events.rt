@@ -1,7 +1,8 @@
 //! The events that the lines of the input ask for.
 ghost use Rattle.std.specs.Prelude.{◌≡◌, ◌<◌, ◌-◌, ◌^◌, IfOk, IfErr};
-ghost use Rattle.otel_carry.specs.Events.{AreRead, AskFor, AsksFor, IsFaultIn, IsReported, IsTold, lines_of};
-ghost use Rattle.otel_carry.specs.Members.{context_for, span_context_for};
+ghost use Rattle.otel_carry.specs.Events.{AreRead, AskFor, AsksFor, IsFaultIn, IsReported};
+ghost use Rattle.otel_carry.specs.Events.{IsTold, lines_of};
+ghost use Rattle.otel_carry.specs.NamedContext.{context_for, span_context_for};
 
 use crate::failure::Failure;
 use crate::lines::{Fault, Line, parse};

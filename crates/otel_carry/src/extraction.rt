@@ -1,6 +1,6 @@
 //! What the program shows of an extraction.
-ghost use Rattle.std.specs.Prelude.{◌≡◌};
-ghost use Rattle.otel_carry.specs.Extracted.{shown, shown_of_context, status_of};
+ghost use Rattle.std.specs.Prelude.{◌≡◌, Some};
+ghost use Rattle.otel_carry.specs.Extracted.{shown, shown_of_context, status_of, text_of};
 
 use opentelemetry::propagation::PropagationError;
 use opentelemetry::{Context, SpanId, TraceId};
@@ -43,6 +43,8 @@ impl Extracted {
 }
 
 impl fmt::Display for Extracted {
+    ghost output = { λ extracted. Some (text_of extracted) };
+
     fn fmt<W: fmt::Write>(&self, f: &mut fmt::Formatter<W>) -> fmt::Result {
         match self {
             Extracted::Span(trace_id, span_id) => write!(f, "{trace_id} {span_id}"),

@@ -1,6 +1,6 @@
 //! Why there is nothing to report.
-ghost use Rattle.std.specs.Prelude.{◌≡◌};
-ghost use Rattle.otel_carry.specs.Failures.{status_of};
+ghost use Rattle.std.specs.Prelude.{◌≡◌, Some};
+ghost use Rattle.otel_carry.specs.Failures.{status_of, text_of};
 ghost use Rattle.otel_carry.specs.declared.failure.Failure.TheVariants.{NoMemory};
 
 use crate::lines::Fault;
@@ -33,6 +33,8 @@ impl Failure {
 }
 
 impl fmt::Display for Failure {
+    ghost output = { λ failure. Some (text_of failure) };
+
     fn fmt<W: fmt::Write>(&self, f: &mut fmt::Formatter<W>) -> fmt::Result {
         match self {
             Failure::Unreadable => f.write_str("input: cannot be read"),

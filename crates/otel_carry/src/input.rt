@@ -5,7 +5,7 @@ use crate::failure::Failure;
 use std::alloc::Global;
 use std::io::Read;
 
-/// The most reads of the input, so that a reader that never ends is given up.
+/// The limit on the reads of the input, for a reader that never ends.
 const READS: u32 = 1_048_576;
 
 /// The number of bytes that each read has room for.
@@ -20,7 +20,8 @@ const ROOM: usize = 4096;
 /// `Unreadable` if a read fails, or if none of these reports the end; `NoMemory` if out of memory.
 /// What was read is dropped.
 pub fn read_whole<R: Read + Drop>(alloc: Global, mut input: R) -> Result<Vec<u8>, Failure>
-    ensures whole { IfOk result (λ bytes. IfSome (R.remaining input) (λ left. bytes.items ≡ left)) }
+    ensures whole { IfOk result (λ bytes. IfSome (R.remaining input) (λ left.
+        bytes.items ≡ left)) }
     ensures failure { IfErr result (λ failure.
         (failure ≡ Failure.Unreadable) ⊎ (failure ≡ Failure.NoMemory)) }
 {

@@ -1,6 +1,7 @@
 //! The lines that the program reads: an attach, or a detach.
-ghost use Rattle.std.specs.Prelude.{◌≡◌, ◌↔◌, ◌<◌, ◌^◌, ℕ, IfOk, IfErr, IsTrue};
-ghost use Rattle.otel_carry.specs.Lines.{Reads, IsFault, IsAttach, IsName, IsNumber, first_word};
+ghost use Rattle.std.specs.Prelude.{◌≡◌, ◌↔◌, ℕ, IfOk, IfErr, IsTrue, Some};
+ghost use Rattle.otel_carry.specs.Lines.{Reads, IsFault, IsAttach, IsDetach, IsName, IsNumber};
+ghost use Rattle.otel_carry.specs.Lines.{fault_text, first_word};
 
 use std::fmt;
 
@@ -33,6 +34,8 @@ pub enum Fault {
 }
 
 impl fmt::Display for Fault {
+    ghost output = { λ fault. Some (fault_text fault) };
+
     fn fmt<W: fmt::Write>(&self, f: &mut fmt::Formatter<W>) -> fmt::Result {
         f.write_str(match self {
             Fault::UnknownCommand => "unknown command",
@@ -87,9 +90,9 @@ fn is_name(name: &str) -> bool
 
 /// Parses what follows `detach `.
 fn detach_of(digits: &str) -> Result<Line<'_>, Fault>
-    ensures line { IfOk result (λ line. (n : ℕ) × (line ≡ Line.Detach n) × IsNumber digits.now n) }
+    ensures line { IfOk result (IsDetach digits.now) }
     ensures fault { IfErr result (λ fault.
-        (fault ≡ Fault.BadNumber) × ((n : ℕ) → n < 2 ^ 64 → ¬ IsNumber digits.now n)) }
+        (fault ≡ Fault.BadNumber) × ((n : ℕ) → ¬ IsNumber digits.now n)) }
 {
     // `parse` would accept a sign.
     if digits.starts_with('+') {

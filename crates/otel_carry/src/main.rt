@@ -8,14 +8,14 @@ mod extraction;
 mod failure;
 mod input;
 mod lines;
-mod members;
+mod name_member;
 mod report;
 
-use members::NameMember;
+use name_member::NameMember;
 use opentelemetry::propagation::{TextMapCompositePropagator, TextMapPropagator};
 use otel_propagators::{BaggagePropagator, TraceContextPropagator};
 use std::alloc::{AllocError, Global};
-use std::io::{Stdin, Stdout};
+use std::io::{BufWriter, Stdin, Stdout};
 use std::process::ExitCode;
 
 /// Runs the input with a composite of `NameMember` and the propagators of the W3C headers.
@@ -25,7 +25,8 @@ fn serve(alloc: Global, input: Stdin, output: Stdout) -> Result<u8, AllocError> 
     members.push(Box::new(alloc, TraceContextPropagator::new(alloc)?)?)?;
     members.push(Box::new(alloc, BaggagePropagator::new(alloc)?)?)?;
     let composite = TextMapCompositePropagator::new(alloc, members)?;
-    Ok(carry::carry(alloc, input, output, &composite))
+    let mut output = BufWriter::new(alloc, output).map_err(|_| AllocError)?;
+    Ok(carry::carry(alloc, input, &mut output, &composite).unwrap_or(1))
 }
 
 fn main(rt: HostRuntime) -> ExitCode {

@@ -1,45 +1,93 @@
-//! What the program prints of a run.
-use crate::members::name_of;
-use opentelemetry::carry::{AttachOutcome, RunReport};
-use std::alloc::{AllocError, Global};
+//! What the program writes of a run, line by line.
+ghost use Rattle.std.specs.Prelude.{OnOk};
+ghost use Rattle.std.specs.Io.KnownBytes.{Appends};
+ghost use Rattle.std.specs.List.{flat_map};
+ghost use Rattle.opentelemetry.specs.Carrier.{text_map};
+ghost use Rattle.otel_carry.specs.Report.{AreTextLines, Writes, current_line, outcome_line};
+ghost use Rattle.otel_carry.specs.Report.{outcome_lines, text_line};
+
+use crate::name_member::name_of;
+use opentelemetry::Context;
+use opentelemetry::carry::AttachOutcome;
+use opentelemetry::propagation::Extractor;
+use std::alloc::Global;
 use std::collections::HashMap;
 use std::io::{self, Write};
 
-/// Writes the outcome of each attach, the name of the current context, and the carrier in ascending
-/// order of its keys, or that the injection was refused.
-pub fn write_report<W: Write>(
-    alloc: Global,
-    output: &mut W,
-    report: &RunReport,
-    carrier: &HashMap<String, String>,
-) -> io::Result<()> {
-    for (number, outcome) in report.outcomes.iter().enumerate() {
-        match outcome {
-            AttachOutcome::Attached(position) => writeln!(
-                output,
-                "attach {number}: position {position}"
-            )?,
-            AttachOutcome::Full => writeln!(output, "attach {number}: full")?,
-            AttachOutcome::NoMemory => writeln!(output, "attach {number}: no memory")?,
-        }
-    }
-    let name = name_of(report.stack.current()).unwrap_or("base");
-    writeln!(output, "current: {name}")?;
-    if report.injected.is_err() {
-        return writeln!(output, "inject: refused");
-    }
-    for (key, value) in rising(alloc, carrier)? {
-        writeln!(output, "{key}={value}")?;
+/// Writes a line for each attach, with its number and its outcome.
+pub fn write_outcomes<W: Write>(output: &mut W, outcomes: &[AttachOutcome]) -> io::Result<()>
+    ensures { OnOk result (Appends (W.contents output.old) (W.contents output.new)
+        (outcome_lines outcomes.now)) }
+{
+    for (number, outcome) in outcomes.iter().enumerate() {
+        write_outcome(output, number, *outcome)?;
     }
     Ok(())
 }
 
-/// Returns the entries of the map in ascending order of their keys.
-fn rising(alloc: Global, map: &HashMap<String, String>) -> Result<Vec<(&str, &str)>, AllocError> {
-    let mut entries = Vec::new(alloc);
-    for (key, value) in map {
-        entries.push((key.as_str(), value.as_str()))?;
+/// Writes the line of the attach with this number.
+fn write_outcome<W: Write>(output: &mut W, number: usize, outcome: AttachOutcome) -> io::Result<()>
+    ensures { OnOk result (Appends (W.contents output.old) (W.contents output.new)
+        (outcome_line number outcome)) }
+{
+    match outcome {
+        AttachOutcome::Attached(position) => writeln!(
+            output,
+            "attach {number}: position {position}"
+        ),
+        AttachOutcome::Full => writeln!(output, "attach {number}: full"),
+        AttachOutcome::NoMemory => writeln!(output, "attach {number}: no memory"),
     }
-    entries.sort()?;
-    Ok(entries)
+}
+
+/// Writes the name of the current context, or `base` if it has none.
+pub fn write_current<W: Write>(output: &mut W, context: &Context) -> io::Result<()>
+    ensures { OnOk result (Appends (W.contents output.old) (W.contents output.new)
+        (current_line context.now)) }
+{
+    let name = name_of(context).unwrap_or("base");
+    writeln!(output, "current: {name}")
+}
+
+/// Writes a line `key=value` for each text of the carrier, in ascending order of the keys.
+pub fn write_texts<W: Write>(
+    alloc: Global,
+    output: &mut W,
+    carrier: &HashMap<String, String>,
+) -> io::Result<()>
+    ensures { OnOk result (Writes (AreTextLines (text_map carrier.now.entries))
+        (W.contents output.old) (W.contents output.new)) }
+{
+    let keys = Extractor::keys(carrier, alloc)?;
+    write_texts_at(output, carrier, &keys)
+}
+
+/// Writes the lines of the texts at these keys, in order.
+fn write_texts_at<W: Write>(
+    output: &mut W,
+    carrier: &HashMap<String, String>,
+    keys: &[&str],
+) -> io::Result<()>
+    ensures { OnOk result (Appends (W.contents output.old) (W.contents output.new)
+        (flat_map (λ key. text_line (text_map carrier.now.entries) key.now) keys.now)) }
+{
+    for key in keys {
+        write_text_at(output, carrier, key)?;
+    }
+    Ok(())
+}
+
+/// Writes the line of the text at this key, if there is one.
+fn write_text_at<W: Write>(
+    output: &mut W,
+    carrier: &HashMap<String, String>,
+    key: &str,
+) -> io::Result<()>
+    ensures { OnOk result (Appends (W.contents output.old) (W.contents output.new)
+        (text_line (text_map carrier.now.entries) key.now)) }
+{
+    match carrier.get(key) {
+        Some(value) => writeln!(output, "{key}={value}"),
+        None => Ok(()),
+    }
 }

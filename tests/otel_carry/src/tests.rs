@@ -6,11 +6,11 @@ mod input;
 mod lines;
 mod report;
 
-use crate::members::NameMember;
+use crate::name_member::NameMember;
 use opentelemetry::propagation::{TextMapCompositePropagator, TextMapPropagator};
 use otel_propagators::{BaggagePropagator, TraceContextPropagator};
 use std::alloc::{AllocError, Global};
-use std::io::{Read, Write};
+use std::io::{BufWriter, Read, Write};
 use std::process::Abort;
 
 /// What is written where no context is attached.
@@ -27,7 +27,8 @@ fn status_of<R: Read + Drop, W: Write + Drop>(
     members.push(Box::new(alloc, TraceContextPropagator::new(alloc)?)?)?;
     members.push(Box::new(alloc, BaggagePropagator::new(alloc)?)?)?;
     let composite = TextMapCompositePropagator::new(alloc, members)?;
-    Ok(crate::carry::carry(alloc, input, output, &composite))
+    let mut output = BufWriter::new(alloc, output).map_err(|_| AllocError)?;
+    Ok(crate::carry::carry(alloc, input, &mut output, &composite).unwrap_or(1))
 }
 
 /// Checks what the program writes for this input, and its status.

@@ -1,4 +1,4 @@
-use Rattle.std.proofs.Common.{◌≡◌, ◌+◌, ◌≤◌, length, lit<, arith, sym, ap, ◌∙◌, refl, of_calls, rules, if◌then◌else◌}
+use Rattle.std.proofs.Common.{◌≡◌, ◌+◌, ◌≤◌, length, lit<, arith, sym, ap, ◌∙◌, of_calls, if◌then◌else◌}
 use Rattle.std.specs.Prelude.{not}
 use Rattle.std.proofs.lemmas.List.{length_push}
 use Rattle.std.proofs.lemmas.List.FromFn.{length-enumerate_from}
@@ -6,8 +6,8 @@ use Rattle.std.proofs.lemmas.Result.{err_from_is_err_and}
 use Rattle.std.proofs.lemmas.Iterator.Splits.{YieldsList-from_str_split}
 use Rattle.std.proofs.lemmas.Iterator.Consumers.{YieldsList-at, YieldsList-turn, YieldsList-end, YieldsList-from_enumerate}
 use Rattle.opentelemetry.specs.Run.{is_attach}
-use Rattle.otel_carry.specs.Events.{lines_of, is_asking}
-use Rattle.otel_carry.proofs.EventLemmas.{asks_nothing, passes_by, goes_on, fails, ends, line_at, counted}
+use Rattle.otel_carry.specs.Events.{lines_of}
+use Rattle.otel_carry.proofs.EventLemmas.{passes_by, goes_on, fails, ends, line_at, counted}
 use Rattle.otel_carry.proofs.events.events_of.Goals as goal
 use Rattle.otel_carry.proofs.events.events_of.Goals.{in-Attach, in_default, then-matches, else-matches}
 

@@ -1,6 +1,6 @@
 //! The program's own propagator, which carries a context's name.
 ghost use Rattle.std.specs.Prelude.{◌≡◌, IfOk, map, option_map, string_bytes};
-ghost use Rattle.otel_carry.specs.Members.{name_in, name_fields};
+ghost use Rattle.otel_carry.specs.NamedContext.{name_in, name_fields};
 
 use opentelemetry::Context;
 use opentelemetry::logs::AnyValue;
@@ -44,7 +44,7 @@ impl NameMember {
 
 impl TextMapPropagator for NameMember {
     ghost use Rattle.std.specs.Prelude.{false, map, string_bytes};
-    ghost use Rattle.otel_carry.specs.Members.{name_pairs};
+    ghost use Rattle.otel_carry.specs.NamedContext.{name_pairs};
 
     ghost pairs = { λ _ context. name_pairs context };
 
