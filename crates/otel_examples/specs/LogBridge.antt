@@ -11,5 +11,6 @@ pub record IsStamped {R : Type 0} (MayCreate : R → Type 0) (after_body : R →
   pub created : R
   pub may_create : MayCreate created
   pub traced : IsValidSpanContext span
-      → MayBeTraced (after_body created body) span.trace_id span.span_id (Some span.trace_flags) stamped
+      → MayBeTraced (after_body created body) span.trace_id span.span_id (Some span.trace_flags)
+      stamped
   pub untraced : (IsValidSpanContext span → ⊥) → stamped ≡ after_body created body

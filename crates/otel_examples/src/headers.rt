@@ -17,7 +17,8 @@ pub struct Headers {
 
 /// Returns the index of the first pair named `name`.
 fn index_of(pairs: &Vec<(String, String)>, name: &str) -> Option<usize>
-    ensures { result ≡ position (λ pair. bytes_eq name.now (string_bytes pair.0)) pairs.now.items }
+    ensures { result
+        ≡ position (λ pair. bytes_eq name.now (string_bytes pair.0)) pairs.now.items }
 {
     pairs.iter().position(|pair| name == pair.0.as_str())
 }
