@@ -1,10 +1,12 @@
 -- What comes back by a composite of the trace context's propagator and the baggage's, whatever other members stand before them.
-use Rattle.std.proofs.Common.{◌≡◌, ℕ, Bool, List, [], ◌∷◌, ◌++◌, Option, Some, None, Result, rules, codes, refl, sym, ap, subst, ◌∙◌, inl, inr}
-use Rattle.std.specs.Prelude.{◌⊎◌, All, IfOk}
-use Rattle.std.specs.List.{flat_map, fold}
+use Rattle.std.proofs.Common.{◌≡◌, ◌||◌, ℕ, Bool, IsTrue, List, [], ◌∷◌, ◌++◌, Option, Some, None, Result, rules, codes, refl, sym, ap, subst, ◌∙◌, inl, inr}
+use Rattle.std.specs.Prelude.{All, IfOk}
+use Rattle.std.specs.List.{flat_map, fold, list_any}
 use Rattle.std.specs.Option.{option_map_or}
+use Rattle.std.proofs.Math.Bool.{or-false}
+use Rattle.std.proofs.lemmas.List.{append-nil, append_assoc}
 use Rattle.std.proofs.lemmas.List.Concat.{flat_map-append}
-use Rattle.std.proofs.lemmas.List.Elements.{All-nil, All-cons}
+use Rattle.std.proofs.lemmas.List.Elements.{All-nil, All-cons, All-append}
 use Rattle.std.proofs.lemmas.List.Sums.{fold-append}
 use Rattle.std.proofs.lemmas.Result.{IfOk-weaker}
 use Rattle.otel_context.specs.Context.{ContextRecord}
@@ -14,56 +16,68 @@ use Rattle.opentelemetry.specs.declared.propagation.error.PropagationError.{Prop
 use Rattle.otel_propagators.specs.BaggagePropagator.{baggage_pairs, baggage_extracted}
 use Rattle.otel_propagators.specs.TraceContext.{trace_pairs, trace_extracted}
 use Rattle.otel_examples.specs.RequestId as request
-use Rattle.otel_propagators.specs.Laws.{IsContext, IsOther, ComesBack, ComesBackTogether, CompositeSets}
+use Rattle.otel_propagators.specs.Laws.{IsContext, IsOther, BothExtract, ComesBack, ComesBackTogether, CompositeSets}
+use Rattle.otel_examples.specs.Composite.{CarriesBoth}
 
--- the two last members are both propagators, in either order
-pub record AreBoth {M : Type 0} (pairs : M → Pairs) (extracted : ContextRecord → M → ContextRecord) (context : ContextRecord) (texts : TextMap) (trace baggage : M) : Type 0 where
-  pub trace_sets : pairs trace ≡ trace_pairs context
-  pub baggage_sets : pairs baggage ≡ baggage_pairs context
-  pub trace_gives : (given : ContextRecord) → extracted given trace ≡ trace_extracted given texts
-  pub baggage_gives : (given : ContextRecord) → extracted given baggage ≡ baggage_extracted given texts
+-- the pairs and the extraction of the trace context's propagator and of the baggage's, in either order
+module _ (context given : ContextRecord) (texts : TextMap) (ps qs : Pairs) (first : ContextRecord) (second : ContextRecord → ContextRecord) where
+  pub trace_first : ps ≡ trace_pairs context → qs ≡ baggage_pairs context → first ≡ trace_extracted given texts → ((c : ContextRecord) → second c ≡ baggage_extracted c texts) → CarriesBoth context given texts (ps ++ qs) (second first)
+  trace_first trace_sets baggage_sets trace_gives baggage_gives = record {
+    sets = record {
+      before = [];
+      one = trace_pairs context;
+      between = [];
+      other = baggage_pairs context;
+      after = [];
+      all = ap (λ (r : Pairs). r ++ qs) trace_sets ∙ ap (λ (r : Pairs). trace_pairs context ++ r) (baggage_sets ∙ sym (append-nil (baggage_pairs context)));
+      both = inl (refl, refl);
+      others = (All-nil IsOther, All-nil IsOther, All-nil IsOther);
+    };
+    extracts = inl (baggage_gives first ∙ ap (λ (c : ContextRecord). baggage_extracted c texts) trace_gives);
+  }
 
-module _ {M : Type 0} (pairs : M → Pairs) (extracted : ContextRecord → M → ContextRecord) (context given before : ContextRecord) (back : Result ContextRecord PropagationError) (old new : TextMap)
-    (ms others : List M) (trace baggage : M) (i : IsContext context)
-    (sets : Sets old (flat_map pairs ms) new) (gives : IfOk back (λ b. b ≡ fold extracted given ms))
-    (begins : fold extracted given others ≡ before) (law : ComesBackTogether) (composite : CompositeSets) (set : Pairs) (others_set : flat_map pairs others ≡ set) (other : All IsOther set) (both : AreBoth pairs extracted context new trace baggage) where
-  last_two : (a b : M) → ms ≡ others ++ (a ∷ b ∷ []) → flat_map pairs ms ≡ set ++ (pairs a ++ (pairs b ++ []))
-  last_two a b are = ap (flat_map pairs) are ∙ flat_map-append pairs others (a ∷ b ∷ []) ∙ ap (λ (ps : Pairs). ps ++ (pairs a ++ (pairs b ++ []))) others_set
+  pub baggage_first : ps ≡ baggage_pairs context → qs ≡ trace_pairs context → first ≡ baggage_extracted given texts → ((c : ContextRecord) → second c ≡ trace_extracted c texts) → CarriesBoth context given texts (ps ++ qs) (second first)
+  baggage_first baggage_sets trace_sets baggage_gives trace_gives = record {
+    sets = record {
+      before = [];
+      one = baggage_pairs context;
+      between = [];
+      other = trace_pairs context;
+      after = [];
+      all = ap (λ (r : Pairs). r ++ qs) baggage_sets ∙ ap (λ (r : Pairs). baggage_pairs context ++ r) (trace_sets ∙ sym (append-nil (trace_pairs context)));
+      both = inr (refl, refl);
+      others = (All-nil IsOther, All-nil IsOther, All-nil IsOther);
+    };
+    extracts = inr (trace_gives first ∙ ap (λ (c : ContextRecord). trace_extracted c texts) baggage_gives);
+  }
 
-  gives_two : (a b : M) → ms ≡ others ++ (a ∷ b ∷ []) → fold extracted given ms ≡ extracted (extracted before a) b
-  gives_two a b are = ap (fold extracted given) are ∙ fold-append extracted given others (a ∷ b ∷ []) ∙ ap (λ (c : ContextRecord). extracted (extracted c a) b) begins
+-- the two last members are both propagators, whatever other members stand before them
+pub after_others : {M : Type 0} (pairs : M → Pairs) (extracted : ContextRecord → M → ContextRecord) (context given before : ContextRecord) (texts : TextMap) (ms others : List M) (a b : M) (set : Pairs)
+    → ms ≡ others ++ (a ∷ b ∷ []) → fold extracted given others ≡ before → flat_map pairs others ≡ set → All IsOther set
+    → CarriesBoth context before texts (pairs a ++ pairs b) (extracted (extracted before a) b) → CarriesBoth context before texts (flat_map pairs ms) (fold extracted given ms)
+after_others pairs extracted context given before texts ms others a b set are begins others_set other has = record {
+  sets = record {
+    before = set ++ has.sets.before;
+    one = has.sets.one;
+    between = has.sets.between;
+    other = has.sets.other;
+    after = has.sets.after;
+    all = ap (flat_map pairs) are ∙ flat_map-append pairs others (a ∷ b ∷ []) ∙ ap (λ (ps : Pairs). ps ++ (pairs a ++ (pairs b ++ []))) others_set
+        ∙ ap (λ (ps : Pairs). set ++ (pairs a ++ ps)) (append-nil (pairs b)) ∙ ap (λ (ps : Pairs). set ++ ps) has.sets.all
+        ∙ sym (append_assoc set has.sets.before (has.sets.one ++ (has.sets.between ++ (has.sets.other ++ has.sets.after))));
+    both = has.sets.both;
+    others = (All-append IsOther set has.sets.before other has.sets.others.0, has.sets.others.1, has.sets.others.2);
+  };
+  extracts = subst (λ (c : ContextRecord). BothExtract before texts c)
+      (sym (ap (fold extracted given) are ∙ fold-append extracted given others (a ∷ b ∷ []) ∙ ap (λ (c : ContextRecord). extracted (extracted c a) b) begins)) has.extracts;
+}
 
-  pub trace_first : ms ≡ others ++ (trace ∷ baggage ∷ []) → IfOk back (λ b. ComesBack context old before b)
-  trace_first are =
-      let are_set = composite context (flat_map pairs ms) old new (record {
-        before = set;
-        one = trace_pairs context;
-        between = [];
-        other = baggage_pairs context;
-        after = [];
-        all = last_two trace baggage are ∙ ap (λ (ps : Pairs). set ++ (ps ++ (pairs baggage ++ []))) both.trace_sets
-            ∙ ap (λ (ps : Pairs). set ++ (trace_pairs context ++ (ps ++ []))) both.baggage_sets;
-        both = inl (refl, refl);
-        others = (other, All-nil IsOther, All-nil IsOther);
-      }) sets in
-      IfOk-weaker back _ _ (λ b is. law context before b old new i are_set
-      (inl (is ∙ gives_two trace baggage are ∙ both.baggage_gives (extracted before trace) ∙ ap (λ (c : ContextRecord). baggage_extracted c new) (both.trace_gives before)))) gives
-
-  pub baggage_first : ms ≡ others ++ (baggage ∷ trace ∷ []) → IfOk back (λ b. ComesBack context old before b)
-  baggage_first are =
-      let are_set = composite context (flat_map pairs ms) old new (record {
-        before = set;
-        one = baggage_pairs context;
-        between = [];
-        other = trace_pairs context;
-        after = [];
-        all = last_two baggage trace are ∙ ap (λ (ps : Pairs). set ++ (ps ++ (pairs trace ++ []))) both.baggage_sets
-            ∙ ap (λ (ps : Pairs). set ++ (baggage_pairs context ++ (ps ++ []))) both.trace_sets;
-        both = inr (refl, refl);
-        others = (other, All-nil IsOther, All-nil IsOther);
-      }) sets in
-      IfOk-weaker back _ _ (λ b is. law context before b old new i are_set
-      (inr (is ∙ gives_two baggage trace are ∙ both.trace_gives (extracted before baggage) ∙ ap (λ (c : ContextRecord). trace_extracted c new) (both.baggage_gives before)))) gives
+-- what a composite of both sends comes back
+pub arrives : ComesBackTogether → CompositeSets → (context given : ContextRecord) (back : Result ContextRecord PropagationError) (pairs : Pairs) (extracted : ContextRecord) (old new : TextMap)
+    → IsContext context → Sets old pairs new → IfOk back (λ b. b ≡ extracted) → CarriesBoth context given new pairs extracted → IfOk back (ComesBack context old given)
+arrives together composite context given back pairs extracted old new is sets gives has =
+    IfOk-weaker back _ _ (λ b same. together context given b old new is (composite context pairs old new has.sets sets)
+    (subst (λ (c : ContextRecord). BothExtract given new c) (sym same) has.extracts)) gives
 
 -- the same of texts by another name
 pub extracts_moved : (give : TextMap → ContextRecord) (may : Bool) (back : Result ContextRecord PropagationError) (a b : TextMap) → a ≡ b → Extracts (give a) may back → Extracts (give b) may back
@@ -76,3 +90,7 @@ id_is_other (Some id) = All-cons IsOther (codes "x-request-id", id) [] (search r
 
 pub requests_are_other : (context : ContextRecord) → All IsOther (request.pairs context ++ [])
 requests_are_other context = id_is_other (request.id_of context)
+
+-- one of two members
+pub any_two : {M : Type 0} (may : M → Bool) (ms : List M) (a b : M) (r : Bool) → ms ≡ a ∷ b ∷ [] → (IsTrue r → IsTrue (list_any may ms)) → IsTrue r → IsTrue (may a || may b)
+any_two may ms a b r are refuses h = sym (ap (λ x. may a || x) (or-false (may b))) ∙ sym (ap (list_any may) are) ∙ refuses h

@@ -1,5 +1,5 @@
--- What a composite of two members sets.
-use Rattle.std.proofs.Common.{◌≡◌, ◌≢◌, ℕ, List, [], ◌∷◌, ◌++◌, Bool, true, false, cond, Option, Some, None, Result, refl, sym, ap, subst, ◌∙◌, codes}
+-- What composites set.
+use Rattle.std.proofs.Common.{◌≡◌, ◌≢◌, ℕ, List, [], ◌∷◌, ◌++◌, Bool, true, false, cond, Option, Some, None, Result, Ok, Err, refl, sym, ap, subst, ◌∙◌, codes}
 use Rattle.std.specs.Prelude.{IfOk, OnOk}
 use Rattle.std.specs.List.{flat_map}
 use Rattle.std.specs.Option.{option_or, option_map_or}
@@ -7,12 +7,15 @@ use Rattle.std.specs.Str.{bytes_eq}
 use Rattle.std.proofs.lemmas.Result.{IfOk-weaker, on_ok_weaker}
 use Rattle.std.proofs.lemmas.Slice.Eq.{bytes_eq-Decides}
 use Rattle.otel_context.specs.BaggageHeader.{header}
-use Rattle.otel_context.specs.Context.{ContextRecord}
-use Rattle.opentelemetry.specs.Carrier.{CarrierState, Pairs, TextMap, Sets, at}
+use Rattle.otel_ids.specs.TraceState.{header as state_header}
+use Rattle.otel_context.specs.Context.{ContextRecord, span_context}
+use Rattle.opentelemetry.specs.Carrier.{CarrierState, Pairs, TextMap, Sets, at, last_value}
 use Rattle.opentelemetry.specs.Injection.{Injects}
 use Rattle.opentelemetry.specs.declared.propagation.error.PropagationError.{PropagationError}
-use Rattle.otel_propagators.specs.BaggagePropagator.{members, baggage_pairs}
-use Rattle.otel_examples.specs.Composite.{IsSent}
+use Rattle.otel_propagators.specs.BaggagePropagator.{baggage_key, members, baggage_pairs}
+use Rattle.otel_propagators.specs.TraceContext.{traceparent_key, tracestate_key, parent, is_valid, trace_pairs}
+use Rattle.otel_propagators.specs.TraceParent.{parent_text}
+use Rattle.otel_examples.specs.Composite.{IsIdSent, IsSent}
 use Rattle.otel_examples.specs.RequestId as request
 
 -- the text isn't another one
@@ -47,6 +50,26 @@ module _ (context : ContextRecord) (old new : TextMap) where
       (ap (flat_map pairs) are ∙ ap (λ (ps : Pairs). ps ++ (pairs b ++ [])) first ∙ ap (λ (ps : Pairs). request.pairs context ++ (ps ++ [])) second)
       sets)
 
+-- the pairs of the W3C headers have other keys than a request's id
+last_id : (valid : Bool) (id : Option (List ℕ)) (traceparent tracestate baggage : List ℕ)
+    → last_value (option_map_or (λ i. (codes "x-request-id", i) ∷ []) id []
+    ++ (cond valid ((traceparent_key, traceparent) ∷ (tracestate_key, tracestate) ∷ []) [] ++ ((baggage_key, baggage) ∷ []))) (codes "x-request-id") ≡ id
+last_id true None p s b = refl
+last_id true (Some id) p s b = refl
+last_id false None p s b = refl
+last_id false (Some id) p s b = refl
+
+-- what a composite of the request's id and of both W3C headers sets at the id's key
+pub id_is_sent : {M : Type 0} (pairs : M → Pairs) (context : ContextRecord) (old new : TextMap) (ms : List M) (a b c : M) → ms ≡ a ∷ b ∷ c ∷ []
+    → pairs a ≡ request.pairs context → pairs b ≡ trace_pairs context → pairs c ≡ baggage_pairs context → Sets old (flat_map pairs ms) new → IsIdSent context old new
+id_is_sent pairs context old new ms a b c are first second third sets =
+    sets.at_key (codes "x-request-id")
+    ∙ ap (λ (ps : Pairs). option_or (last_value ps (codes "x-request-id")) (at old (codes "x-request-id")))
+    (ap (flat_map pairs) are ∙ ap (λ (ps : Pairs). ps ++ (pairs b ++ (pairs c ++ []))) first ∙ ap (λ (ps : Pairs). request.pairs context ++ (ps ++ (pairs c ++ []))) second
+    ∙ ap (λ (ps : Pairs). request.pairs context ++ (trace_pairs context ++ (ps ++ []))) third)
+    ∙ ap (λ o. option_or o (at old (codes "x-request-id")))
+    (last_id (is_valid (span_context context)) (request.id_of context) (parent_text (parent (span_context context))) (state_header (span_context context).trace_state) (header (members context)))
+
 -- what an injection by a composite of two members leaves, whose pairs for what `r` reports are `pairs r`
 pub run_sends : {M R T E : Type 0} (pairs : R → M → Pairs) (may : Bool) (ms : List M) (a b : M)
     (result : Result R E) (context_of : R → ContextRecord) (injected : R → Result T PropagationError) (old new : CarrierState)
@@ -56,3 +79,8 @@ pub run_sends : {M R T E : Type 0} (pairs : R → M → Pairs) (may : Bool) (ms 
 run_sends pairs may ms a b result context_of injected old new does are first second =
     IfOk-weaker result _ _ (λ r injects.
     on_ok_weaker (injected r) (is_sent (context_of r) old.texts new.texts (pairs r) ms a b are (first r) (second r)) injects.ok) does
+
+-- what holds of all results holds of a success
+pub on_each : {T E P : Type 0} (r : Result T E) → P → OnOk r P
+on_each (Ok t) h = h
+on_each (Err e) h = tt
