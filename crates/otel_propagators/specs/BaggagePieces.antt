@@ -8,7 +8,7 @@ use Rattle.std.specs.Str.{is_utf8, trim}
 use denote.Ref.{Bor}
 use Rattle.percent_encoding.specs.Percent.{percent_decode, percent_sign}
 use Rattle.otel_ids.specs.Text.{is_equals}
-use Rattle.otel_context.specs.Baggage.{insert}
+use Rattle.otel_context.specs.Baggage.{insert, max_len_of_all_pairs}
 use Rattle.otel_context.specs.BaggageMember.{Member, member_of}
 use Rattle.otel_propagators.specs.BaggageReading.{key_and_value, key_in, written_value, metadata_in}
 
@@ -45,6 +45,14 @@ abbrev pub decoded_value : ℕ → List ℕ → Option (List ℕ)
 decoded_value longest value =
     let decoded = percent_decode value in
     if is_utf8 decoded && nat_le (length decoded) longest then Some decoded else None
+
+-- the same for a value that is written in at most 1024 bytes, and for the longest that a baggage
+-- accepts
+abbrev pub short_decoded : List ℕ → Option (List ℕ)
+short_decoded value = decoded_value 1024 value
+
+abbrev pub longest_decoded : List ℕ → Option (List ℕ)
+longest_decoded value = decoded_value max_len_of_all_pairs value
 
 -- the list after an insert of the member of these texts, the metadata without white space at its
 -- ends

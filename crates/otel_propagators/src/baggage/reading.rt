@@ -4,6 +4,7 @@ ghost use Rattle.std.specs.List.{after_first, list_any};
 ghost use Rattle.otel_context.specs.BaggageText.{IsTrimmed};
 ghost use Rattle.otel_propagators.specs.BaggagePieces.{ArePartsOf, IsFilledWith, IsSplitAtEquals};
 ghost use Rattle.otel_propagators.specs.BaggagePieces.{decoded_value, is_percent};
+ghost use Rattle.otel_propagators.specs.BaggagePieces.{longest_decoded, short_decoded};
 ghost use Rattle.otel_propagators.specs.BaggagePieces.{with_member, with_value};
 ghost use Rattle.otel_propagators.specs.BaggageReading.{is_semicolon, key_and_value};
 ghost use Rattle.otel_propagators.specs.BaggageReading.{with_piece, read_baggage};
@@ -125,6 +126,41 @@ fn insert_value(
     insert_member(alloc, baggage, key, value, metadata)
 }
 
+/// Decodes the value into a short room, and inserts the member with it, if it is accepted.
+#[inline(never)]
+fn insert_short(
+    alloc: Global,
+    baggage: &mut Baggage,
+    key: &str,
+    value: &str,
+    metadata: &str,
+) -> Result<(), AllocError>
+    requires { IsTrimmed metadata.now }
+    ensures { OnOk result (baggage.new
+        ≡ with_value baggage.old key.now (short_decoded value.now) metadata.now) }
+{
+    let mut room = [0; SHORT_LEN];
+    insert_value(alloc, baggage, key, decode(value, &mut room), metadata)
+}
+
+/// Decodes the value into room for the longest value that a baggage accepts, and inserts the member
+/// with it, if it is accepted. Not inlined, since a function clears the room when it is entered.
+#[inline(never)]
+fn insert_long(
+    alloc: Global,
+    baggage: &mut Baggage,
+    key: &str,
+    value: &str,
+    metadata: &str,
+) -> Result<(), AllocError>
+    requires { IsTrimmed metadata.now }
+    ensures { OnOk result (baggage.new
+        ≡ with_value baggage.old key.now (longest_decoded value.now) metadata.now) }
+{
+    let mut room = [0; MAX_LEN_OF_ALL_PAIRS];
+    insert_value(alloc, baggage, key, decode(value, &mut room), metadata)
+}
+
 /// Inserts the member that the piece stands for, if there is one and it is accepted. A value that
 /// has no `%` is copied once, into the member.
 fn insert_piece(alloc: Global, baggage: &mut Baggage, piece: &str) -> Result<(), AllocError>
@@ -136,11 +172,9 @@ fn insert_piece(alloc: Global, baggage: &mut Baggage, piece: &str) -> Result<(),
     if is_plain(value) {
         insert_value(alloc, baggage, key, Some(value), metadata)
     } else if value.len() <= SHORT_LEN {
-        let mut room = [0; SHORT_LEN];
-        insert_value(alloc, baggage, key, decode(value, &mut room), metadata)
+        insert_short(alloc, baggage, key, value, metadata)
     } else {
-        let mut room = [0; MAX_LEN_OF_ALL_PAIRS];
-        insert_value(alloc, baggage, key, decode(value, &mut room), metadata)
+        insert_long(alloc, baggage, key, value, metadata)
     }
 }
 
