@@ -11,7 +11,9 @@ use Rattle.std.proofs.lemmas.Cmp.{nat_list_cmp_total}
 use Rattle.std.proofs.lemmas.Map.Lookups.{exact_bytes}
 use Rattle.std.proofs.lemmas.Map.Text.{is_eq-slice_cmp}
 use Rattle.std.specs.Cmp.Lexicographic.{slice_cmp}
-use Rattle.std.specs.FinMap.{get, find, insert, get-from_entries, get-insert, same_map}
+use Rattle.std.specs.FinMap.{get, find, insert, empty, get-empty, get-from_entries, get-insert, same_map}
+use Rattle.std.proofs.lemmas.Option.{none-some}
+use Rattle.std.proofs.lemmas.Slice.Eq.{bytes_eq-Decides}
 use Rattle.std.specs.declared.alloc.Global.{Global}
 use Rattle.std.specs.declared.rc.Rc.{Rc}
 use Rattle.otel_base.specs.AnyValue.{Tree}
@@ -157,3 +159,15 @@ module _ (es fs : List (Rc Entry Global)) (k : List ℕ) (t : Tree) (is : pairs 
       ∙ find-put text_cmp nat_list_cmp_total q k t (pairs es)
       ∙ ap (cond (is_eq (text_cmp q k)) (Some t)) (sym (get_seen es q))
       ∙ sym (get-insert nat_list_cmp_total (entries_seen es) k t q))
+
+-- only no entries stand for the empty map
+pub seen_none : (es : List (Rc Entry Global)) → length es ≡ 0 → entries_seen es ≡ empty
+seen_none [] h = refl
+seen_none (e ∷ es) h = absurd (omega (arith, h))
+
+pub none_seen : (es : List (Rc Entry Global)) → entries_seen es ≡ empty → length es ≡ 0
+none_seen [] h = refl
+none_seen (e ∷ es) h =
+    absurd (none-some (tree e.value.value) (
+    sym (get-empty text_cmp e.value.key) ∙ ap (λ m. get m e.value.key) (sym h)
+    ∙ get_seen (e ∷ es) e.value.key ∙ find_here e es e.value.key ((bytes_eq-Decides e.value.key e.value.key).1 refl)))

@@ -29,7 +29,8 @@ module _ {S : Type 0} where
 
   -- the table after an effect on the span, if the table has it
   abbrev pub table_after : (S → S) → SpanRef S → SpansState S
-  table_after effect reference = calls.after_effect effect (table_of reference) (number_of reference)
+  table_after effect reference =
+      calls.after_effect effect (table_of reference) (number_of reference)
 
   -- the span became one that it is in relation with, if the table has it; else the table is as
   -- it was

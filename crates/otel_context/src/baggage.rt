@@ -3,7 +3,7 @@
 //! A contract sees a baggage as the list of its members, each a key with its value and its metadata
 //! (W3C baggage, `list-member`): at most 64 with distinct keys, and at most 8192 bytes in all.
 ghost use Rattle.std.specs.Prelude.{◌≡◌, List, [], length, position, map as map_list, Some, IfOk};
-ghost use Rattle.std.specs.Prelude.{IsTrue, ◌↔◌};
+ghost use Rattle.std.specs.Prelude.{IsOk, IsTrue, ◌↔◌};
 ghost use Rattle.std.specs.Map.{keys_of};
 ghost use Rattle.std.specs.Map.Iter.{ShowsInOrder};
 ghost use Rattle.std.specs.Option.{option_copied};
@@ -13,7 +13,7 @@ ghost use Rattle.otel_context.specs.Baggage.{replaced_value, remove, from_member
 ghost use Rattle.otel_context.specs.BaggageHeader.{header};
 ghost use Rattle.otel_context.specs.BaggageMember.{member_of};
 ghost use Rattle.otel_context.specs.BaggageView.{entry_members, lent_member};
-ghost use Rattle.otel_context.specs.KeyValueMetadata.{from_key_value};
+ghost use Rattle.otel_context.specs.KeyValueMetadata.{from_key_value, AreTexts};
 
 mod header;
 mod key;
@@ -215,12 +215,14 @@ impl Baggage {
     ///
     /// # Errors
     ///
-    /// Returns an error as soon as memory runs out. Everything inserted so far is dropped.
+    /// Returns an error as soon as memory runs out, which is possible only for a member that is
+    /// accepted. Everything inserted so far is dropped.
     pub fn from_pairs(
         alloc: Global,
         members: Vec<(Key, (StringValue, BaggageMetadata))>,
     ) -> Result<Baggage, AllocError>
-        ensures { IfOk result (λ b. b ≡ from_members (entry_members members.items)) }
+        ensures members { IfOk result (λ b. b ≡ from_members (entry_members members.items)) }
+        ensures none_accepted { from_members (entry_members members.items) ≡ [] → IsOk result }
     {
         let mut baggage = Baggage::new(alloc);
         for (key, (value, metadata)) in members {
@@ -234,10 +236,13 @@ impl Baggage {
     ///
     /// # Errors
     ///
-    /// Returns an error as soon as memory runs out. Everything inserted so far is dropped.
+    /// Returns an error as soon as memory runs out, which is possible only for an attribute that is
+    /// accepted or whose value isn't a text. Everything inserted so far is dropped.
     pub fn from_key_values(alloc: Global, attributes: Vec<KeyValue>) -> Result<Baggage, AllocError>
-        ensures { IfOk result (λ b.
+        ensures members { IfOk result (λ b.
             b ≡ from_members (map_list from_key_value attributes.items)) }
+        ensures none_accepted { from_members (map_list from_key_value attributes.items) ≡ []
+            → AreTexts attributes.items → IsOk result }
     {
         let mut baggage = Baggage::new(alloc);
         for attribute in attributes {
@@ -252,12 +257,14 @@ impl Baggage {
     ///
     /// # Errors
     ///
-    /// Returns an error as soon as memory runs out. Everything inserted so far is dropped.
+    /// Returns an error as soon as memory runs out, which is possible only for a member that is
+    /// accepted. Everything inserted so far is dropped.
     pub fn from_key_values_with_metadata(
         alloc: Global,
         members: Vec<KeyValueMetadata>,
     ) -> Result<Baggage, AllocError>
-        ensures { IfOk result (λ b. b ≡ from_members members.items) }
+        ensures members { IfOk result (λ b. b ≡ from_members members.items) }
+        ensures none_accepted { from_members members.items ≡ [] → IsOk result }
     {
         let mut baggage = Baggage::new(alloc);
         for member in members {

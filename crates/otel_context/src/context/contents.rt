@@ -1,5 +1,5 @@
 //! The contents of a context, which contexts share.
-ghost use Rattle.std.specs.Prelude.{◌≡◌, IfOk, Some, option_map};
+ghost use Rattle.std.specs.Prelude.{◌≡◌, ◌↔◌, IsTrue, IfOk, Some, option_map};
 ghost use Rattle.otel_base.specs.View.{tree};
 ghost use Rattle.otel_context.specs.Context.{empty_context, get, with_value, with_baggage};
 ghost use Rattle.otel_context.specs.Context.{with_cleared_baggage, has_active_span, span_number};
@@ -119,6 +119,20 @@ impl Contents {
         let mut contents = self.clone()?;
         contents.baggage = None;
         Ok(Rc::new(alloc, contents)?)
+    }
+
+    /// Returns `true` if nothing but a baggage is in the contents.
+    pub fn has_only_baggage(&self) -> bool
+        ensures { IsTrue result ↔ (with_cleared_baggage self.now ≡ empty_context) }
+    {
+        self.entries.is_empty() && self.span.is_none() && !self.suppressed
+    }
+
+    /// Returns `true` if nothing is in the contents.
+    pub fn is_empty(&self) -> bool
+        ensures { IsTrue result ↔ (self.now ≡ empty_context) }
+    {
+        self.has_only_baggage() && self.baggage.is_none()
     }
 
     /// Returns `true` if a span is active.

@@ -1,5 +1,5 @@
 //! The named entries of a context.
-ghost use Rattle.std.specs.Prelude.{◌≡◌, length, IfOk, option_map};
+ghost use Rattle.std.specs.Prelude.{◌≡◌, ◌↔◌, IsTrue, length, IfOk, option_map};
 ghost use Rattle.std.specs.FinMap as map;
 ghost use Rattle.std.specs.List.Sorted.{IsSearchInRange, IsBinarySearchResult};
 ghost use Rattle.otel_base.specs.View.{tree};
@@ -64,6 +64,13 @@ impl Entries {
             Ok(at) => Some(&self.items[at].as_ref().value),
             Err(_) => None,
         }
+    }
+
+    /// Returns `true` if there is no entry.
+    pub fn is_empty(&self) -> bool
+        ensures { IsTrue result ↔ (self.now ≡ map.empty) }
+    {
+        self.items.is_empty()
     }
 
     /// Returns a map with the entry set, replacing an entry named `key`.

@@ -53,8 +53,8 @@ pub fn mark_span_as_active<S: Span>(
 /// Calls `f` once on a reference to the current context's span, and returns what it returns.
 ///
 /// What `f` does to the span is said by the calls of [`SpanRef`], which change no other span of the
-/// table. If `f` puts another reference in the place of the one that it is lent, nothing is promised
-/// of the table.
+/// table. If `f` replaces the reference that it is lent by another one, nothing is promised about
+/// the table.
 ///
 /// ```
 /// get_active_span(&stack, &mut spans, |span| span.end(NOW));

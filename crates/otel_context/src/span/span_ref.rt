@@ -42,7 +42,8 @@ impl<S> Drop for SpanRef<'_, S> {
 impl<'a, S: Span> SpanRef<'a, S> {
     ghost use Rattle.otel_context.specs.SpanEffects.{attributes_of, SetsAttributes, SetsBeginning};
     ghost use Rattle.otel_context.specs.SpanEffects.{RecordsError};
-    ghost use Rattle.otel_context.specs.SpanRef.{table_of, span_context, span_of, is_recording, table_after};
+    ghost use Rattle.otel_context.specs.SpanRef.{table_of, span_context, span_of, is_recording};
+    ghost use Rattle.otel_context.specs.SpanRef.{table_after};
     ghost use Rattle.otel_context.specs.SpanRef.{Becomes, IsSameReference};
 
     /// Returns the context's span context, also if the table doesn't have the span.
