@@ -6,3 +6,5 @@ pub mod Outcomes
 pub mod PieceTurns
 pub mod Rising
 pub mod Scaling
+mod SetInTurn
+mod SpanContexts

@@ -8,5 +8,8 @@ pub mod Resource
 pub mod ResourceTexts
 pub mod Sampler
 pub mod SamplerLaws
+pub mod Span
 pub mod SpanData
+pub mod SpanExamples
 pub mod SpanLimits
+pub mod View

@@ -8,8 +8,8 @@ use Rattle.otel_ids.specs.SpanContext.{SpanContextRecord}
 use Rattle.opentelemetry.specs.Event.{EventRecord, LinkRecord}
 
 -- The span context; the parent's span id, 0 for a root, and whether the parent is remote; the kind
--- and the name; the start and the end in nanoseconds since 1970; the attributes, events and links in
--- order, each with how many were dropped; the status, and the scope of the tracer [OpenTelemetry
+-- and the name; the start and the end in nanoseconds since 1970; the attributes, events and links
+-- in order, each with how many were dropped; the status, and the scope of the tracer [OpenTelemetry
 -- trace SDK, "Additional span interfaces"; the Rust crate's `SpanData`]
 pub record SpanRecord : Type 0 where
   pub span_context : SpanContextRecord

@@ -1,5 +1,5 @@
 -- What a span keeps of what its calls give it.
-use Rattle.std.specs.Prelude.{◌≡◌, ℕ, ◌+◌, List, [], ◌∷◌, ◌++◌, length, map, Bool, nat_lt, refl}
+use Rattle.std.specs.Prelude.{◌≡◌, ℕ, ◌+◌, List, [], map, nat_lt, refl}
 use Rattle.std.specs.Prelude.{None, if◌then◌else◌}
 use Rattle.otel_base.specs.KeyValue.{Attribute}
 use Rattle.opentelemetry.specs.Event.{EventRecord, LinkRecord}

@@ -1,10 +1,13 @@
 //! Lists of attributes with unique keys, under a limit.
-ghost use Rattle.std.specs.Prelude.{◌≡◌, map, IfOk, OnOk, OnErr};
+ghost use Rattle.std.specs.Prelude.{◌≡◌, [], map, IfOk, OnOk, OnErr};
 ghost use Rattle.otel_base.specs.View.{attribute_of};
 ghost use Rattle.otel_sdk.specs.Attributes as spec;
+ghost use Rattle.otel_sdk.specs.SpanLimits.{up_by};
 
+use crate::cutting::cut;
+use crate::trace::limits::up_by;
 use otel_base::{Key, KeyValue};
-use std::alloc::AllocError;
+use std::alloc::{AllocError, Global};
 
 // The place of the attribute with the key, if there is one.
 fn place(attributes: &[KeyValue], key: &Key) -> Option<usize>
@@ -68,4 +71,31 @@ pub fn put_all(attributes: &mut Vec<KeyValue>, given: Vec<KeyValue>) -> Result<(
         put(attributes, attribute)?;
     }
     Ok(())
+}
+
+/// Cuts each of the given attributes and sets it in turn in a new list, up to the limit. Returns
+/// the list, and the count plus how many were dropped.
+///
+/// # Errors
+///
+/// Returns an error if memory runs out. The attributes are dropped.
+pub fn limited(
+    alloc: Global,
+    limit: u32,
+    length: Option<u32>,
+    given: Vec<KeyValue>,
+    mut count: u32,
+) -> Result<(Vec<KeyValue>, u32), AllocError>
+    ensures kept { IfOk result (λ r. map attribute_of r.0.items
+        ≡ spec.set_all limit [] (map (spec.cut length) (map attribute_of given.items))) }
+    ensures count { IfOk result (λ r. r.1 ≡ up_by count
+        (spec.dropped limit [] (map (spec.cut length) (map attribute_of given.items)))) }
+{
+    let mut kept = Vec::new(alloc);
+    for attribute in given {
+        if !set(&mut kept, limit, cut(alloc, length, attribute)?)? {
+            count = up_by(count, 1);
+        }
+    }
+    Ok((kept, count))
 }

@@ -38,11 +38,7 @@ fn end_of_chars(text: &str, length: u32) -> usize
 /// # Errors
 ///
 /// Returns an error if memory runs out. The text is dropped.
-fn cut_text(
-    alloc: Global,
-    length: u32,
-    text: StringValue,
-) -> Result<StringValue, AllocError>
+fn cut_text(alloc: Global, length: u32, text: StringValue) -> Result<StringValue, AllocError>
     ensures { IfOk result (λ cut. cut ≡ take_chars length text) }
 {
     let end = end_of_chars(text.as_str(), length);
@@ -86,11 +82,7 @@ fn cut_value(alloc: Global, length: u32, value: Value) -> Result<Value, AllocErr
 /// # Errors
 ///
 /// Returns an error if memory runs out. The attribute is dropped.
-pub fn cut(
-    alloc: Global,
-    length: Option<u32>,
-    attribute: KeyValue,
-) -> Result<KeyValue, AllocError>
+pub fn cut(alloc: Global, length: Option<u32>, attribute: KeyValue) -> Result<KeyValue, AllocError>
     ensures { IfOk result (λ kept. attribute_of kept ≡ spec.cut length (attribute_of attribute)) }
 {
     match length {

@@ -1,11 +1,12 @@
-//! What spans record, exporters and processors of spans, samplers and generators of ids.
+//! Spans and what they record, exporters and processors, samplers and generators of ids.
 mod data;
 mod export;
 mod id_generator;
 mod in_memory_exporter;
-mod limits;
+pub(crate) mod limits;
 mod processor;
 mod sampler;
+mod span;
 
 pub use data::{SpanData, SpanEvents, SpanLinks};
 pub use export::SpanExporter;
@@ -18,3 +19,4 @@ pub use processor::simple::SimpleSpanProcessor;
 pub use processor::{EndRefused, SpanProcessor};
 pub use sampler::parent_based::ParentBased;
 pub use sampler::{Sampler, SamplingDecision, SamplingResult, ShouldSample, laws};
+pub use span::SdkSpan;

@@ -1,5 +1,6 @@
-//! Resources, samplers, and the way of spans to an exporter.
+//! Resources, samplers, spans, and their way to an exporter.
 mod export;
+mod spans;
 
 use crate::lines::Lines;
 use opentelemetry::trace::{SpanContext, SpanId, SpanKind, TraceFlags, TraceId, TraceState};
@@ -21,6 +22,7 @@ pub fn play<R: Print>(alloc: Global, lines: &Lines<'_, R>) {
         lines.answer_of(sampler.description(alloc));
     }
     resources(alloc, lines);
+    spans::play(alloc, lines);
     export::play(alloc, lines);
 }
 

@@ -1,7 +1,17 @@
 //! What a span has recorded.
-use opentelemetry::trace::{Event, Link, SpanContext, SpanId, SpanKind, Status};
+ghost use Rattle.std.specs.Prelude.{◌≡◌, IfOk, OnOk, OnErr, fold, map};
+ghost use Rattle.otel_base.specs.View.{attribute_of};
+ghost use Rattle.opentelemetry.specs.View.{event_of, link_of};
+ghost use Rattle.otel_sdk.specs.Span as spec;
+
+use crate::attributes::set;
+use crate::cutting::cut;
+use crate::trace::limits::{SpanLimits, limited_event, limited_link, up_by};
+use opentelemetry::trace::{Event, Link, SpanContext, SpanId, SpanKind, Status, TraceState};
 use opentelemetry::{InstrumentationScope, KeyValue, StringValue};
+use std::alloc::{AllocError, Global};
 use std::marker::Model;
+use std::mem;
 use std::rc::Rc;
 
 /// What a span has recorded, as processors and exporters get it (the Rust crate's `SpanData`).
@@ -81,4 +91,172 @@ impl Model for SpanData {
       status = d.status;
       scope = rc_value d.instrumentation_scope;
     } };
+}
+
+/// Returns whether the link has a span context that isn't valid, and neither attributes nor a trace
+/// state.
+fn says_nothing(link: &Link) -> bool
+    ensures { result ≡ spec.says_nothing (link_of link.now) }
+{
+    !link.span_context.is_valid()
+        && link.attributes.is_empty()
+        && *link.span_context.trace_state() == TraceState::NONE
+}
+
+impl SpanData {
+    /// Sets the attribute, cut, if the limit lets it, and else counts it.
+    ///
+    /// # Errors
+    ///
+    /// Returns an error if memory runs out. Nothing changes then.
+    pub(crate) fn set_attribute(
+        &mut self,
+        alloc: Global,
+        limits: SpanLimits,
+        attribute: KeyValue,
+    ) -> Result<(), AllocError>
+        ensures ok { OnOk result
+            (self.new ≡ spec.with_attribute limits self.old (attribute_of attribute)) }
+        ensures err { OnErr result (self.new ≡ self.old) }
+    {
+        let attribute = cut(alloc, limits.max_attribute_length, attribute)?;
+        if !set(
+            &mut self.attributes,
+            limits.max_attributes_per_span,
+            attribute,
+        )? {
+            self.dropped_attributes_count = up_by(self.dropped_attributes_count, 1);
+        }
+        Ok(())
+    }
+
+    /// Adds the event, within its own limits, if the limit lets it, and else counts it.
+    ///
+    /// # Errors
+    ///
+    /// Returns an error if memory runs out. Nothing changes then.
+    pub(crate) fn add_event(
+        &mut self,
+        alloc: Global,
+        limits: SpanLimits,
+        event: Event,
+    ) -> Result<(), AllocError>
+        ensures ok { OnOk result
+            (self.new ≡ spec.with_event limits self.old (event_of event)) }
+        ensures err { OnErr result (self.new ≡ self.old) }
+    {
+        if self.events.events.len() >= limits.max_events_per_span as usize {
+            self.events.dropped_count = up_by(self.events.dropped_count, 1);
+            return Ok(());
+        }
+        let event = limited_event(alloc, limits, event)?;
+        self.events.events.push(event)?;
+        Ok(())
+    }
+
+    /// Adds the link, within its own limits, if the limit lets it, and else counts it. A link that
+    /// says nothing changes nothing.
+    ///
+    /// # Errors
+    ///
+    /// Returns an error if memory runs out. Nothing changes then.
+    pub(crate) fn add_link(
+        &mut self,
+        alloc: Global,
+        limits: SpanLimits,
+        link: Link,
+    ) -> Result<(), AllocError>
+        ensures ok { OnOk result
+            (self.new ≡ spec.with_link limits self.old (link_of link)) }
+        ensures err { OnErr result (self.new ≡ self.old) }
+    {
+        if says_nothing(&link) {
+            return Ok(());
+        }
+        if self.links.links.len() >= limits.max_links_per_span as usize {
+            self.links.dropped_count = up_by(self.links.dropped_count, 1);
+            return Ok(());
+        }
+        let link = limited_link(alloc, limits, link)?;
+        self.links.links.push(link)?;
+        Ok(())
+    }
+
+    /// Sets the status if it is greater than the one that is there.
+    pub(crate) fn set_status(&mut self, status: Status)
+        ensures { self.new ≡ spec.with_status self.old status }
+    {
+        if status > self.status {
+            self.status = status;
+        }
+    }
+
+    // Sets each of the attributes in turn.
+    fn set_attributes(
+        &mut self,
+        alloc: Global,
+        limits: SpanLimits,
+        attributes: Vec<KeyValue>,
+    ) -> Result<(), AllocError>
+        ensures { OnOk result (self.new
+            ≡ fold (spec.with_attribute limits) self.old (map attribute_of attributes.items)) }
+    {
+        for attribute in attributes {
+            self.set_attribute(alloc, limits, attribute)?;
+        }
+        Ok(())
+    }
+
+    // Adds each of the events in turn.
+    fn add_events(
+        &mut self,
+        alloc: Global,
+        limits: SpanLimits,
+        events: Vec<Event>,
+    ) -> Result<(), AllocError>
+        ensures { OnOk result
+            (self.new ≡ fold (spec.with_event limits) self.old (map event_of events.items)) }
+    {
+        for event in events {
+            self.add_event(alloc, limits, event)?;
+        }
+        Ok(())
+    }
+
+    // Adds each of the links in turn.
+    fn add_links(
+        &mut self,
+        alloc: Global,
+        limits: SpanLimits,
+        links: Vec<Link>,
+    ) -> Result<(), AllocError>
+        ensures { OnOk result
+            (self.new ≡ fold (spec.with_link limits) self.old (map link_of links.items)) }
+    {
+        for link in links {
+            self.add_link(alloc, limits, link)?;
+        }
+        Ok(())
+    }
+
+    /// Returns the data with its attributes, events and links set and added in turn.
+    ///
+    /// # Errors
+    ///
+    /// Returns an error if memory runs out. The data is dropped.
+    pub(crate) fn within(
+        mut self,
+        alloc: Global,
+        limits: SpanLimits,
+    ) -> Result<SpanData, AllocError>
+        ensures { IfOk result (λ recorded. recorded ≡ spec.within limits self) }
+    {
+        let attributes = mem::replace(&mut self.attributes, Vec::new(alloc));
+        let events = mem::replace(&mut self.events.events, Vec::new(alloc));
+        let links = mem::replace(&mut self.links.links, Vec::new(alloc));
+        self.set_attributes(alloc, limits, attributes)?;
+        self.add_events(alloc, limits, events)?;
+        self.add_links(alloc, limits, links)?;
+        Ok(self)
+    }
 }

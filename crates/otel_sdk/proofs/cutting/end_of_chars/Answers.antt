@@ -1,4 +1,4 @@
-use Rattle.std.proofs.Common.{◌≡◌, take, ◌++◌, length, drop, true, false, sym, ap, ◌∙◌, arith}
+use Rattle.std.proofs.Common.{take, ◌++◌, length, drop, true, false, sym, ap, ◌∙◌, arith}
 use Rattle.std.specs.Fmt.{take_chars}
 use Rattle.std.proofs.Math.Seq.{take_all}
 use Rattle.otel_sdk.proofs.FirstChars.{stops, keeps, ends}
@@ -10,7 +10,7 @@ returns-then-left-eq0-clause-characters c =
     let s = c.as_bytes-bytes.result.now in
     let i = c.loop-index.index in
     rw (← c.as_bytes-bytes.ensures.value) (sym (stops s i c.loop-index-test.true
-        (sym c.is_char_start.ensures ∙ c.if-is_char_start.true))
+    (sym c.is_char_start.ensures ∙ c.if-is_char_start.true))
     ∙ ap (λ n. take i s ++ take_chars n (drop i s)) (sym c.if-left-eq0.true) ∙ c.loop-index.invariant)
 
 pub loop-index-preserved : goal.loop-index-preserved
