@@ -51,6 +51,7 @@ struct Planned {
     kept: InMemorySpanExporter,
     plan: &'static [u8],
     log: String,
+    flushes: u8,
 }
 
 impl Planned {
@@ -59,6 +60,7 @@ impl Planned {
             kept: InMemorySpanExporter::new(alloc),
             plan: plan.as_bytes(),
             log: String::new(alloc),
+            flushes: 0,
         }
     }
 }
@@ -90,6 +92,7 @@ impl SpanExporter for Planned {
     }
 
     fn force_flush(&mut self) -> OTelSdkResult {
+        self.flushes += 1;
         self.kept.force_flush()
     }
 
@@ -227,6 +230,17 @@ fn a_simple_processor_exports_each_span(rt: HostRuntime) -> Result<(), Fail> {
     assert_eq!(rt; errors.as_str(), " failed closed");
     assert_eq!(rt; processor.queued_spans(), 0);
     assert_eq!(rt; processor.dropped_spans(), 0);
+    Ok(())
+}
+
+#[test]
+fn the_exporter_is_flushed_at_last(rt: HostRuntime) -> Result<(), Fail> {
+    let alloc = rt.alloc();
+    let exporter = Planned::new(alloc, "+-");
+    let mut processor = BatchSpanProcessor::new(alloc, exporter, Default::default());
+    let errors = played(alloc, &mut processor, "e1 f e2 f")?;
+    assert_eq!(rt; errors.as_str(), " failed");
+    assert_eq!(rt; processor.exporter().flushes, 1);
     Ok(())
 }
 

@@ -1,5 +1,5 @@
 //! The processor that exports each span when it ends.
-ghost use Rattle.std.specs.Prelude.{◌≡◌, [], length, IfErr, OnOk, MatchOption};
+ghost use Rattle.std.specs.Prelude.{◌≡◌, [], false, length, IfErr, OnOk, MatchOption};
 ghost use Rattle.otel_sdk.specs.Processor as spec;
 ghost use Rattle.otel_sdk.specs.Processor.{IsFlushed, IsHandedIn, taken_of};
 ghost use Rattle.otel_sdk.specs.Processor.{IsRefusedIfClosed, FailedIfOpen, FlushedIfClosed};
@@ -88,6 +88,7 @@ impl<E: SpanExporter> SpanProcessor for SimpleSpanProcessor<E> {
     fn on_end(&mut self, span: SpanData) -> Result<(), EndRefused>
         ensures ok { OnOk result (IsFlushed E.accepted (spec.after_end span self.old) self.new
             × (self.new.queue ≡ [])) }
+        ensures open { OnOk result (self.old.is_shut_down ≡ false) }
         ensures refused { IfErr result (λ refused. MatchOption refused.span
             (IsFlushed E.accepted (spec.after_end span self.old) self.new)
             (λ back. (back ≡ span) × (self.new ≡ self.old)
