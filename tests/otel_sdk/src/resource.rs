@@ -155,7 +155,10 @@ fn code_wins_over_texts(rt: HostRuntime) -> Result<(), Fail> {
         .with_service_name(StringValue::from("y"))?
         .build();
     let resource = Resource::builder(alloc)?.build().merge(texts)?.merge(code)?;
-    let name = resource.get("service.name").map(|name| name.as_str(alloc)).transpose()?;
+    let name = resource
+        .get("service.name")
+        .map(|name| name.as_str(alloc))
+        .transpose()?;
     assert!(rt; name.is_some_and(|name| name.as_str() == "y"));
     assert!(rt; resource.get("service").is_none());
     Ok(())
