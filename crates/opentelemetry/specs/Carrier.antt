@@ -1,5 +1,6 @@
 -- What a carrier means: a finite map from texts to texts, each the list of its bytes.
-use Rattle.std.specs.Prelude.{◌≡◌, ℕ, List, [], ◌∷◌, ◌++◌, Option, None, Some, if◌then◌else◌, string_bytes, map, is_some}
+use Rattle.std.specs.Prelude.{◌≡◌, ℕ, List, [], ◌∷◌, ◌++◌, Option, None, Some, if◌then◌else◌}
+use Rattle.std.specs.Prelude.{string_bytes, map, is_some}
 use Rattle.std.specs.Ordering.{nat_cmp}
 use Rattle.std.specs.Cmp.Lexicographic.{slice_cmp}
 use Rattle.std.specs.List.{list_any}
@@ -27,8 +28,8 @@ pub record CarrierState : Type 0 where
 abbrev pub at : TextMap → List ℕ → Option (List ℕ)
 at m k = fin.get m k
 
--- The text with its ASCII letters in lower case (RFC 9110, section 5.1: names of fields are compared
--- without regard to case). Other letters stay: `Foo` gives `foo`, and U+00C9 stays U+00C9.
+-- The text with its ASCII letters in lower case (RFC 9110, section 5.1: names of fields are
+-- compared without regard to case). Other letters stay: `Foo` gives `foo`, and U+00C9 stays U+00C9.
 abbrev pub lower : List ℕ → List ℕ
 lower k = str_to_ascii_lowercase k
 

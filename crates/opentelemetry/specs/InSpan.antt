@@ -4,7 +4,7 @@ use Rattle.otel_context.specs.declared.span.spans.SpanRefused.{SpanRefused}
 use Rattle.otel_ids.specs.SpanContext.{SpanContextRecord}
 use Rattle.otel_context.specs.Context.{ContextRecord, with_span}
 use Rattle.otel_context.specs.Active.{AttachesAt}
-use Rattle.otel_context.specs.Stack.{StackState, Detaches}
+use Rattle.otel_context.specs.Stack.{StackState, Detaches, current}
 use Rattle.otel_context.specs.Spans.{SpansState, HasSameSpans, insert, refusal}
 use Rattle.opentelemetry.specs.declared.trace.in_span.StartError.{StartError}
 use Rattle.opentelemetry.specs.declared.trace.in_span.StartError.TheVariants.{Build, Refused}
@@ -18,8 +18,9 @@ MayLeave S Out =
 module _ {S : Type 0} where
   -- a body ran once in a span under the given parent, and its context was then detached [the Rust
   -- crate's `Tracer::in_span_with_builder_and_context`]
-  pub record RanInSpan {Out : Type 0} (MayBuild : S → Type 0) (context_of : S → SpanContextRecord)
-      (may_leave : MayLeave S Out) (parent : ContextRecord)
+  pub record RanInSpan {Out : Type 0}
+      (MayBuild : S → Type 0) (context_of : S → SpanContextRecord) (may_leave : MayLeave S Out)
+      (parent : ContextRecord)
       (old : StackState) (spans : SpansState S)
       (answer : Out × ℕ) (new : StackState) (new_spans : SpansState S) : Type 0 where
     -- the span is one that the tracer may start
@@ -39,6 +40,14 @@ module _ {S : Type 0} where
     pub removed : Option ContextRecord
     pub detached : Detaches position left new removed
     pub number : answer.1 ≡ spans.next_number
+
+  -- the same with the stack's current context as the parent
+  abbrev pub RanUnderCurrent : {Out : Type 0} → (ContextRecord → S → Type 0)
+      → (S → SpanContextRecord) → MayLeave S Out → StackState → SpansState S
+      → Out × ℕ → StackState → SpansState S → Type 0
+  RanUnderCurrent MayBuild context_of may_leave old spans answer new new_spans =
+      RanInSpan (MayBuild (current old.live)) context_of may_leave (current old.live)
+      old spans answer new new_spans
 
   -- the span that was built comes back, and the table has the same spans
   pub record IsRefused (MayBuild : S → Type 0) (old new : SpansState S) (refused : SpanRefused S)

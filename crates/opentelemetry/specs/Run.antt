@@ -1,14 +1,18 @@
 -- What a run of attaches and detaches means, by the numbers of its attaches. Not in the Rust crate.
 -- The attaches of a list of events are numbered from 0, in order. Each has an outcome, and the
 -- outcomes are in that order.
-use Rattle.std.specs.Prelude.{◌≡◌, ◌≢◌, ◌⊎◌, ℕ, ◌+◌, ◌<◌, ◌≤◌, ◌==◌, if◌then◌else◌, Bool, true, false, List, [], ◌∷◌, length, take, filter, slice_get, Option, Some, None, IfSome}
+use Rattle.std.specs.Prelude.{◌≡◌, ◌≢◌, ◌⊎◌, ℕ, ◌+◌, ◌<◌, ◌≤◌, ◌==◌, if◌then◌else◌, Bool, true}
+use Rattle.std.specs.Prelude.{false, List, [], ◌∷◌, length, take, filter, slice_get, Option, Some}
+use Rattle.std.specs.Prelude.{None, IfSome}
 use Rattle.std.specs.List.{list_any, filter_map}
 use Rattle.otel_context.specs.Context.{ContextRecord, empty_context}
-use Rattle.otel_context.specs.Stack.{Live, StackState, newest_position, initial_capacity, last_position}
+use Rattle.otel_context.specs.Stack.{Live, StackState, newest_position, initial_capacity}
+use Rattle.otel_context.specs.Stack.{last_position}
 use Rattle.opentelemetry.specs.declared.carry.event.StackEvent.{StackEvent}
 use Rattle.opentelemetry.specs.declared.carry.event.StackEvent.TheVariants.{Attach, Detach}
 use Rattle.opentelemetry.specs.declared.carry.event.AttachOutcome.{AttachOutcome}
-use Rattle.opentelemetry.specs.declared.carry.event.AttachOutcome.TheVariants.{Attached, Full, NoMemory}
+use Rattle.opentelemetry.specs.declared.carry.event.AttachOutcome.TheVariants.{Attached, Full}
+use Rattle.opentelemetry.specs.declared.carry.event.AttachOutcome.TheVariants.{NoMemory}
 
 -- whether the event is an attach
 abbrev pub is_attach : StackEvent → Bool

@@ -1,12 +1,13 @@
 //! A run of attaches and detaches over one stack, whose current context is then injected.
-ghost use Rattle.std.specs.Prelude.{◌≡◌, ◌≤◌, ◌∷◌, ◌++◌, [], ℕ, List, Option, IsTrue, IsOk, IfOk, OnErr};
+ghost use Rattle.std.specs.Prelude.{◌≡◌, ◌≤◌, ◌∷◌, ◌++◌, [], ℕ, List, Option};
+ghost use Rattle.std.specs.Prelude.{IsTrue, IsOk, IfOk, OnErr};
 ghost use Rattle.otel_context.specs.Stack.{newest_position, current, IsLawful};
-ghost use Rattle.opentelemetry.specs.Carrier.{map_state, text_map};
-ghost use Rattle.opentelemetry.specs.Composite.{members_of, pairs_of, may_refuse_of};
-ghost use Rattle.opentelemetry.specs.Injection.{Injects};
+ghost use Rattle.opentelemetry.specs.Carrier.{text_map};
+ghost use Rattle.opentelemetry.specs.Composite.{members_of, may_refuse_of, InjectsIntoMap};
 ghost use Rattle.opentelemetry.specs.Refusal.{is_refused};
 ghost use Rattle.opentelemetry.specs.Progress.{after_attach, Stands};
-ghost use Rattle.opentelemetry.specs.Run.{IsOutcome, IsCurrent, Legal, survivors, accepted_of, stack_of};
+ghost use Rattle.opentelemetry.specs.Run.{IsOutcome, IsCurrent, Legal, survivors};
+ghost use Rattle.opentelemetry.specs.Run.{accepted_of, stack_of};
 ghost use Rattle.opentelemetry.specs.declared.carry.event.StackEvent.{StackEvent as EventValue};
 
 use crate::context::{Context, ContextStack};
@@ -124,9 +125,8 @@ fn send(
     context: &Context,
     carrier: &mut HashMap<String, String>,
 ) -> Result<(), PropagationError>
-    ensures injected { Injects (pairs_of (λ m. pairs m) composite.now context.now)
-        (may_refuse_of (λ m. may_refuse m) composite.now)
-        (map_state carrier.old.entries) (map_state carrier.new.entries) result }
+    ensures injected { InjectsIntoMap (λ m. pairs m) (λ m. may_refuse m) composite.now context.now
+        carrier.old.entries carrier.new.entries result }
     ensures refused { IsTrue (is_refused result)
         → IsTrue (may_refuse_of (λ m. may_refuse m) composite.now) }
     ensures without_members { members_of composite.now ≡ []
@@ -157,10 +157,9 @@ pub fn run(
     ensures current { IfOk result (λ report.
         IsCurrent events.items report.outcomes.items (current report.stack.live)) }
     ensures legal { IfOk result (λ report. Legal events.items report.outcomes.items) }
-    ensures injected { IfOk result (λ report.
-        Injects (pairs_of (λ m. pairs m) composite.now (current report.stack.live))
-        (may_refuse_of (λ m. may_refuse m) composite.now)
-        (map_state carrier.old.entries) (map_state carrier.new.entries) report.injected) }
+    ensures injected { IfOk result (λ report. InjectsIntoMap (λ m. pairs m) (λ m. may_refuse m)
+        composite.now (current report.stack.live)
+        carrier.old.entries carrier.new.entries report.injected) }
     ensures refused { IfOk result (λ report. IsTrue (is_refused report.injected)
         → IsTrue (may_refuse_of (λ m. may_refuse m) composite.now)) }
     ensures accepted { IfOk result (λ report.

@@ -1,7 +1,9 @@
 //! Propagation: carriers of texts, and the propagators that write and read them.
-ghost use Rattle.std.specs.Prelude.{◌≡◌, ◌+◌, ◌∷◌, [], OnOk, OnErr, IfOk, string_bytes, if◌then◌else◌, map};
+ghost use Rattle.std.specs.Prelude.{◌≡◌, ◌+◌, ◌∷◌, [], OnOk, OnErr, IfOk, string_bytes};
+ghost use Rattle.std.specs.Prelude.{if◌then◌else◌, map};
 ghost use Rattle.std.specs.Option.{option_copied, option_map};
-ghost use Rattle.opentelemetry.specs.Carrier.{CarrierState, Sets, TextMap, AreKeys, get, get_all, map_state, text_map};
+ghost use Rattle.opentelemetry.specs.Carrier.{CarrierState, Sets, TextMap, AreKeys, get, get_all};
+ghost use Rattle.opentelemetry.specs.Carrier.{map_state, text_map};
 ghost use Rattle.opentelemetry.specs.Refusal.{is_refused};
 
 use std::alloc::{AllocError, Global};
@@ -22,9 +24,9 @@ pub use text_map_propagator::TextMapPropagator;
 /// Contracts see it as its `state`: a finite map of texts, and a count of its own refusals, which
 /// exists only in contracts.
 ///
-/// A value may hold any character. A carrier of text lines, such as the headers of HTTP, must refuse
-/// a key or a value with a CR, LF or NUL (RFC 9110, section 5.5): otherwise the sender of a value
-/// could add headers of its own.
+/// A value may contain any character. A carrier of text lines, such as the headers of HTTP, must
+/// refuse a key or a value with a CR, LF or NUL (RFC 9110, section 5.5): otherwise the sender of a
+/// value could add headers of its own.
 ///
 /// See `otel_examples::headers` for an implementation.
 pub trait Injector {
@@ -71,11 +73,11 @@ impl<S: BuildHasher> Injector for HashMap<String, String, S> {
 /// A carrier that texts are read from, such as the headers of a request (the Rust crate's
 /// `Extractor`).
 ///
-/// Contracts see it as a finite map of texts, `held`.
+/// Contracts see it as its `texts`, a finite map.
 ///
 /// See `otel_examples::headers` for an implementation.
 pub trait Extractor {
-    ghost held: { Self → TextMap };
+    ghost texts: { Self → TextMap };
 
     /// Returns the value of the key, with its ASCII letters in lower case, if there is one.
     ///
@@ -83,7 +85,7 @@ pub trait Extractor {
     ///
     /// `AllocError` if out of memory. Nothing changes.
     fn get(&self, alloc: Global, key: &str) -> Result<Option<&str>, AllocError>
-        ensures { IfOk result (λ found. option_copied found ≡ get (held self.now) key.now) };
+        ensures { IfOk result (λ found. option_copied found ≡ get (texts self.now) key.now) };
 
     /// Returns all keys as they are stored, in ascending order of their bytes.
     ///
@@ -91,7 +93,7 @@ pub trait Extractor {
     ///
     /// `AllocError` if out of memory. Nothing changes.
     fn keys(&self, alloc: Global) -> Result<Vec<&str>, AllocError>
-        ensures { IfOk result (λ keys. AreKeys (held self.now) (map (λ k. k.now) keys.items)) };
+        ensures { IfOk result (λ keys. AreKeys (texts self.now) (map (λ k. k.now) keys.items)) };
 
     /// Returns all values of the key, with its ASCII letters in lower case: by default the one that
     /// `get` returns.
@@ -102,7 +104,7 @@ pub trait Extractor {
     fn get_all(&self, alloc: Global, key: &str) -> Result<Option<Vec<&str>>, AllocError>
         ensures { IfOk result (λ found.
             option_map (λ values. map (λ v. v.now) values.items) found
-            ≡ get_all (held self.now) key.now) }
+            ≡ get_all (texts self.now) key.now) }
     {
         match self.get(alloc, key)? {
             Some(value) => Ok(Some(vec![in alloc; value]?)),
@@ -112,7 +114,7 @@ pub trait Extractor {
 }
 
 impl<S: BuildHasher> Extractor for HashMap<String, String, S> {
-    ghost held = { λ m. text_map m.entries };
+    ghost texts = { λ m. text_map m.entries };
 
     fn get(&self, alloc: Global, key: &str) -> Result<Option<&str>, AllocError> {
         let name = key.to_ascii_lowercase(alloc)?;

@@ -41,7 +41,7 @@ impl Injector for Headers {
 impl Extractor for Headers {
     ghost use Rattle.opentelemetry.specs.Carrier.{text_map};
 
-    ghost held = { λ headers. text_map headers.pairs.items };
+    ghost texts = { λ headers. text_map headers.pairs.items };
 
     fn get(&self, alloc: Global, key: &str) -> Result<Option<&str>, AllocError> {
         let name = key.to_ascii_lowercase(alloc)?;

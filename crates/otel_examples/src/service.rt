@@ -63,7 +63,7 @@ pub fn forward<T: Tracer, P: TextMapPropagator>(
     sent: &mut dyn Injector,
 ) -> Result<u64, ForwardError<T::Span>>
     ensures { IfOk result (λ number. Forwards
-        (P.extracted propagator.now (current stack.now.live) (held received.now))
+        (P.extracted propagator.now (current stack.now.live) (texts received.now))
         (T.may_build tracer.now (from_name (codes "forward"))) T.Span.context_of
         (P.pairs propagator.now) spans.old (state sent.old).texts number spans.new
         (state sent.new).texts) }

@@ -23,7 +23,7 @@ use Rattle.otel_propagators.specs.BaggagePropagator.{baggage_key, members, bagga
 use Rattle.otel_propagators.proofs.Injecting.{state_read, valid_passes}
 use Rattle.otel_propagators.proofs.Parents.{parent_reads, parent_of_reads}
 use Rattle.otel_propagators.proofs.PieceReads.{baggage_reads}
-use Rattle.otel_propagators.specs.Laws.{IsSpanContext, IsContext, BothExtract, IsOther, ArePairsOfBoth, AreSet, CompositeSets, arrived, ComesBack, ComesBackInTurn, ComesBackTogether}
+use Rattle.otel_propagators.specs.Laws.{IsSpanContext, IsContext, BothExtract, IsOther, ArePairsOfBoth, AreSet, CompositeSets, received_span, ComesBack, ComesBackInTurn, ComesBackTogether}
 
 -- ---- what is set
 
@@ -148,7 +148,7 @@ state_back : (state : List Pair) → IsState state → state_of (Some (header st
 state_back state i = sym (state_read (header state) (map cut_value state) (header_reads state i))
 
 trace_back : (context : ContextRecord) (old m : TextMap) (a : ContextRecord) → IsContext context → AreSet context old m → IsValidSpanContext (span_context context)
-    → (trace_extracted a m).span ≡ Some (arrived (span_context context))
+    → (trace_extracted a m).span ≡ Some (received_span (span_context context))
 trace_back context old m a i h v =
     let s = span_context context in
     let t = valid_passes s v in

@@ -83,10 +83,10 @@ BothExtract given texts back =
     (back ≡ baggage_extracted (trace_extracted given texts) texts)
     ⊎ (back ≡ trace_extracted (baggage_extracted given texts) texts)
 
--- the span that arrives: remote, with the same ids, flags and trace state, but for the blanks at
--- the ends of the trace state's values, which reading cuts
-abbrev pub arrived : SpanContextRecord → SpanPart
-arrived s = record {
+-- the span that the other side receives: remote, with the same ids, flags and trace state, but for
+-- the blanks at the ends of the trace state's values, which reading cuts
+abbrev pub received_span : SpanContextRecord → SpanPart
+received_span s = record {
   context = record s { is_remote = true; trace_state = map cut_value s.trace_state };
   number = None;
 }
@@ -97,7 +97,7 @@ pub record ComesBack (context : ContextRecord) (old : TextMap) (given back : Con
     : Type 0 where
   -- a valid span context comes back as that of a remote span
   pub span : IsValidSpanContext (span_context context)
-      → back.span ≡ Some (arrived (span_context context))
+      → back.span ≡ Some (received_span (span_context context))
   -- one that isn't valid sets nothing: if nothing was there, the given span stays
   pub no_span : ¬ IsValidSpanContext (span_context context)
       → at old traceparent_key ≡ None → back.span ≡ given.span

@@ -121,7 +121,7 @@ struct Doubled {
 impl Extractor for Doubled {
     ghost use Rattle.opentelemetry.specs.Carrier.{text_map};
 
-    ghost held = { λ c. text_map c.texts.entries };
+    ghost texts = { λ c. text_map c.texts.entries };
 
     fn get(&self, alloc: Global, key: &str) -> Result<Option<&str>, AllocError> {
         Extractor::get(&self.texts, alloc, key)

@@ -2,7 +2,8 @@
 //! contract is the law.
 ghost use Rattle.opentelemetry.specs.Laws.{RefusalsChangeNothing, SurvivorsAreThose};
 ghost use Rattle.opentelemetry.specs.LongRuns.{AttachesInOrder, FilledAndBegunAgain};
-ghost use Rattle.opentelemetry.specs.WorkedRuns.{DetachedAgain, DetachedBefore, OldestFirst, ThreeAndOne};
+ghost use Rattle.opentelemetry.specs.WorkedRuns.{DetachedAgain, DetachedBefore, OldestFirst};
+ghost use Rattle.opentelemetry.specs.WorkedRuns.{ThreeAndOne};
 
 /// States that an attach leaves its position and context if it was accepted and no later event
 /// detaches it, and only then.

@@ -43,7 +43,7 @@ pub trait LogRecord: Drop {
 
     ghost after_attribute: { Self → List ℕ → Tree → Self };
 
-    ghost may_be_traced: { Self → ℕ → ℕ → Option ℕ → Self → Type 0 } = { λ old _ _ _ new. new ≡ old };
+    ghost may_be_traced: { Self → ℕ → ℕ → Option ℕ → Self → Type 0 } = { λ old _ _ _ x. x ≡ old };
 
     /// Sets the name of the event that the record describes.
     fn set_event_name(&mut self, name: &'static str)

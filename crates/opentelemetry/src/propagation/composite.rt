@@ -48,7 +48,7 @@ fn extract_member(
     context: &Context,
     extractor: &dyn Extractor,
 ) -> Result<Context, PropagationError>
-    ensures { Extracts (extracted member.now context.now (held extractor.now))
+    ensures { Extracts (extracted member.now context.now (texts extractor.now))
         (may_refuse member.now) result }
 {
     member.extract_with_context(alloc, context, extractor)
@@ -70,7 +70,7 @@ fn add_fields(
 }
 
 /// Returns the members of both, in order.
-fn joined(
+fn join_members(
     mut members: Vec<Box<dyn TextMapPropagator>>,
     others: Vec<Box<dyn TextMapPropagator>>,
 ) -> Result<Vec<Box<dyn TextMapPropagator>>, AllocError>
@@ -126,7 +126,7 @@ impl TextMapCompositePropagator {
             members: others,
             fields: _,
         } = other;
-        let members = joined(members, others)?;
+        let members = join_members(members, others)?;
         TextMapCompositePropagator::new(alloc, members)
     }
 
@@ -188,7 +188,7 @@ impl TextMapCompositePropagator {
         extractor: &dyn Extractor,
     ) -> Result<Context, PropagationError>
         ensures extracted { Extracts
-            (extracted_of (λ m. extracted m) self.now context.now (held extractor.now))
+            (extracted_of (λ m. extracted m) self.now context.now (texts extractor.now))
             (may_refuse_of (λ m. may_refuse m) self.now) result }
         ensures without_members { members_of self.now ≡ []
             → IfOk result (λ given. given ≡ context.now) }
@@ -214,8 +214,8 @@ impl TextMapCompositePropagator {
         stack: &ContextStack,
         extractor: &dyn Extractor,
     ) -> Result<Context, PropagationError>
-        ensures extracted { Extracts
-            (extracted_of (λ m. extracted m) self.now (current stack.now.live) (held extractor.now))
+        ensures extracted { let context = current stack.now.live in Extracts
+            (extracted_of (λ m. extracted m) self.now context (texts extractor.now))
             (may_refuse_of (λ m. may_refuse m) self.now) result }
         ensures without_members { members_of self.now ≡ []
             → IfOk result (λ given. given ≡ current stack.now.live) }

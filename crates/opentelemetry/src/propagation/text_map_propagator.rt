@@ -72,7 +72,7 @@ pub trait TextMapPropagator: Drop {
         context: &Context,
         extractor: &dyn Extractor,
     ) -> Result<Context, PropagationError>
-        ensures { Extracts (extracted self.now context.now (held extractor.now))
+        ensures { Extracts (extracted self.now context.now (texts extractor.now))
             (may_refuse self.now) result };
 
     /// Returns the stack's current context, with what the carrier holds for this propagator.
@@ -86,7 +86,7 @@ pub trait TextMapPropagator: Drop {
         stack: &ContextStack,
         extractor: &dyn Extractor,
     ) -> Result<Context, PropagationError>
-        ensures { Extracts (extracted self.now (current stack.now.live) (held extractor.now))
+        ensures { Extracts (extracted self.now (current stack.now.live) (texts extractor.now))
             (may_refuse self.now) result }
     {
         self.extract_with_context(alloc, stack.current(), extractor)

@@ -2,7 +2,8 @@
 ghost use Rattle.std.specs.Prelude.{◌≡◌, IfOk, Some, [], map};
 ghost use Rattle.otel_base.specs.View.{attribute_of};
 ghost use Rattle.otel_context.specs.Stack.{current};
-ghost use Rattle.opentelemetry.specs.SpanBuilder.{from_name, is_valid_link, valid_links, with_links};
+ghost use Rattle.opentelemetry.specs.SpanBuilder.{from_name, is_valid_link, valid_links};
+ghost use Rattle.opentelemetry.specs.SpanBuilder.{with_links};
 ghost use Rattle.opentelemetry.specs.View.{builder_of, event_of, link_of};
 
 use crate::trace::attributes::copy_attributes;

@@ -3,7 +3,7 @@ ghost use Rattle.std.specs.Prelude.{◌≡◌, IfOk, IfErr, IsErr, OnErr};
 ghost use Rattle.otel_context.specs.Spans.{used_up};
 ghost use Rattle.otel_context.specs.Stack.{current};
 ghost use Rattle.opentelemetry.specs.SpanBuilder.{from_name};
-ghost use Rattle.opentelemetry.specs.InSpan.{RanInSpan, NotStarted};
+ghost use Rattle.opentelemetry.specs.InSpan.{RanInSpan, RanUnderCurrent, NotStarted};
 ghost use Rattle.opentelemetry.specs.View.{builder_of};
 
 use crate::trace::in_span::{Entered, SpanBody, StartError, enter};
@@ -99,16 +99,18 @@ pub trait Tracer {
 
     /// Runs a body in a new span of a builder under a parent context.
     ///
-    /// The span goes into the table, the parent's context with it is attached, and the body is called once, with the
-    /// stack, the table and that context. Then what is live at the attached position is removed. At the greatest
-    /// position nothing is attached, and the body runs all the same. The answer is the body's, beside the span's number;
-    /// the span stays in the table until it is taken. After the body no memory is requested.
+    /// The span goes into the table, the parent's context with it is attached, and the body is
+    /// called once, with the stack, the table and that context. Then what is live at the attached
+    /// position is removed. If the greatest position is live, nothing is attached, and the body
+    /// still runs. Returns the body's result and the span's number; the span stays in the table
+    /// until it is taken. After the body no memory is requested.
     ///
     /// # Errors
     ///
-    /// `Build` if out of memory before there is a span; `Refused`, with the span, if the numbers of the table are used up,
-    /// and otherwise if out of memory. The body isn't called, the stack is as it was, and the table holds the same spans.
-    /// If its numbers are used up the table is unchanged; if out of memory its next number may be one higher.
+    /// `Build` if out of memory before there is a span; `Refused`, with the span, if the numbers of
+    /// the table are used up, and otherwise if out of memory. The body isn't called, the stack is
+    /// unchanged, and the table has the same spans. If its numbers are used up the table is
+    /// unchanged; if out of memory its next number may be one higher.
     fn in_span_with_builder_and_context<F: SpanBody<Self::Span>>(
         &self,
         alloc: Global,
@@ -190,10 +192,9 @@ pub trait Tracer {
         f: F,
     ) -> Result<(F::Out, u64), StartError<Self::Span>>
         requires { F.can_call f }
-        ensures ran { IfOk result (λ answer. RanInSpan
-            (may_build self.now (builder_of builder) (current stack.old.live)) Self.Span.context_of
-            (F.may_leave f) (current stack.old.live) stack.old spans.old
-            answer stack.new spans.new) }
+        ensures ran { IfOk result (λ answer. RanUnderCurrent
+            (may_build self.now (builder_of builder)) Self.Span.context_of (F.may_leave f)
+            stack.old spans.old answer stack.new spans.new) }
         ensures same_stack { OnErr result (stack.new ≡ stack.old) }
         ensures not_started { IfErr result (NotStarted
             (may_build self.now (builder_of builder) (current stack.old.live))
@@ -225,10 +226,9 @@ pub trait Tracer {
         f: F,
     ) -> Result<(F::Out, u64), StartError<Self::Span>>
         requires { F.can_call f }
-        ensures ran { IfOk result (λ answer. RanInSpan
-            (may_build self.now (from_name name) (current stack.old.live)) Self.Span.context_of
-            (F.may_leave f) (current stack.old.live) stack.old spans.old
-            answer stack.new spans.new) }
+        ensures ran { IfOk result (λ answer. RanUnderCurrent
+            (may_build self.now (from_name name)) Self.Span.context_of (F.may_leave f)
+            stack.old spans.old answer stack.new spans.new) }
         ensures same_stack { OnErr result (stack.new ≡ stack.old) }
         ensures not_started { IfErr result (NotStarted
             (may_build self.now (from_name name) (current stack.old.live)) spans.old spans.new) }

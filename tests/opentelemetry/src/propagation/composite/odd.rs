@@ -81,7 +81,7 @@ struct TwiceCarrier {
 impl Extractor for TwiceCarrier {
     ghost use Rattle.opentelemetry.specs.Carrier.{text_map};
 
-    ghost held = { λ c. text_map c.texts.entries };
+    ghost texts = { λ c. text_map c.texts.entries };
 
     fn get(&self, alloc: Global, key: &str) -> Result<Option<&str>, AllocError> {
         self.asked.set(self.asked.get() + 1);

@@ -6,8 +6,8 @@ use Rattle.opentelemetry.proofs.propagation.composite.TextMapCompositePropagator
 abbrev pub invariant-loop-member : goal.invariant-loop-member
 invariant-loop-member g l =
     record {
-      extracted : fold (λ c b. (goal.TextMapPropagator-dyn g (b.vtable, b.value)).extracted b.value c ((goal.Extractor-dyn g l.extractor.now).held l.extractor.now.1)) l.given l.rest
-          ≡ fold (λ c b. (goal.TextMapPropagator-dyn g (b.vtable, b.value)).extracted b.value c ((goal.Extractor-dyn g l.extractor.now).held l.extractor.now.1)) l.context l.self.members.items;
+      extracted : fold (λ c b. (goal.TextMapPropagator-dyn g (b.vtable, b.value)).extracted b.value c ((goal.Extractor-dyn g l.extractor.now).texts l.extractor.now.1)) l.given l.rest
+          ≡ fold (λ c b. (goal.TextMapPropagator-dyn g (b.vtable, b.value)).extracted b.value c ((goal.Extractor-dyn g l.extractor.now).texts l.extractor.now.1)) l.context l.self.members.items;
       refused : IsTrue (list_any (λ b. (goal.TextMapPropagator-dyn g (b.vtable, b.value)).may_refuse b.value) l.rest)
           → IsTrue (list_any (λ b. (goal.TextMapPropagator-dyn g (b.vtable, b.value)).may_refuse b.value) l.self.members.items);
     }
