@@ -5,7 +5,7 @@ use Rattle.std.specs.Option.{option_map}
 use Rattle.std.specs.Ordering.{is_gt}
 use Rattle.otel_base.specs.KeyValue.{Attribute}
 use Rattle.otel_context.specs.Status.{cmp}
-use Rattle.otel_context.specs.declared.status.Status.{Status}
+use Rattle.otel_context.specs.declared.span.status.Status.{Status}
 use Rattle.otel_ids.specs.SpanContext.{SpanContextRecord}
 use Rattle.opentelemetry.specs.Event.{EventRecord, LinkRecord}
 use Rattle.otel_sdk.specs.Attributes.{cut, keeps, set}

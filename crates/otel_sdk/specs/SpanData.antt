@@ -2,8 +2,8 @@
 use Rattle.std.specs.Prelude.{ℕ, List, Bool}
 use Rattle.otel_base.specs.InstrumentationScope.{Scope}
 use Rattle.otel_base.specs.KeyValue.{Attribute}
-use Rattle.otel_context.specs.declared.status.SpanKind.{SpanKind}
-use Rattle.otel_context.specs.declared.status.Status.{Status}
+use Rattle.otel_context.specs.declared.span.status.SpanKind.{SpanKind}
+use Rattle.otel_context.specs.declared.span.status.Status.{Status}
 use Rattle.otel_ids.specs.SpanContext.{SpanContextRecord}
 use Rattle.opentelemetry.specs.Event.{EventRecord, LinkRecord}
 

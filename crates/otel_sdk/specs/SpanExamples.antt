@@ -3,8 +3,8 @@ use Rattle.std.specs.Prelude.{◌≡◌, ℕ, List, [], ◌∷◌, codes, true, 
 use Rattle.std.specs.Prelude.{fold}
 use Rattle.otel_base.specs.KeyValue.{Attribute}
 use Rattle.otel_base.specs.Value.{boolean}
-use Rattle.otel_context.specs.declared.status.SpanKind.TheVariants.{Internal}
-use Rattle.otel_context.specs.declared.status.Status.TheVariants as Status
+use Rattle.otel_context.specs.declared.span.status.SpanKind.TheVariants.{Internal}
+use Rattle.otel_context.specs.declared.span.status.Status.TheVariants as Status
 use Rattle.otel_ids.specs.SpanContext.{no_span_context}
 use Rattle.opentelemetry.specs.Event.{EventRecord, LinkRecord}
 use Rattle.otel_sdk.specs.SpanData.{SpanRecord}
