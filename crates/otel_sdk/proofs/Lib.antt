@@ -8,3 +8,4 @@ pub mod Rising
 pub mod Scaling
 mod SetInTurn
 mod SpanContexts
+mod Starts

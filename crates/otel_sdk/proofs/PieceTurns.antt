@@ -4,7 +4,6 @@ use Rattle.std.specs.Prelude.{◌&&◌, not, cond, filter_map, is_some, position
 use Rattle.std.specs.List.{position_from, enumerate_from}
 use Rattle.std.proofs.lemmas.List.FromFn.{length-enumerate_from, get_or-enumerate_from}
 use Rattle.std.proofs.lemmas.Iterator.Adapters.{position_from-zero}
-use Rattle.std.proofs.Math.Bool.{and-false}
 use Rattle.std.proofs.lemmas.List.{drop_all}
 use Rattle.otel_ids.specs.Text.{cut_blanks}
 use Rattle.otel_ids.proofs.Turns.{next_piece}

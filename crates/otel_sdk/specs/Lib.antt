@@ -1,4 +1,5 @@
 pub mod Attributes
+pub mod Clock
 pub mod Export
 pub mod IdGenerator
 pub mod Processor
@@ -12,4 +13,5 @@ pub mod Span
 pub mod SpanData
 pub mod SpanExamples
 pub mod SpanLimits
+pub mod Tracer
 pub mod View

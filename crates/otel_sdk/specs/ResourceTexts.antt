@@ -65,7 +65,8 @@ pair_of None value = None
 -- the attribute that a piece stands for, if it does
 abbrev pub attribute_in : List ℕ → Option Attribute
 attribute_in piece =
-    if list_any is_equals piece then pair_of (decoded (written_key piece)) (decoded (written_value piece))
+    if list_any is_equals piece
+    then pair_of (decoded (written_key piece)) (decoded (written_value piece))
     else None
 
 -- whether the piece is neither an attribute nor blank

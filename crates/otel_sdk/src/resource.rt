@@ -104,10 +104,10 @@ impl Resource {
     /// `OTEL_SERVICE_NAME`, which are empty if they aren't set. It has no other attributes, and no
     /// schema URL.
     ///
-    /// The first text is a list of `key=value`, separated by commas, in which escapes as `%2C` stand
-    /// for bytes. The name of the service is set unless it is blank. If a piece of the list is faulty,
-    /// none of its attributes is taken, and the error names the piece (OpenTelemetry specification,
-    /// "Specifying resource information via an environment variable").
+    /// The first text is a list of `key=value`, separated by commas, in which escapes such as `%2C`
+    /// stand for bytes. The name of the service is set unless it is blank. If a piece of the list is
+    /// faulty, none of its attributes is taken, and the error names the piece (OpenTelemetry
+    /// specification, "Specifying resource information via an environment variable").
     ///
     /// # Errors
     ///

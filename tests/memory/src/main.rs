@@ -24,6 +24,6 @@ fn main(rt: HostRuntime) -> io::Result<()> {
     context::play(alloc, &lines);
     propagators::play(alloc, &lines);
     tracing::play(alloc, &lines);
-    sdk::play(alloc, &lines);
+    sdk::play(rt, &lines);
     lines.written()
 }

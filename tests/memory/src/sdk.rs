@@ -1,6 +1,7 @@
-//! Resources, samplers, spans, and their way to an exporter.
+//! Resources, samplers, tracers, spans, and their way to an exporter.
 mod export;
 mod spans;
+mod tracer;
 
 use crate::lines::Lines;
 use opentelemetry::trace::{SpanContext, SpanId, SpanKind, TraceFlags, TraceId, TraceState};
@@ -9,7 +10,8 @@ use otel_sdk::resource::{Resource, ResourceBuilder};
 use otel_sdk::trace::{ParentBased, Sampler, ShouldSample};
 use std::alloc::{AllocError, Global};
 
-pub fn play<R: Print>(alloc: Global, lines: &Lines<'_, R>) {
+pub fn play<R: Print>(rt: HostRuntime, lines: &Lines<'_, R>) {
+    let alloc = rt.alloc();
     if lines.begin("sampler") {
         lines.end(asked(alloc, lines));
     }
@@ -22,6 +24,7 @@ pub fn play<R: Print>(alloc: Global, lines: &Lines<'_, R>) {
         lines.answer_of(sampler.description(alloc));
     }
     resources(alloc, lines);
+    tracer::play(rt, lines);
     spans::play(alloc, lines);
     export::play(alloc, lines);
 }

@@ -1,5 +1,5 @@
-//! What no clause says of resources, samplers, generators of ids, spans, processors and exporters:
-//! that calls succeed, texts as printed, and worked cases.
+//! What no clause says of resources, samplers, generators of ids, tracers, spans, processors and
+//! exporters: that calls succeed, texts as printed, and worked cases.
 #![tactic(auto)]
 
 mod exporter;
@@ -9,3 +9,4 @@ mod ratio;
 mod resource;
 mod sampler;
 mod span;
+mod tracer;

@@ -1,5 +1,5 @@
 use Rattle.std.proofs.Common.{◌≡◌, Some, None, rules, tests, sym, ap, ◌∙◌, Bor}
-use Rattle.std.specs.Prelude.{option_map, find, Option}
+use Rattle.std.specs.Prelude.{option_map, find}
 use Rattle.std.proofs.lemmas.Iterator.{YieldsList-from_slice}
 use Rattle.std.proofs.lemmas.Iterator.Search.{find_from_yields_List}
 use Rattle.otel_base.specs.KeyValue.{Attribute, has_key}

@@ -1,13 +1,12 @@
-use Rattle.std.proofs.Common.{◌≡◌, Some, None, length, map, lit<, arith, sym, ap, ◌∙◌, refl, eqb, of_calls}
+use Rattle.std.proofs.Common.{◌≡◌, Some, None, length, lit<, arith, sym, ap, ◌∙◌, refl, eqb, of_calls}
 use Rattle.std.specs.Prelude.{option_map}
 use Rattle.std.proofs.lemmas.List.{length_push}
 use Rattle.std.proofs.lemmas.List.FromFn.{length-enumerate_from}
 use Rattle.std.proofs.lemmas.Iterator.Splits.{YieldsList-from_str_split}
 use Rattle.std.proofs.lemmas.Iterator.Consumers.{YieldsList-at, YieldsList-turn, YieldsList-end, YieldsList-from_enumerate}
 use Rattle.otel_base.specs.View.{attribute_of}
-use Rattle.otel_sdk.specs.Attributes.{put_all}
 use Rattle.otel_sdk.specs.ResourceTexts.{pieces, fault, attributes_in, attribute_in}
-use Rattle.otel_sdk.proofs.PieceTurns.{AttributesAre, goes_on, passes_by, fails, ends, piece_at, starts}
+use Rattle.otel_sdk.proofs.PieceTurns.{goes_on, passes_by, fails, ends, piece_at, starts}
 use Rattle.otel_sdk.proofs.resource.texts.read_attributes.Goals as goal
 
 pub loop-number-init : goal.loop-number-init

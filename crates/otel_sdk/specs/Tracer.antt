@@ -1,0 +1,236 @@
+-- Which spans a tracer starts.
+use Rattle.std.specs.Prelude.{◌≡◌, ◌≢◌, ◌⊎◌, ℕ, ◌+◌, ◌/◌, ◌%◌, ◌==◌, List, [], ◌++◌, Bool, true, false}
+use Rattle.std.specs.Prelude.{Option, Some, None, if◌then◌else◌, refl}
+use Rattle.std.specs.Option.{unwrap_or}
+use Rattle.otel_base.specs.InstrumentationScope.{Scope}
+use Rattle.otel_base.specs.KeyValue.{Attribute}
+use Rattle.otel_context.specs.Context.{ContextRecord, span_context, is_telemetry_suppressed}
+use Rattle.otel_context.specs.declared.span.status.SpanKind.{SpanKind}
+use Rattle.otel_context.specs.declared.span.status.SpanKind.TheVariants.{Internal}
+use Rattle.otel_context.specs.declared.span.status.Status.TheVariants.{Unset}
+use Rattle.otel_ids.specs.SpanContext.{SpanContextRecord, no_span_context}
+use Rattle.otel_ids.specs.TraceState.{Pair}
+use Rattle.opentelemetry.specs.SpanBuilder.{BuilderRecord}
+use Rattle.otel_sdk.specs.Resource.{Parts, with_defaults}
+use Rattle.otel_sdk.specs.Sampler.{Asked, Answer, has_parent}
+use Rattle.otel_sdk.specs.Span.{SpanState, started, unrecorded}
+use Rattle.otel_sdk.specs.SpanData.{SpanRecord}
+use Rattle.otel_sdk.specs.declared.trace.limits.SpanLimits.{SpanLimits}
+use Rattle.otel_sdk.specs.declared.trace.sampler.SamplingDecision.{SamplingDecision}
+use Rattle.otel_sdk.specs.declared.trace.sampler.SamplingDecision.TheVariants.{Drop, RecordOnly, RecordAndSample}
+
+-- ---- parents, ids and flags
+
+-- the span context of the parent if neither of its ids is 0; without such a parent the span is a root
+-- [OpenTelemetry trace API, "Determining the Parent Span from a Context"]
+abbrev pub parent_of : ContextRecord → Option SpanContextRecord
+parent_of context =
+    if has_parent (span_context context) then Some (span_context context) else None
+
+-- The trace id of a span: its parent's, and of a root any but 0.
+abbrev pub IsTraceId : Option SpanContextRecord → ℕ → Type 0
+IsTraceId None id = id ≢ 0
+IsTraceId (Some parent) id = id ≡ parent.trace_id
+
+-- the parent's span id, 0 for a root
+abbrev pub parent_span_id : Option SpanContextRecord → ℕ
+parent_span_id None = 0
+parent_span_id (Some parent) = parent.span_id
+
+-- whether the parent came from another process
+abbrev pub parent_is_remote : Option SpanContextRecord → Bool
+parent_is_remote None = false
+parent_is_remote (Some parent) = parent.is_remote
+
+-- whether bit 1 is set, as in 2 and 255 [W3C trace-context-2, "Random Trace ID Flag"]
+abbrev pub is_random : ℕ → Bool
+is_random flags = flags / 2 % 2 == 1
+
+-- Whether the trace id is random: as the parent's flags say, and for a root as its generator says.
+abbrev pub has_random_id : Option SpanContextRecord → Bool → Bool
+has_random_id None random = random
+has_random_id (Some parent) random = is_random parent.trace_flags
+
+-- whether the span records [OpenTelemetry trace SDK, "Sampling"]
+abbrev pub records : SamplingDecision → Bool
+records Drop = false
+records RecordOnly = true
+records RecordAndSample = true
+
+-- whether the span is exported [OpenTelemetry trace SDK, "Sampling"]
+abbrev pub samples : SamplingDecision → Bool
+samples Drop = false
+samples RecordOnly = false
+samples RecordAndSample = true
+
+-- The flags of a span: bit 0 is set if it is exported, bit 1 if its trace id is random, and no other
+-- bit is [W3C trace-context-2, "trace-flags"].
+abbrev pub flags_of : SamplingDecision → Bool → ℕ
+flags_of decision random = (if samples decision then 1 else 0) + (if random then 2 else 0)
+
+-- ---- what a span starts with
+
+-- what is given, or nothing
+abbrev pub listed : {X : Type 0} → Option (List X) → List X
+listed given = unwrap_or given []
+
+-- `Internal` if no kind is given [OpenTelemetry trace API, "Span Creation"]
+abbrev pub kind_of : Option SpanKind → SpanKind
+kind_of kind = unwrap_or kind Internal
+
+-- what the sampler is asked about a span of that trace
+abbrev pub asked : BuilderRecord → ContextRecord → ℕ → Asked
+asked builder context trace_id = record {
+  parent = context;
+  trace_id = trace_id;
+  name = builder.name;
+  kind = kind_of builder.span_kind;
+  attributes = listed builder.attributes;
+  links = listed builder.links;
+}
+
+-- the span context of these ids: local, with the flags of the decision and that trace state
+abbrev pub span_context_of : ℕ → ℕ → SamplingDecision → Bool → List Pair → SpanContextRecord
+span_context_of trace_id span_id decision random trace_state = record {
+  trace_id = trace_id;
+  span_id = span_id;
+  trace_flags = flags_of decision random;
+  is_remote = false;
+  trace_state = trace_state;
+}
+
+-- What a span starts with at that moment: what its builder gives, the sampler's attributes after the
+-- builder's [the Rust crate's `build_recording_span`].
+abbrev pub given_data : Scope → BuilderRecord → Option SpanContextRecord → SpanContextRecord
+    → List Attribute → ℕ → SpanRecord
+given_data scope builder parent context sampled start = record {
+  span_context = context;
+  parent_span_id = parent_span_id parent;
+  parent_span_is_remote = parent_is_remote parent;
+  span_kind = kind_of builder.span_kind;
+  name = builder.name;
+  start_time = start;
+  end_time = start;
+  attributes = listed builder.attributes ++ sampled;
+  dropped_attributes = 0;
+  events = listed builder.events;
+  dropped_events = 0;
+  links = listed builder.links;
+  dropped_links = 0;
+  status = Unset;
+  scope = scope;
+}
+
+-- the span that doesn't record and has no ids
+abbrev pub silent : SpanState
+silent = unrecorded no_span_context
+
+-- the span without new ids: it doesn't record, and has the parent's span context if it has a parent
+abbrev pub without_ids : Option SpanContextRecord → SpanState
+without_ids None = silent
+without_ids (Some parent) = unrecorded parent
+
+-- the span of that decision: one that is dropped has its span context and nothing more
+abbrev pub decided : SamplingDecision → SpanLimits → SpanRecord → SpanState
+decided decision limits d =
+    if records decision then started limits d else unrecorded d.span_context
+
+-- ---- tracers
+
+-- what of a tracer counts for its spans: the sampler, the generator of ids, the limits, the scope
+pub record TracerState (S G : Type 0) : Type 0 where
+  pub sampler : S
+  pub id_generator : G
+  pub limits : SpanLimits
+  pub scope : Scope
+
+-- The span of these ids that starts from a builder under a parent context, where the clock shows that
+-- moment, if a sampler answers so and the ids of the generator are random or aren't.
+abbrev pub started_span : (Asked → Answer) → Bool → SpanLimits → Scope → BuilderRecord
+    → ContextRecord → ℕ → ℕ → ℕ → SpanState
+started_span answer random limits scope builder context trace_id span_id now =
+    let parent = parent_of context in
+    let answered = answer (asked builder context trace_id) in
+    let own = span_context_of trace_id span_id answered.decision (has_random_id parent random)
+    answered.trace_state in
+    let start = unwrap_or builder.start_time now in
+    decided answered.decision limits
+    (given_data scope builder parent own answered.attributes start)
+
+-- some moment that the clock may show makes this span that records
+abbrev pub Records : SpanLimits → Scope → BuilderRecord → Option SpanContextRecord
+    → SpanContextRecord → List Attribute → SpanState → Type 0
+Records limits scope builder parent context sampled span = (now : ℕ)
+    × (span ≡ started limits
+    (given_data scope builder parent context sampled (unwrap_or builder.start_time now)))
+
+-- some moment that the clock may show makes this span of these ids
+abbrev pub StartsWith : (Asked → Answer) → Bool → SpanLimits → Scope → BuilderRecord
+    → ContextRecord → ℕ → ℕ → SpanState → Type 0
+StartsWith answer random limits scope builder context trace_id span_id span = (now : ℕ)
+    × (span ≡ started_span answer random limits scope builder context trace_id span_id now)
+
+-- some ids that the generator may give make this span
+abbrev pub MayStart : (Asked → Answer) → Bool → SpanLimits → Scope → BuilderRecord → ContextRecord
+    → SpanState → Type 0
+MayStart answer random limits scope builder context span = (trace_id : ℕ) × (span_id : ℕ)
+    × IsTraceId (parent_of context) trace_id × (span_id ≢ 0)
+    × StartsWith answer random limits scope builder context trace_id span_id span
+
+-- The spans that a tracer may start: under suppressed telemetry the silent one only. Else also
+-- the silent one if the provider is shut down, and one without new ids if the generator fails, neither
+-- of which a contract sees; or the one that starts.
+abbrev pub MayBuild : (Asked → Answer) → Bool → SpanLimits → Scope → BuilderRecord → ContextRecord
+    → SpanState → Type 0
+MayBuild answer random limits scope builder context span =
+    (is_telemetry_suppressed context ≡ true → span ≡ silent)
+    × ((span ≡ silent) ⊎ ((span ≡ without_ids (parent_of context))
+    ⊎ MayStart answer random limits scope builder context span))
+
+-- ---- providers
+
+-- what of a provider counts for its tracers, and its resource
+pub record ProviderState (S G : Type 0) : Type 0 where
+  pub sampler : S
+  pub id_generator : G
+  pub limits : SpanLimits
+  pub resource : Parts
+
+-- a provider that is being made; no resource stands for the default one
+pub record ProviderParts (S G : Type 0) : Type 0 where
+  pub sampler : S
+  pub id_generator : G
+  pub limits : SpanLimits
+  pub resource : Option Parts
+
+module _ {S G : Type 0} where
+  -- the tracer of a provider for that scope
+  abbrev pub tracer_of : ProviderState S G → Scope → TracerState S G
+  tracer_of provider scope = record {
+    sampler = provider.sampler;
+    id_generator = provider.id_generator;
+    limits = provider.limits;
+    scope = scope;
+  }
+
+  -- the provider of these parts
+  abbrev pub provider_of : ProviderParts S G → ProviderState S G
+  provider_of parts = record {
+    sampler = parts.sampler;
+    id_generator = parts.id_generator;
+    limits = parts.limits;
+    resource = unwrap_or parts.resource with_defaults;
+  }
+
+-- ---- worked rows
+sampled_example : flags_of RecordAndSample true ≡ 3
+sampled_example = refl
+
+only_recorded_example : flags_of RecordOnly true ≡ 2
+only_recorded_example = refl
+
+counted_example : flags_of RecordAndSample false ≡ 1
+counted_example = refl
+
+reserved_example : flags_of RecordAndSample (is_random 252) ≡ 1
+reserved_example = refl

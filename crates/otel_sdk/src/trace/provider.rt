@@ -1,0 +1,363 @@
+//! What makes the tracers of the SDK.
+ghost use Rattle.std.specs.Prelude.{◌≡◌, IfOk, Some, None, map};
+ghost use Rattle.std.specs.Option.{option_map_or};
+ghost use Rattle.opentelemetry.specs.Scope.{scope_of_name};
+ghost use Rattle.otel_sdk.specs.Resource.{merge, with_defaults};
+ghost use Rattle.otel_sdk.specs.SpanLimits.{default_limits};
+ghost use Rattle.otel_sdk.specs.Tracer as spec;
+
+use crate::resource::Resource;
+use crate::trace::clock::{Clock, SystemClock};
+use crate::trace::id_generator::{IdGenerator, RandomIdGenerator};
+use crate::trace::limits::SpanLimits;
+use crate::trace::sampler::parent_based::ParentBased;
+use crate::trace::sampler::{Sampler, ShouldSample};
+use crate::trace::tracer::SdkTracer;
+use opentelemetry::{InstrumentationScope, StringValue};
+use std::alloc::{AllocError, Global};
+use std::cell::Cell;
+use std::marker::Model;
+use std::random::RandomSource;
+use std::rc::Rc;
+
+/// What the tracers of a provider share.
+#[derive(Drop)]
+pub(crate) struct TracerProviderInner<S, G, C> {
+    pub resource: Resource,
+    pub sampler: S,
+    pub id_generator: G,
+    pub clock: C,
+    pub limits: SpanLimits,
+    pub is_shut_down: Cell<bool>,
+    pub failed_ids: Cell<u64>,
+}
+
+impl<S, G, C> TracerProviderInner<S, G, C> {
+    /// Counts a span without new ids.
+    pub(crate) fn count_failed_ids(&self) {
+        self.failed_ids.set(self.failed_ids.get().saturating_add(1));
+    }
+}
+
+/// Makes the tracers of the SDK, which share its sampler, generator of ids, clock and limits (the
+/// Rust crate's `SdkTracerProvider`).
+///
+/// ```
+/// let provider = SdkTracerProvider::builder(rt)
+///     .with_max_events_per_span(16)
+///     .build(alloc)?;
+/// let tracer = provider.tracer(alloc, StringValue::from("cart"))?;
+/// ```
+#[derive(Drop)]
+pub struct SdkTracerProvider<S, G, C> {
+    inner: Rc<TracerProviderInner<S, G, C>>,
+}
+
+impl<S, G, C> Model for SdkTracerProvider<S, G, C> {
+    ghost use Rattle.std.specs.Rc.{rc_value};
+    ghost use Rattle.otel_sdk.specs.Tracer.{ProviderState};
+
+    ghost Value = { ProviderState S G };
+
+    ghost view = { λ p. record {
+      sampler = (rc_value p.inner).sampler;
+      id_generator = (rc_value p.inner).id_generator;
+      limits = (rc_value p.inner).limits;
+      resource = (rc_value p.inner).resource;
+    } };
+}
+
+impl<R> SdkTracerProvider<ParentBased<Sampler>, RandomIdGenerator<R>, SystemClock<R>>
+where
+    R: RandomSource + std::time::Clock + Copy + Drop,
+{
+    /// Starts a provider with the defaults: roots are sampled and other spans as their parent is, ids
+    /// are random, the clock is the system's, and the limits are those of [`SpanLimits::default`].
+    /// Takes no memory.
+    pub fn builder(
+        rt: R,
+    ) -> TracerProviderBuilder<ParentBased<Sampler>, RandomIdGenerator<R>, SystemClock<R>>
+        ensures limits { result.limits ≡ default_limits }
+        ensures resource { result.resource ≡ None }
+        ensures root { result.sampler.root ≡ Sampler.AlwaysOn }
+    {
+        TracerProviderBuilder {
+            resource: None,
+            sampler: ParentBased::new(Sampler::AlwaysOn),
+            id_generator: RandomIdGenerator::new(rt),
+            clock: SystemClock::new(rt),
+            limits: SpanLimits::default(),
+        }
+    }
+}
+
+impl<S: ShouldSample, G: IdGenerator, C: Clock> SdkTracerProvider<S, G, C> {
+    /// Returns what the telemetry is about.
+    pub fn resource(&self) -> &Resource
+        ensures { result.now ≡ self.now.resource }
+    {
+        &self.inner.resource
+    }
+
+    /// Shuts the provider down: from now on a span that its tracers start has no ids and doesn't
+    /// record. A second call does nothing.
+    pub fn shutdown(&self) {
+        self.inner.is_shut_down.set(true);
+    }
+
+    /// Returns how many spans don't record because there were no new ids.
+    pub fn failed_ids(&self) -> u64 {
+        self.inner.failed_ids.get()
+    }
+
+    /// Returns a tracer of the scope that has this name and nothing else.
+    ///
+    /// # Errors
+    ///
+    /// `AllocError` if out of memory. The name is dropped.
+    pub fn tracer(&self, alloc: Global, name: StringValue) -> Result<SdkTracer<S, G, C>, AllocError>
+        ensures { IfOk result (λ tracer. tracer ≡ spec.tracer_of self.now (scope_of_name name)) }
+    {
+        let scope = InstrumentationScope::builder(name).build(alloc)?;
+        self.tracer_with_scope(alloc, scope)
+    }
+
+    /// Returns a tracer of that scope.
+    ///
+    /// # Errors
+    ///
+    /// `AllocError` if out of memory. The scope is dropped.
+    pub fn tracer_with_scope(
+        &self,
+        alloc: Global,
+        scope: InstrumentationScope,
+    ) -> Result<SdkTracer<S, G, C>, AllocError>
+        ensures { IfOk result (λ tracer. tracer ≡ spec.tracer_of self.now scope) }
+    {
+        Ok(SdkTracer {
+            provider: self.inner.clone()?,
+            scope: Rc::new(alloc, scope)?,
+        })
+    }
+}
+
+/// The parts of a provider while they are given (the Rust crate's `TracerProviderBuilder`).
+///
+/// See [`SdkTracerProvider`].
+#[derive(Drop)]
+pub struct TracerProviderBuilder<S, G, C> {
+    resource: Option<Resource>,
+    sampler: S,
+    id_generator: G,
+    clock: C,
+    limits: SpanLimits,
+}
+
+impl<S, G, C> Model for TracerProviderBuilder<S, G, C> {
+    ghost use Rattle.otel_sdk.specs.Tracer.{ProviderParts};
+
+    ghost Value = { ProviderParts S G };
+
+    ghost view = { λ b. record {
+      sampler = b.sampler;
+      id_generator = b.id_generator;
+      limits = b.limits;
+      resource = b.resource;
+    } };
+}
+
+impl<S: ShouldSample, G: IdGenerator, C: Clock> TracerProviderBuilder<S, G, C> {
+    /// Sets what the telemetry is about, in place of the default resource. A second one is merged
+    /// into the first.
+    ///
+    /// # Errors
+    ///
+    /// Returns an error if memory runs out. The parts are dropped.
+    pub fn with_resource(self, resource: Resource) -> Result<Self, AllocError>
+        ensures { IfOk result (λ b. b ≡ record self {
+          resource = Some (option_map_or (λ old. merge old resource) self.resource resource);
+        }) }
+    {
+        let TracerProviderBuilder {
+            resource: given,
+            sampler,
+            id_generator,
+            clock,
+            limits,
+        } = self;
+        let resource = match given {
+            Some(old) => old.merge(resource)?,
+            None => resource,
+        };
+        Ok(TracerProviderBuilder {
+            resource: Some(resource),
+            sampler,
+            id_generator,
+            clock,
+            limits,
+        })
+    }
+
+    /// Sets what decides which spans record.
+    pub fn with_sampler<T: ShouldSample>(self, sampler: T) -> TracerProviderBuilder<T, G, C>
+        ensures { result ≡ record {
+          sampler = sampler;
+          id_generator = self.id_generator;
+          limits = self.limits;
+          resource = self.resource;
+        } }
+    {
+        TracerProviderBuilder {
+            resource: self.resource,
+            sampler,
+            id_generator: self.id_generator,
+            clock: self.clock,
+            limits: self.limits,
+        }
+    }
+
+    /// Sets what makes the ids.
+    pub fn with_id_generator<T: IdGenerator>(
+        self,
+        id_generator: T,
+    ) -> TracerProviderBuilder<S, T, C>
+        ensures { result ≡ record {
+          sampler = self.sampler;
+          id_generator = id_generator;
+          limits = self.limits;
+          resource = self.resource;
+        } }
+    {
+        TracerProviderBuilder {
+            resource: self.resource,
+            sampler: self.sampler,
+            id_generator,
+            clock: self.clock,
+            limits: self.limits,
+        }
+    }
+
+    /// Sets what reads the moments at which spans start.
+    pub fn with_clock<T: Clock>(self, clock: T) -> TracerProviderBuilder<S, G, T>
+        ensures { result ≡ self }
+    {
+        TracerProviderBuilder {
+            resource: self.resource,
+            sampler: self.sampler,
+            id_generator: self.id_generator,
+            clock,
+            limits: self.limits,
+        }
+    }
+
+    /// Sets the greatest number of events of a span.
+    pub fn with_max_events_per_span(self, limit: u32) -> Self
+        ensures { result ≡ record self {
+          limits = record self.limits { max_events_per_span = limit };
+        } }
+    {
+        let limits = SpanLimits {
+            max_events_per_span: limit,
+            ..self.limits
+        };
+        TracerProviderBuilder { limits, ..self }
+    }
+
+    /// Sets the greatest number of attributes of a span.
+    pub fn with_max_attributes_per_span(self, limit: u32) -> Self
+        ensures { result ≡ record self {
+          limits = record self.limits { max_attributes_per_span = limit };
+        } }
+    {
+        let limits = SpanLimits {
+            max_attributes_per_span: limit,
+            ..self.limits
+        };
+        TracerProviderBuilder { limits, ..self }
+    }
+
+    /// Sets the greatest number of links of a span.
+    pub fn with_max_links_per_span(self, limit: u32) -> Self
+        ensures { result ≡ record self {
+          limits = record self.limits { max_links_per_span = limit };
+        } }
+    {
+        let limits = SpanLimits {
+            max_links_per_span: limit,
+            ..self.limits
+        };
+        TracerProviderBuilder { limits, ..self }
+    }
+
+    /// Sets the greatest number of attributes of an event.
+    pub fn with_max_attributes_per_event(self, limit: u32) -> Self
+        ensures { result ≡ record self {
+          limits = record self.limits { max_attributes_per_event = limit };
+        } }
+    {
+        let limits = SpanLimits {
+            max_attributes_per_event: limit,
+            ..self.limits
+        };
+        TracerProviderBuilder { limits, ..self }
+    }
+
+    /// Sets the greatest number of attributes of a link.
+    pub fn with_max_attributes_per_link(self, limit: u32) -> Self
+        ensures { result ≡ record self {
+          limits = record self.limits { max_attributes_per_link = limit };
+        } }
+    {
+        let limits = SpanLimits {
+            max_attributes_per_link: limit,
+            ..self.limits
+        };
+        TracerProviderBuilder { limits, ..self }
+    }
+
+    /// Sets the greatest number of characters of a text in an attribute.
+    pub fn with_max_attribute_length(self, limit: u32) -> Self
+        ensures { result ≡ record self {
+          limits = record self.limits { max_attribute_length = Some limit };
+        } }
+    {
+        let limits = SpanLimits {
+            max_attribute_length: Some(limit),
+            ..self.limits
+        };
+        TracerProviderBuilder { limits, ..self }
+    }
+
+    /// Returns the provider of the given parts.
+    ///
+    /// # Errors
+    ///
+    /// Returns an error if memory runs out. The parts are dropped.
+    pub fn build(self, alloc: Global) -> Result<SdkTracerProvider<S, G, C>, AllocError>
+        ensures { IfOk result (λ p. p ≡ spec.provider_of self) }
+    {
+        let TracerProviderBuilder {
+            resource,
+            sampler,
+            id_generator,
+            clock,
+            limits,
+        } = self;
+        let resource = match resource {
+            Some(resource) => resource,
+            None => Resource::builder(alloc)?.build(),
+        };
+        let inner = TracerProviderInner {
+            resource,
+            sampler,
+            id_generator,
+            clock,
+            limits,
+            is_shut_down: Cell::new(false),
+            failed_ids: Cell::new(0),
+        };
+        Ok(SdkTracerProvider {
+            inner: Rc::new(alloc, inner)?,
+        })
+    }
+}

@@ -1,0 +1,171 @@
+//! The tracer of the SDK.
+ghost use Rattle.std.specs.Prelude.{◌≡◌, IfOk, map, option_copied};
+ghost use Rattle.std.specs.Option.{unwrap_or};
+ghost use Rattle.otel_base.specs.View.{attribute_of};
+ghost use Rattle.opentelemetry.specs.View.{builder_of};
+ghost use Rattle.otel_sdk.specs.Tracer as spec;
+
+use crate::trace::clock::Clock;
+use crate::trace::id_generator::IdGenerator;
+use crate::trace::limits::SpanLimits;
+use crate::trace::provider::TracerProviderInner;
+use crate::trace::sampler::ShouldSample;
+use crate::trace::span::SdkSpan;
+use crate::trace::start::{Ids, ask, given_data, new_ids, parent_of, records, span_context_of};
+use opentelemetry::trace::{SpanBuilder, SpanContext};
+use opentelemetry::{Context, InstrumentationScope, KeyValue};
+use std::alloc::{AllocError, Global};
+use std::marker::Model;
+use std::rc::Rc;
+
+/// Starts the spans of one library or module (the Rust crate's `SdkTracer`).
+///
+/// A span has its parent's trace id, or a new one if it is a root, and a new span id. Its sampler
+/// decides whether it records. Under suppressed telemetry, or once its provider is shut down, a span
+/// has no ids and doesn't record. If the generator of ids fails, a span doesn't record and has the
+/// span context of its parent, and the provider counts it.
+///
+/// It doesn't implement the API's `Tracer` yet.
+///
+/// See [`crate::trace::SdkTracerProvider`].
+#[derive(Drop)]
+pub struct SdkTracer<S, G, C> {
+    pub(crate) provider: Rc<TracerProviderInner<S, G, C>>,
+    pub(crate) scope: Rc<InstrumentationScope>,
+}
+
+impl<S, G, C> Model for SdkTracer<S, G, C> {
+    ghost use Rattle.std.specs.Rc.{rc_value};
+    ghost use Rattle.otel_sdk.specs.Tracer.{TracerState};
+
+    ghost Value = { TracerState S G };
+
+    ghost view = { λ t. record {
+      sampler = (rc_value t.provider).sampler;
+      id_generator = (rc_value t.provider).id_generator;
+      limits = (rc_value t.provider).limits;
+      scope = rc_value t.scope;
+    } };
+}
+
+/// Returns a span that doesn't record, with the span context of the parent if there is one.
+///
+/// # Errors
+///
+/// `AllocError` if the count of those that share the trace state is at its limit.
+fn without_ids(parent: Option<&SpanContext>) -> Result<SdkSpan, AllocError>
+    ensures { IfOk result (λ span. span ≡ spec.without_ids (option_copied parent.entry)) }
+{
+    match parent {
+        Some(parent) => Ok(SdkSpan::without_data(parent.clone()?)),
+        None => Ok(SdkSpan::without_data(SpanContext::NONE)),
+    }
+}
+
+impl<S: ShouldSample, G: IdGenerator, C: Clock> SdkTracer<S, G, C> {
+    /// Returns the given moment, or else the clock's.
+    fn start_time(&self, given: Option<u64>) -> u64
+        ensures { result ≡ unwrap_or given result }
+    {
+        match given {
+            Some(start_time) => start_time,
+            None => self.provider.clock.now(),
+        }
+    }
+
+    /// Starts a span that records, with that span context and those attributes of the sampler.
+    ///
+    /// # Errors
+    ///
+    /// Returns an error if memory runs out. All is dropped.
+    fn record(
+        &self,
+        alloc: Global,
+        builder: SpanBuilder,
+        parent: Option<&SpanContext>,
+        span_context: SpanContext,
+        sampled: Vec<KeyValue>,
+    ) -> Result<SdkSpan, AllocError>
+        ensures { IfOk result (λ span. spec.Records self.now.limits self.now.scope
+            (builder_of builder) (option_copied parent.entry) span_context
+            (map attribute_of sampled.items) span) }
+    {
+        let start_time = self.start_time(builder.start_time);
+        let scope = self.scope.clone()?;
+        let data = given_data(
+            alloc,
+            scope,
+            builder,
+            parent,
+            span_context,
+            sampled,
+            start_time,
+        )?;
+        SdkSpan::new(alloc, data, self.provider.limits)
+    }
+
+    /// Starts the span of these ids.
+    ///
+    /// # Errors
+    ///
+    /// Returns an error if memory runs out. The builder is dropped.
+    fn start_with_ids(
+        &self,
+        alloc: Global,
+        builder: SpanBuilder,
+        parent_context: &Context,
+        ids: Ids,
+    ) -> Result<SdkSpan, AllocError>
+        ensures { IfOk result (λ span. spec.StartsWith (S.answer self.now.sampler)
+            (G.random self.now.id_generator) self.now.limits self.now.scope (builder_of builder)
+            parent_context.now ids.trace_id ids.span_id span) }
+    {
+        let parent = parent_of(parent_context);
+        let answer = ask(
+            alloc,
+            &self.provider.sampler,
+            &builder,
+            parent_context,
+            ids.trace_id,
+        )?;
+        let random = self.provider.id_generator.is_random();
+        let span_context = span_context_of(
+            ids,
+            answer.decision,
+            parent,
+            random,
+            answer.trace_state,
+        );
+        if !records(answer.decision) {
+            return Ok(SdkSpan::without_data(span_context));
+        }
+        self.record(alloc, builder, parent, span_context, answer.attributes)
+    }
+
+    /// Starts a span from a builder under a parent context, as the API's `Tracer` does.
+    ///
+    /// # Errors
+    ///
+    /// `AllocError` if out of memory. The builder is dropped.
+    pub fn build_with_context(
+        &self,
+        alloc: Global,
+        builder: SpanBuilder,
+        parent: &Context,
+    ) -> Result<SdkSpan, AllocError>
+        ensures { IfOk result (spec.MayBuild (S.answer self.now.sampler)
+            (G.random self.now.id_generator) self.now.limits self.now.scope (builder_of builder)
+            parent.now) }
+    {
+        if parent.is_telemetry_suppressed() || self.provider.is_shut_down.get() {
+            return Ok(SdkSpan::without_data(SpanContext::NONE));
+        }
+        match new_ids(&self.provider.id_generator, parent_of(parent)) {
+            Ok(ids) => self.start_with_ids(alloc, builder, parent, ids),
+            Err(_) => {
+                self.provider.count_failed_ids();
+                without_ids(parent_of(parent))
+            }
+        }
+    }
+}
