@@ -68,7 +68,7 @@ impl SdkSpan {
         })
     }
 
-    /// Returns a span that doesn't record. It keeps its span context alone, and takes no memory.
+    /// Returns a span that doesn't record. It keeps its span context only, and takes no memory.
     pub fn without_data(span_context: SpanContext) -> SdkSpan
         ensures { result ≡ spec.unrecorded span_context }
     {
