@@ -1,6 +1,8 @@
 -- What a carrier means: a finite map from texts to texts, each the list of its bytes.
 use Rattle.std.specs.Prelude.{◌≡◌, ℕ, List, [], ◌∷◌, ◌++◌, Option, None, Some, if◌then◌else◌}
 use Rattle.std.specs.Prelude.{string_bytes, map, is_some}
+use Rattle.std.specs.Borrow.{Bor}
+use Rattle.std.specs.HashMap.{HashMap}
 use Rattle.std.specs.Ordering.{nat_cmp}
 use Rattle.std.specs.Cmp.Lexicographic.{slice_cmp}
 use Rattle.std.specs.List.{list_any}
@@ -9,6 +11,7 @@ use Rattle.std.specs.Option.{option_map, option_or}
 use Rattle.std.specs.Str.{bytes_eq, str_to_ascii_lowercase}
 use Rattle.std.specs.FinMap as fin
 use Rattle.std.specs.declared.string.String.{String}
+use Rattle.std.specs.declared.vec.Vec.{Vec}
 
 -- keys with their values, in the order in which they are set
 abbrev pub Pairs : Type 0
@@ -46,6 +49,10 @@ last_value (p ∷ ps) k =
 pub record Sets (old : TextMap) (pairs : Pairs) (new : TextMap) : Type 0 where
   pub at_key : (k : List ℕ) → at new k ≡ option_or (last_value pairs k) (at old k)
 
+-- `new` is `old` with this value set for the key
+abbrev pub SetsValue : TextMap → List ℕ → List ℕ → TextMap → Type 0
+SetsValue old key value new = Sets old ((key, value) ∷ []) new
+
 -- `new` is `old` with a prefix of the pairs set. Not in the Rust crate.
 pub record SetsBeginning (old : TextMap) (pairs : Pairs) (new : TextMap) : Type 0 where
   pub done : Pairs
@@ -63,6 +70,10 @@ get m k = at m (lower k)
 abbrev pub get_all : TextMap → List ℕ → Option (List (List ℕ))
 get_all m k = option_map (λ v. v ∷ []) (get m k)
 
+-- the texts that a list of references refers to
+abbrev pub borrowed_texts : {A : Type 0} → Vec (Bor (List ℕ)) A → List (List ℕ)
+borrowed_texts v = map (λ t. t.now) v.items
+
 -- the texts are the keys of the map, as they are stored, in ascending order of their bytes
 pub record AreKeys (m : TextMap) (keys : List (List ℕ)) : Type 0 where
   pub rising : IsStrictlySortedBy (slice_cmp nat_cmp) keys
@@ -75,6 +86,11 @@ text_pair p = (string_bytes p.0, string_bytes p.1)
 -- what a map of strings means
 abbrev pub text_map : {A : Type 0} → List (String A × String A) → TextMap
 text_map es = fin.from_entries (map text_pair es)
+
+-- two maps of strings mean the same texts
+abbrev pub HasSameTexts : {A S : Type 0} → HashMap (String A) (String A) S
+    → HashMap (String A) (String A) S → Type 0
+HasSameTexts old new = text_map new.entries ≡ text_map old.entries
 
 -- a map of strings as a carrier: it never itself refuses a text
 abbrev pub map_state : {A : Type 0} → List (String A × String A) → CarrierState

@@ -28,6 +28,23 @@ pub record LinkRecord : Type 0 where
   pub attributes : List Attribute
   pub dropped_attributes_count : ℕ
 
+-- the event with these parts [`Event::new`]
+abbrev pub new_event : List ℕ → ℕ → List Attribute → ℕ → EventRecord
+new_event name timestamp attributes dropped = record {
+  name = name;
+  timestamp = timestamp;
+  attributes = attributes;
+  dropped_attributes_count = dropped;
+}
+
+-- the link with these parts [`Link::new`]
+abbrev pub new_link : SpanContextRecord → List Attribute → ℕ → LinkRecord
+new_link span_context attributes dropped = record {
+  span_context = span_context;
+  attributes = attributes;
+  dropped_attributes_count = dropped;
+}
+
 -- ---- equality as a test
 -- whether two lists have the same attributes in the same order
 abbrev pub attributes_eq : List Attribute → List Attribute → Bool

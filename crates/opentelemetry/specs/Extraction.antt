@@ -1,6 +1,8 @@
 -- What an extraction promises, by one propagator or by a composite.
 use Rattle.std.specs.Prelude.{◌≡◌, Bool, IsTrue, Result, IfOk}
 use Rattle.otel_context.specs.Context.{ContextRecord}
+use Rattle.otel_context.specs.Stack.{StackState, current}
+use Rattle.opentelemetry.specs.Carrier.{TextMap}
 use Rattle.opentelemetry.specs.declared.propagation.error.PropagationError.{PropagationError}
 use Rattle.opentelemetry.specs.Refusal.{is_refused}
 
@@ -12,3 +14,10 @@ pub record Extracts (context : ContextRecord) (may_refuse : Bool)
   pub ok : IfOk result (λ given. given ≡ context)
   -- `Refused` is returned only if the propagator may refuse
   pub refused : IsTrue (is_refused result) → IsTrue may_refuse
+
+-- An extraction from the texts by a propagator `p`, of which `extracted` and `may_refuse` are known,
+-- starting from the stack's current context.
+abbrev pub ExtractsCurrent : {P : Type 0} → (P → ContextRecord → TextMap → ContextRecord)
+    → (P → Bool) → P → StackState → TextMap → Result ContextRecord PropagationError → Type 0
+ExtractsCurrent extracted may_refuse p stack texts result =
+    Extracts (extracted p (current stack.live) texts) (may_refuse p) result

@@ -19,13 +19,13 @@ module _ {S : Type 0} where
   -- a body ran once in a span under the given parent, and its context was then detached [the Rust
   -- crate's `Tracer::in_span_with_builder_and_context`]
   pub record RanInSpan {Out : Type 0}
-      (MayBuild : S → Type 0) (context_of : S → SpanContextRecord) (may_leave : MayLeave S Out)
-      (parent : ContextRecord)
+      (MayBuild : ContextRecord → S → Type 0) (context_of : S → SpanContextRecord)
+      (may_leave : MayLeave S Out) (parent : ContextRecord)
       (old : StackState) (spans : SpansState S)
-      (answer : Out × ℕ) (new : StackState) (new_spans : SpansState S) : Type 0 where
+      (new : StackState) (new_spans : SpansState S) (answer : Out × ℕ) : Type 0 where
     -- the span is one that the tracer may start
     pub span : S
-    pub built : MayBuild span
+    pub built : MayBuild parent span
     -- the parent's context with the span was attached, or the greatest position was live and the
     -- stack didn't change
     pub position : ℕ
@@ -44,10 +44,9 @@ module _ {S : Type 0} where
   -- the same with the stack's current context as the parent
   abbrev pub RanUnderCurrent : {Out : Type 0} → (ContextRecord → S → Type 0)
       → (S → SpanContextRecord) → MayLeave S Out → StackState → SpansState S
-      → Out × ℕ → StackState → SpansState S → Type 0
-  RanUnderCurrent MayBuild context_of may_leave old spans answer new new_spans =
-      RanInSpan (MayBuild (current old.live)) context_of may_leave (current old.live)
-      old spans answer new new_spans
+      → StackState → SpansState S → Out × ℕ → Type 0
+  RanUnderCurrent MayBuild context_of may_leave old spans new new_spans answer =
+      RanInSpan MayBuild context_of may_leave (current old.live) old spans new new_spans answer
 
   -- the span that was built comes back, and the table has the same spans
   pub record IsRefused (MayBuild : S → Type 0) (old new : SpansState S) (refused : SpanRefused S)
@@ -62,3 +61,9 @@ module _ {S : Type 0} where
   abbrev pub NotStarted : (S → Type 0) → SpansState S → SpansState S → StartError S → Type 0
   NotStarted MayBuild old new (Build e) = new ≡ old
   NotStarted MayBuild old new (Refused refused) = IsRefused MayBuild old new refused
+
+  -- the same with the stack's current context as the parent
+  abbrev pub NotStartedOn : (ContextRecord → S → Type 0) → StackState → SpansState S
+      → SpansState S → StartError S → Type 0
+  NotStartedOn MayBuild stack old new error =
+      NotStarted (MayBuild (current stack.live)) old new error

@@ -1,5 +1,7 @@
 -- What an injection promises, by one propagator or by a composite.
 use Rattle.std.specs.Prelude.{Bool, IsTrue, Result, OnOk, OnErr, ◌<◌, ◌≤◌, ◌⊎◌}
+use Rattle.otel_context.specs.Context.{ContextRecord}
+use Rattle.otel_context.specs.Stack.{StackState, current}
 use Rattle.opentelemetry.specs.declared.propagation.error.PropagationError.{PropagationError}
 use Rattle.opentelemetry.specs.Carrier.{CarrierState, Pairs, Sets, SetsBeginning}
 use Rattle.opentelemetry.specs.Refusal.{is_refused}
@@ -17,3 +19,14 @@ pub record Injects {T : Type 0} (pairs : Pairs) (may_refuse : Bool) (old new : C
   pub refused : IsTrue (is_refused result) → IsTrue may_refuse ⊎ (old.refusals < new.refusals)
   -- the carrier's count never decreases
   pub count : old.refusals ≤ new.refusals
+
+module _ {P T : Type 0} (pairs : P → ContextRecord → Pairs) (may_refuse : P → Bool) (p : P) where
+  -- an injection of a context by a propagator `p`, of which `pairs` and `may_refuse` are known
+  abbrev pub InjectsBy : ContextRecord → CarrierState → CarrierState
+      → Result T PropagationError → Type 0
+  InjectsBy context old new result = Injects (pairs p context) (may_refuse p) old new result
+
+  -- the same of the stack's current context
+  abbrev pub InjectsCurrent : StackState → CarrierState → CarrierState
+      → Result T PropagationError → Type 0
+  InjectsCurrent stack old new result = InjectsBy (current stack.live) old new result

@@ -1,5 +1,8 @@
 -- What holds after each event of a run. No public contract cites this file. Not in the Rust crate.
 use Rattle.std.specs.Prelude.{◌≡◌, ℕ, ◌+◌, List, [], ◌∷◌, ◌++◌, map, Option, option_map}
+use Rattle.std.specs.Prelude.{Result, IfOk}
+use Rattle.std.specs.declared.vec.Vec.{Vec}
+use Rattle.std.specs.declared.alloc.Global.{Global}
 use Rattle.otel_context.specs.Context.{ContextRecord}
 use Rattle.otel_context.specs.Stack.{StackState, current, IsLawful}
 use Rattle.opentelemetry.specs.declared.carry.event.StackEvent.{StackEvent}
@@ -18,8 +21,8 @@ after_attach old (Attached position) context = record {
 after_attach old Full context = old
 after_attach old NoMemory context = old
 
--- what holds after the events so far: the outcomes, the position of each attach while it is live,
--- and the stack are those of the events
+-- the outcomes, the position of each attach while it is live, and the stack are those that the
+-- events lead to
 pub record Stands
     (events : List StackEvent) (outcomes : List AttachOutcome)
     (kept : List (Option ℕ)) (stack : StackState) : Type 0 where
@@ -30,3 +33,16 @@ pub record Stands
   pub lawful : IsLawful stack
   pub accepted : stack.accepted ≡ accepted_of outcomes
   pub stepped : stack.stepped ≡ 0
+
+-- the outcomes and the stack are those that the events lead to
+abbrev pub IsPlayed : List StackEvent → List AttachOutcome → StackState → Type 0
+IsPlayed events outcomes stack = (kept : List (Option ℕ)) × Stands events outcomes kept stack
+
+-- If the result is `Ok`, the events were applied: from the outcomes, positions and stack that any
+-- earlier events lead to, to those that all of them lead to.
+abbrev pub Plays : {E : Type 0} → List StackEvent
+    → Vec AttachOutcome Global → Vec (Option ℕ) Global → StackState
+    → Vec AttachOutcome Global → Vec (Option ℕ) Global → StackState → Result Unit E → Type 0
+Plays events outcomes kept stack outcomes' kept' stack' result = IfOk result (λ _.
+    (done : List StackEvent) → Stands done outcomes.items kept.items stack
+    → Stands (done ++ events) outcomes'.items kept'.items stack')

@@ -1,6 +1,6 @@
 -- What contracts see of the types of this crate.
 use Rattle.std.specs.Prelude.{map, option_map}
-use Rattle.otel_base.specs.View.{attribute_of}
+use Rattle.otel_context.specs.SpanEffects.{attributes_of}
 use Rattle.opentelemetry.specs.Event.{EventRecord, LinkRecord}
 use Rattle.opentelemetry.specs.declared.trace.event.Event.{Event}
 use Rattle.opentelemetry.specs.SpanBuilder.{BuilderRecord}
@@ -12,7 +12,7 @@ abbrev pub event_of : Event → EventRecord
 event_of e = record {
   name = e.name;
   timestamp = e.timestamp;
-  attributes = map attribute_of e.attributes.items;
+  attributes = attributes_of e.attributes;
   dropped_attributes_count = e.dropped_attributes_count;
 }
 
@@ -20,7 +20,7 @@ event_of e = record {
 abbrev pub link_of : Link → LinkRecord
 link_of l = record {
   span_context = l.span_context;
-  attributes = map attribute_of l.attributes.items;
+  attributes = attributes_of l.attributes;
   dropped_attributes_count = l.dropped_attributes_count;
 }
 
@@ -30,7 +30,7 @@ builder_of b = record {
   span_kind = b.span_kind;
   name = b.name;
   start_time = b.start_time;
-  attributes = option_map (λ v. map attribute_of v.items) b.attributes;
+  attributes = option_map attributes_of b.attributes;
   events = option_map (λ v. map event_of v.items) b.events;
   links = option_map (λ v. map link_of v.items) b.links;
 }

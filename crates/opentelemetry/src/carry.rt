@@ -1,14 +1,11 @@
 //! A run of attaches and detaches over one stack, whose current context is then injected.
-ghost use Rattle.std.specs.Prelude.{◌≡◌, ◌≤◌, ◌∷◌, ◌++◌, [], ℕ, List, Option};
-ghost use Rattle.std.specs.Prelude.{IsTrue, IsOk, IfOk, OnErr};
+ghost use Rattle.std.specs.Prelude.{◌≡◌, ◌≤◌, ◌∷◌, [], IsOk, IfOk, OnErr};
 ghost use Rattle.otel_context.specs.Stack.{newest_position, current, IsLawful};
-ghost use Rattle.opentelemetry.specs.Carrier.{text_map};
-ghost use Rattle.opentelemetry.specs.Composite.{members_of, may_refuse_of, InjectsIntoMap};
-ghost use Rattle.opentelemetry.specs.Refusal.{is_refused};
-ghost use Rattle.opentelemetry.specs.Progress.{after_attach, Stands};
+ghost use Rattle.opentelemetry.specs.Carrier.{HasSameTexts};
+ghost use Rattle.opentelemetry.specs.Composite.{members_of, RefusedByMember, Sends, SendsCurrent};
+ghost use Rattle.opentelemetry.specs.Progress.{after_attach, IsPlayed, Plays};
 ghost use Rattle.opentelemetry.specs.Run.{IsOutcome, IsCurrent, Legal, survivors};
 ghost use Rattle.opentelemetry.specs.Run.{accepted_of, stack_of};
-ghost use Rattle.opentelemetry.specs.declared.carry.event.StackEvent.{StackEvent as EventValue};
 
 use crate::context::{Context, ContextStack};
 use crate::propagation::{PropagationError, TextMapCompositePropagator};
@@ -56,9 +53,8 @@ fn apply(
     outcomes: &mut Vec<AttachOutcome>,
     event: StackEvent,
 ) -> Result<(), AllocError>
-    ensures { IfOk result (λ _. (done : List EventValue)
-        → Stands done outcomes.old.items positions.old.items stack.old
-        → Stands (done ++ event ∷ []) outcomes.new.items positions.new.items stack.new) }
+    ensures { Plays (event ∷ []) outcomes.old positions.old stack.old
+        outcomes.new positions.new stack.new result }
 {
     match event {
         StackEvent::Attach(context) => {
@@ -90,9 +86,8 @@ fn apply_all(
     outcomes: &mut Vec<AttachOutcome>,
     events: Vec<StackEvent>,
 ) -> Result<(), AllocError>
-    ensures { IfOk result (λ _. (done : List EventValue)
-        → Stands done outcomes.old.items positions.old.items stack.old
-        → Stands (done ++ events.items) outcomes.new.items positions.new.items stack.new) }
+    ensures { Plays events.items outcomes.old positions.old stack.old
+        outcomes.new positions.new stack.new result }
 {
     for event in events {
         apply(stack, positions, outcomes, event)?;
@@ -109,8 +104,7 @@ struct Played {
 
 /// Applies the events in order, starting from an empty stack.
 fn play(alloc: Global, events: Vec<StackEvent>) -> Result<Played, AllocError>
-    ensures { IfOk result (λ played. (kept : List (Option ℕ))
-        × Stands events.items played.outcomes.items kept played.stack) }
+    ensures { IfOk result (λ played. IsPlayed events.items played.outcomes.items played.stack) }
 {
     let mut stack = ContextStack::new(alloc)?;
     let mut outcomes = Vec::new(alloc);
@@ -125,12 +119,11 @@ fn send(
     context: &Context,
     carrier: &mut HashMap<String, String>,
 ) -> Result<(), PropagationError>
-    ensures injected { InjectsIntoMap (λ m. pairs m) (λ m. may_refuse m) composite.now context.now
-        carrier.old.entries carrier.new.entries result }
-    ensures refused { IsTrue (is_refused result)
-        → IsTrue (may_refuse_of (λ m. may_refuse m) composite.now) }
+    ensures injected { Sends (λ m. pairs m) (λ m. may_refuse m) composite.now context.now
+        carrier.old carrier.new result }
+    ensures refused { RefusedByMember (λ m. may_refuse m) composite.now result }
     ensures without_members { members_of composite.now ≡ []
-        → IsOk result × (text_map carrier.new.entries ≡ text_map carrier.old.entries) }
+        → IsOk result × HasSameTexts carrier.old carrier.new }
 {
     composite.inject_context(context, carrier)
 }
@@ -157,20 +150,19 @@ pub fn run(
     ensures current { IfOk result (λ report.
         IsCurrent events.items report.outcomes.items (current report.stack.live)) }
     ensures legal { IfOk result (λ report. Legal events.items report.outcomes.items) }
-    ensures injected { IfOk result (λ report. InjectsIntoMap (λ m. pairs m) (λ m. may_refuse m)
-        composite.now (current report.stack.live)
-        carrier.old.entries carrier.new.entries report.injected) }
-    ensures refused { IfOk result (λ report. IsTrue (is_refused report.injected)
-        → IsTrue (may_refuse_of (λ m. may_refuse m) composite.now)) }
+    ensures injected { IfOk result
+        (SendsCurrent (λ m. pairs m) (λ m. may_refuse m) composite.now carrier.old carrier.new) }
+    ensures refused { IfOk result (λ report.
+        RefusedByMember (λ m. may_refuse m) composite.now report.injected) }
     ensures accepted { IfOk result (λ report.
         report.stack.accepted ≡ accepted_of report.outcomes.items) }
     ensures stepped { IfOk result (λ report. report.stack.stepped ≤ report.stack.accepted) }
     ensures stack { IfOk result (λ report.
         report.stack ≡ stack_of events.items report.outcomes.items) }
     ensures without_members { members_of composite.now ≡ []
-        → IfOk result (λ report. IsOk report.injected)
-        × (text_map carrier.new.entries ≡ text_map carrier.old.entries) }
-    ensures err { OnErr result (text_map carrier.new.entries ≡ text_map carrier.old.entries) }
+        → IfOk result (λ report. IsOk report.injected) }
+    ensures nothing_sent { members_of composite.now ≡ [] → HasSameTexts carrier.old carrier.new }
+    ensures err { OnErr result (HasSameTexts carrier.old carrier.new) }
 {
     let Played { stack, outcomes } = play(alloc, events)?;
     let injected = send(composite, stack.current(), carrier);

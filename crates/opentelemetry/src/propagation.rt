@@ -1,9 +1,8 @@
 //! Propagation: carriers of texts, and the propagators that write and read them.
-ghost use Rattle.std.specs.Prelude.{◌≡◌, ◌+◌, ◌∷◌, [], OnOk, OnErr, IfOk, string_bytes};
-ghost use Rattle.std.specs.Prelude.{if◌then◌else◌, map};
+ghost use Rattle.std.specs.Prelude.{◌≡◌, ◌+◌, OnOk, OnErr, IfOk, string_bytes, if◌then◌else◌};
 ghost use Rattle.std.specs.Option.{option_copied, option_map};
-ghost use Rattle.opentelemetry.specs.Carrier.{CarrierState, Sets, TextMap, AreKeys, get, get_all};
-ghost use Rattle.opentelemetry.specs.Carrier.{map_state, text_map};
+ghost use Rattle.opentelemetry.specs.Carrier.{CarrierState, SetsValue, TextMap, AreKeys};
+ghost use Rattle.opentelemetry.specs.Carrier.{get, get_all, borrowed_texts, map_state, text_map};
 ghost use Rattle.opentelemetry.specs.Refusal.{is_refused};
 
 use std::alloc::{AllocError, Global};
@@ -39,8 +38,8 @@ pub trait Injector {
     /// `Refused` if the carrier itself refuses the text, which raises its count by one; `Memory` if
     /// out of memory. After either, the texts are unchanged, and the value is dropped.
     fn set(&mut self, key: &str, value: String) -> Result<(), PropagationError>
-        ensures ok { OnOk result (Sets (state self.old).texts
-            ((key.now, string_bytes value) ∷ []) (state self.new).texts) }
+        ensures ok { OnOk result (SetsValue (state self.old).texts key.now (string_bytes value)
+            (state self.new).texts) }
         ensures err { OnErr result ((state self.new).texts ≡ (state self.old).texts) }
         ensures count { (state self.new).refusals
             ≡ (state self.old).refusals + (if is_refused result then 1 else 0) };
@@ -93,7 +92,7 @@ pub trait Extractor {
     ///
     /// `AllocError` if out of memory. Nothing changes.
     fn keys(&self, alloc: Global) -> Result<Vec<&str>, AllocError>
-        ensures { IfOk result (λ keys. AreKeys (texts self.now) (map (λ k. k.now) keys.items)) };
+        ensures { IfOk result (λ keys. AreKeys (texts self.now) (borrowed_texts keys)) };
 
     /// Returns all values of the key, with its ASCII letters in lower case: by default the one that
     /// `get` returns.
@@ -103,8 +102,7 @@ pub trait Extractor {
     /// `AllocError` if out of memory. Nothing changes.
     fn get_all(&self, alloc: Global, key: &str) -> Result<Option<Vec<&str>>, AllocError>
         ensures { IfOk result (λ found.
-            option_map (λ values. map (λ v. v.now) values.items) found
-            ≡ get_all (texts self.now) key.now) }
+            option_map borrowed_texts found ≡ get_all (texts self.now) key.now) }
     {
         match self.get(alloc, key)? {
             Some(value) => Ok(Some(vec![in alloc; value]?)),

@@ -1,10 +1,8 @@
 //! A propagator made of propagators.
-ghost use Rattle.std.specs.Prelude.{◌≡◌, ◌++◌, [], IsOk, IfOk, OnOk, map, string_bytes};
-ghost use Rattle.std.specs.Str.{bytes_eq};
-ghost use Rattle.indexmap.specs.IndexSet.{insert_all};
+ghost use Rattle.std.specs.Prelude.{◌≡◌, ◌++◌, [], IsOk, IfOk, OnOk};
 ghost use Rattle.otel_context.specs.Stack.{current};
-ghost use Rattle.opentelemetry.specs.Composite.{members_of, pairs_of, may_refuse_of};
-ghost use Rattle.opentelemetry.specs.Composite.{extracted_of, fields_of, kept_fields};
+ghost use Rattle.opentelemetry.specs.Composite.{members_of, InjectsAll, ExtractsAll};
+ghost use Rattle.opentelemetry.specs.Composite.{fields_of, kept_fields, AddsTexts};
 ghost use Rattle.opentelemetry.specs.Extraction.{Extracts};
 ghost use Rattle.opentelemetry.specs.Injection.{Injects};
 
@@ -60,8 +58,7 @@ fn add_fields(
     fields: &mut IndexSet<String>,
     member: &Box<dyn TextMapPropagator>,
 ) -> Result<(), AllocError>
-    ensures { OnOk result (map string_bytes fields.new.keys
-        ≡ insert_all bytes_eq (map string_bytes fields.old.keys) (field_names member.now)) }
+    ensures { OnOk result (AddsTexts fields.old (field_names member.now) fields.new) }
 {
     for name in member.fields() {
         fields.insert(String::from_str(alloc, name)?)?;
@@ -142,8 +139,7 @@ impl TextMapCompositePropagator {
         context: &Context,
         injector: &mut dyn Injector,
     ) -> Result<(), PropagationError>
-        ensures injected { Injects (pairs_of (λ m. pairs m) self.now context.now)
-            (may_refuse_of (λ m. may_refuse m) self.now)
+        ensures injected { InjectsAll (λ m. pairs m) (λ m. may_refuse m) self.now context.now
             (state injector.old) (state injector.new) result }
         ensures without_members { members_of self.now ≡ []
             → IsOk result × (state injector.new ≡ state injector.old) }
@@ -164,9 +160,8 @@ impl TextMapCompositePropagator {
         stack: &ContextStack,
         injector: &mut dyn Injector,
     ) -> Result<(), PropagationError>
-        ensures injected { Injects (pairs_of (λ m. pairs m) self.now (current stack.now.live))
-            (may_refuse_of (λ m. may_refuse m) self.now)
-            (state injector.old) (state injector.new) result }
+        ensures injected { InjectsAll (λ m. pairs m) (λ m. may_refuse m) self.now
+            (current stack.now.live) (state injector.old) (state injector.new) result }
         ensures without_members { members_of self.now ≡ []
             → IsOk result × (state injector.new ≡ state injector.old) }
     {
@@ -187,9 +182,8 @@ impl TextMapCompositePropagator {
         context: &Context,
         extractor: &dyn Extractor,
     ) -> Result<Context, PropagationError>
-        ensures extracted { Extracts
-            (extracted_of (λ m. extracted m) self.now context.now (texts extractor.now))
-            (may_refuse_of (λ m. may_refuse m) self.now) result }
+        ensures extracted { ExtractsAll (λ m. extracted m) (λ m. may_refuse m) self.now context.now
+            (texts extractor.now) result }
         ensures without_members { members_of self.now ≡ []
             → IfOk result (λ given. given ≡ context.now) }
     {
@@ -214,9 +208,8 @@ impl TextMapCompositePropagator {
         stack: &ContextStack,
         extractor: &dyn Extractor,
     ) -> Result<Context, PropagationError>
-        ensures extracted { let context = current stack.now.live in Extracts
-            (extracted_of (λ m. extracted m) self.now context (texts extractor.now))
-            (may_refuse_of (λ m. may_refuse m) self.now) result }
+        ensures extracted { ExtractsAll (λ m. extracted m) (λ m. may_refuse m) self.now
+            (current stack.now.live) (texts extractor.now) result }
         ensures without_members { members_of self.now ≡ []
             → IfOk result (λ given. given ≡ current stack.now.live) }
     {

@@ -1,8 +1,7 @@
 //! Propagators, which write a context into a carrier and read it back.
 ghost use Rattle.std.specs.Prelude.{◌≡◌, map, string_bytes};
-ghost use Rattle.otel_context.specs.Stack.{current};
-ghost use Rattle.opentelemetry.specs.Extraction.{Extracts};
-ghost use Rattle.opentelemetry.specs.Injection.{Injects};
+ghost use Rattle.opentelemetry.specs.Extraction.{Extracts, ExtractsCurrent};
+ghost use Rattle.opentelemetry.specs.Injection.{InjectsBy, InjectsCurrent};
 
 use crate::context::{Context, ContextStack};
 use crate::propagation::{Extractor, Injector, PropagationError};
@@ -41,7 +40,7 @@ pub trait TextMapPropagator: Drop {
         context: &Context,
         injector: &mut dyn Injector,
     ) -> Result<(), PropagationError>
-        ensures { Injects (pairs self.now context.now) (may_refuse self.now)
+        ensures { InjectsBy pairs may_refuse self.now context.now
             (state injector.old) (state injector.new) result };
 
     /// Sets the pairs of the stack's current context, as `inject_context` does.
@@ -54,7 +53,7 @@ pub trait TextMapPropagator: Drop {
         stack: &ContextStack,
         injector: &mut dyn Injector,
     ) -> Result<(), PropagationError>
-        ensures { Injects (pairs self.now (current stack.now.live)) (may_refuse self.now)
+        ensures { InjectsCurrent pairs may_refuse self.now stack.now
             (state injector.old) (state injector.new) result }
     {
         self.inject_context(stack.current(), injector)
@@ -86,8 +85,8 @@ pub trait TextMapPropagator: Drop {
         stack: &ContextStack,
         extractor: &dyn Extractor,
     ) -> Result<Context, PropagationError>
-        ensures { Extracts (extracted self.now (current stack.now.live) (texts extractor.now))
-            (may_refuse self.now) result }
+        ensures { ExtractsCurrent extracted may_refuse self.now stack.now (texts extractor.now)
+            result }
     {
         self.extract_with_context(alloc, stack.current(), extractor)
     }

@@ -1,9 +1,9 @@
 //! Events of spans.
-ghost use Rattle.std.specs.Prelude.{◌≡◌, ◌↔◌, IsTrue, [], map};
+ghost use Rattle.std.specs.Prelude.{◌≡◌, ◌↔◌, IsTrue, []};
 ghost use Rattle.std.specs.Cmp.{on_per, partial_equiv_from_equiv};
 ghost use Rattle.otel_base.specs.KeyValueLaws.{equiv_from_decides};
-ghost use Rattle.otel_base.specs.View.{attribute_of};
-ghost use Rattle.opentelemetry.specs.Event.{event_eq, event_eq-Decides};
+ghost use Rattle.otel_context.specs.SpanEffects.{attributes_of};
+ghost use Rattle.opentelemetry.specs.Event.{new_event, event_eq, event_eq-Decides};
 ghost use Rattle.opentelemetry.specs.View.{event_of};
 
 use crate::trace::attributes::{copy_attributes, same_attributes};
@@ -37,12 +37,8 @@ impl Event {
         attributes: Vec<KeyValue>,
         dropped_attributes_count: u32,
     ) -> Event
-        ensures { event_of result ≡ record {
-          name = name;
-          timestamp = timestamp;
-          attributes = map attribute_of attributes.items;
-          dropped_attributes_count = dropped_attributes_count;
-        } }
+        ensures { event_of result
+            ≡ new_event name timestamp (attributes_of attributes) dropped_attributes_count }
     {
         Event {
             name,
@@ -54,12 +50,7 @@ impl Event {
 
     /// Returns an event without attributes, at `timestamp` nanoseconds since 1970-01-01T00:00:00Z.
     pub fn with_name(alloc: Global, name: StringValue, timestamp: u64) -> Event
-        ensures { event_of result ≡ record {
-          name = name;
-          timestamp = timestamp;
-          attributes = [];
-          dropped_attributes_count = 0;
-        } }
+        ensures { event_of result ≡ new_event name timestamp [] 0 }
     {
         Event::new(name, timestamp, Vec::new(alloc), 0)
     }

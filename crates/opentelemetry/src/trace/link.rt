@@ -1,9 +1,9 @@
 //! Links between spans.
-ghost use Rattle.std.specs.Prelude.{◌≡◌, ◌↔◌, IsTrue, [], map};
+ghost use Rattle.std.specs.Prelude.{◌≡◌, ◌↔◌, IsTrue, []};
 ghost use Rattle.std.specs.Cmp.{on_per, partial_equiv_from_equiv};
 ghost use Rattle.otel_base.specs.KeyValueLaws.{equiv_from_decides};
-ghost use Rattle.otel_base.specs.View.{attribute_of};
-ghost use Rattle.opentelemetry.specs.Event.{link_eq, link_eq-Decides};
+ghost use Rattle.otel_context.specs.SpanEffects.{attributes_of};
+ghost use Rattle.opentelemetry.specs.Event.{new_link, link_eq, link_eq-Decides};
 ghost use Rattle.opentelemetry.specs.View.{link_of};
 
 use crate::trace::attributes::{copy_attributes, same_attributes};
@@ -35,11 +35,8 @@ impl Link {
         attributes: Vec<KeyValue>,
         dropped_attributes_count: u32,
     ) -> Link
-        ensures { link_of result ≡ record {
-          span_context = span_context;
-          attributes = map attribute_of attributes.items;
-          dropped_attributes_count = dropped_attributes_count;
-        } }
+        ensures { link_of result
+            ≡ new_link span_context (attributes_of attributes) dropped_attributes_count }
     {
         Link {
             span_context,
@@ -50,11 +47,7 @@ impl Link {
 
     /// Returns a link without attributes.
     pub fn with_context(alloc: Global, span_context: SpanContext) -> Link
-        ensures { link_of result ≡ record {
-          span_context = span_context;
-          attributes = [];
-          dropped_attributes_count = 0;
-        } }
+        ensures { link_of result ≡ new_link span_context [] 0 }
     {
         Link::new(span_context, Vec::new(alloc), 0)
     }

@@ -1,6 +1,6 @@
 //! The builder of a span.
 ghost use Rattle.std.specs.Prelude.{◌≡◌, IfOk, Some, [], map};
-ghost use Rattle.otel_base.specs.View.{attribute_of};
+ghost use Rattle.otel_context.specs.SpanEffects.{attributes_of};
 ghost use Rattle.otel_context.specs.Stack.{current};
 ghost use Rattle.opentelemetry.specs.SpanBuilder.{from_name, is_valid_link, valid_links};
 ghost use Rattle.opentelemetry.specs.SpanBuilder.{with_links};
@@ -73,7 +73,7 @@ impl SpanBuilder {
     /// Sets the attributes, replacing those that were set before.
     pub fn with_attributes(self, attributes: Vec<KeyValue>) -> SpanBuilder
         ensures { builder_of result ≡ record (builder_of self) {
-          attributes = Some (map attribute_of attributes.items);
+          attributes = Some (attributes_of attributes);
         } }
     {
         SpanBuilder {

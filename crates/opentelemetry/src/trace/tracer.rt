@@ -3,7 +3,8 @@ ghost use Rattle.std.specs.Prelude.{◌≡◌, IfOk, IfErr, IsErr, OnErr};
 ghost use Rattle.otel_context.specs.Spans.{used_up};
 ghost use Rattle.otel_context.specs.Stack.{current};
 ghost use Rattle.opentelemetry.specs.SpanBuilder.{from_name};
-ghost use Rattle.opentelemetry.specs.InSpan.{RanInSpan, RanUnderCurrent, NotStarted};
+ghost use Rattle.opentelemetry.specs.InSpan.{RanInSpan, RanUnderCurrent};
+ghost use Rattle.opentelemetry.specs.InSpan.{NotStarted, NotStartedOn};
 ghost use Rattle.opentelemetry.specs.View.{builder_of};
 
 use crate::trace::in_span::{Entered, SpanBody, StartError, enter};
@@ -121,9 +122,9 @@ pub trait Tracer {
         f: F,
     ) -> Result<(F::Out, u64), StartError<Self::Span>>
         requires { F.can_call f }
-        ensures ran { IfOk result (λ answer. RanInSpan
-            (may_build self.now (builder_of builder) parent.now) Self.Span.context_of
-            (F.may_leave f) parent.now stack.old spans.old answer stack.new spans.new) }
+        ensures ran { IfOk result (RanInSpan (may_build self.now (builder_of builder))
+            Self.Span.context_of (F.may_leave f) parent.now
+            stack.old spans.old stack.new spans.new) }
         ensures same_stack { OnErr result (stack.new ≡ stack.old) }
         ensures not_started { IfErr result
             (NotStarted (may_build self.now (builder_of builder) parent.now) spans.old spans.new) }
@@ -164,9 +165,9 @@ pub trait Tracer {
         f: F,
     ) -> Result<(F::Out, u64), StartError<Self::Span>>
         requires { F.can_call f }
-        ensures ran { IfOk result (λ answer. RanInSpan
-            (may_build self.now (from_name name) parent.now) Self.Span.context_of (F.may_leave f)
-            parent.now stack.old spans.old answer stack.new spans.new) }
+        ensures ran { IfOk result (RanInSpan (may_build self.now (from_name name))
+            Self.Span.context_of (F.may_leave f) parent.now
+            stack.old spans.old stack.new spans.new) }
         ensures same_stack { OnErr result (stack.new ≡ stack.old) }
         ensures not_started { IfErr result
             (NotStarted (may_build self.now (from_name name) parent.now) spans.old spans.new) }
@@ -192,13 +193,11 @@ pub trait Tracer {
         f: F,
     ) -> Result<(F::Out, u64), StartError<Self::Span>>
         requires { F.can_call f }
-        ensures ran { IfOk result (λ answer. RanUnderCurrent
-            (may_build self.now (builder_of builder)) Self.Span.context_of (F.may_leave f)
-            stack.old spans.old answer stack.new spans.new) }
+        ensures ran { IfOk result (RanUnderCurrent (may_build self.now (builder_of builder))
+            Self.Span.context_of (F.may_leave f) stack.old spans.old stack.new spans.new) }
         ensures same_stack { OnErr result (stack.new ≡ stack.old) }
-        ensures not_started { IfErr result (NotStarted
-            (may_build self.now (builder_of builder) (current stack.old.live))
-            spans.old spans.new) }
+        ensures not_started { IfErr result (NotStartedOn
+            (may_build self.now (builder_of builder)) stack.old spans.old spans.new) }
         ensures used_up { spans.old.next_number ≡ used_up
             → IsErr result × (spans.new ≡ spans.old) }
     {
@@ -226,12 +225,11 @@ pub trait Tracer {
         f: F,
     ) -> Result<(F::Out, u64), StartError<Self::Span>>
         requires { F.can_call f }
-        ensures ran { IfOk result (λ answer. RanUnderCurrent
-            (may_build self.now (from_name name)) Self.Span.context_of (F.may_leave f)
-            stack.old spans.old answer stack.new spans.new) }
+        ensures ran { IfOk result (RanUnderCurrent (may_build self.now (from_name name))
+            Self.Span.context_of (F.may_leave f) stack.old spans.old stack.new spans.new) }
         ensures same_stack { OnErr result (stack.new ≡ stack.old) }
-        ensures not_started { IfErr result (NotStarted
-            (may_build self.now (from_name name) (current stack.old.live)) spans.old spans.new) }
+        ensures not_started { IfErr result (NotStartedOn
+            (may_build self.now (from_name name)) stack.old spans.old spans.new) }
         ensures used_up { spans.old.next_number ≡ used_up
             → IsErr result × (spans.new ≡ spans.old) }
     {
