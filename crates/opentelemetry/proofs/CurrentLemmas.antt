@@ -70,6 +70,6 @@ is_current events outcomes = elim (last_of empty_context (left_by 0 events outco
   })
 ]
 
--- the same of a list of live attachments that are the survivors
+-- the same for the live attachments, if they are the survivors
 pub current_is : (events : List StackEvent) (outcomes : List AttachOutcome) (live : Live) → live ≡ survivors events outcomes → IsCurrent events outcomes (current live)
 current_is events outcomes live is = rw is (is_current events outcomes)

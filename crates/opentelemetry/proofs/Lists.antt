@@ -1,9 +1,9 @@
--- Lists that are seen element by element.
+-- Lists whose elements have views.
 use Rattle.std.proofs.Common.{◌≡◌, List, [], ◌∷◌, Bool, true, false, cond, map, refl, ap}
 use Rattle.std.specs.List.{AllZip, filter}
 
 module _ {X Y : Type 0} (view : X → Y) where
-  -- a list whose elements are seen alike is seen alike
+  -- lists whose elements have equal views have equal views
   pub same_views : (xs ys : List X) → AllZip (λ x y. view y ≡ view x) xs ys → map view ys ≡ map view xs
   same_views [] [] h = refl
   same_views [] (y ∷ ys) h = elim h [ ]
@@ -15,7 +15,7 @@ module _ {X Y : Type 0} (view : X → Y) where
   kept true x ys xs h = ap (λ zs. view x ∷ zs) h
   kept false x ys xs h = h
 
-  -- to filter what is seen is to filter by what is seen
+  -- filtering the views is viewing what is filtered
   pub filter_views : (test : Y → Bool) (xs : List X)
       → filter test (map view xs) ≡ map view (filter (λ x. test (view x)) xs)
   filter_views test [] = refl

@@ -1,4 +1,4 @@
--- What a map of strings has at a text, before and after a call of its own.
+-- The value of a text in a map of strings, before and after the map's calls.
 use Rattle.std.proofs.Common.{◌≡◌, ℕ, List, [], ◌∷◌, true, false, cond, Option, None, Some, refl, sym, ap, ◌∙◌, string_bytes, map}
 use Rattle.std.specs.FinMap as fin
 use Rattle.std.specs.HashMap as hash

@@ -91,7 +91,7 @@ above_at q (Some a ∷ xs) zero p context e r = let h : a ≡ (p, context) = cc 
 above_at q (None ∷ xs) (suc n) p context e r = above_at q xs n p context e r
 above_at q (Some a ∷ xs) (suc n) p context e r = let h = above_at a.0 xs n p context e r.1 in omega (arith, r.0, h)
 
--- to clear a place is to take out the position that stands there
+-- clearing a place removes the position there
 survivors_of-set : (q : ℕ) (xs : List Left) (n p : ℕ) (context : ContextRecord) → slice_get xs n ≡ Some (Some (p, context)) → RisesAbove q (positions (survivors_of xs))
     → survivors_of (slice_set xs n None) ≡ detach p (survivors_of xs)
 survivors_of-set q [] n p context e r = cc
@@ -104,7 +104,7 @@ survivors_of-set q (Some a ∷ xs) (suc n) p context e r =
     let h = above_at a.0 xs n p context e r.1 in
     rw (ne_eqb a.0 p (λ k. omega (arith, h, k))) (ap (λ (l : Live). a ∷ l) (survivors_of-set a.0 xs n p context e r.1))
 
--- to clear what is clear changes nothing
+-- clearing a cleared place changes nothing
 set-same : (xs : List Left) (n : ℕ) → slice_get xs n ≡ Some None → slice_set xs n None ≡ xs
 set-same [] n e = refl
 set-same (x ∷ xs) zero e = let h : None ≡ x = cc in ap (λ (l : Left). l ∷ xs) h
@@ -127,7 +127,7 @@ pub slice_get-append_end : {X : Type 0} (xs : List X) (y : X) → slice_get (xs 
 slice_get-append_end [] y = refl
 slice_get-append_end (x ∷ xs) y = slice_get-append_end xs y
 
--- `Legal` of the events before stays so under one more event
+-- what `Legal` says of earlier events holds with one event more
 legal-more : (events : List StackEvent) (outcomes more : List AttachOutcome) (event : StackEvent) → Legal events outcomes
     → (i : ℕ) (context : ContextRecord) → i < length events → slice_get (events ++ event ∷ []) i ≡ Some (Attach context)
     → IfSome (slice_get (outcomes ++ more) (attaches_of (take i (events ++ event ∷ [])))) (IsOutcome (newest_position (survivors (take i (events ++ event ∷ [])) (outcomes ++ more))))
@@ -141,7 +141,7 @@ legal-more events outcomes more event legal i context within at =
     )
     (legal.each i context at')
 
--- an event at a place of one more is that one, or of those before
+-- with one event more, each is the new one or one of those before
 place_of : (events : List StackEvent) (event : StackEvent) (i : ℕ) (x : StackEvent) → slice_get (events ++ event ∷ []) i ≡ Some x → (i < length events) ⊎ ((i ≡ length events) × (event ≡ x))
 place_of events event i x at = elim (cases_lt i (length events)) [
   | inl h ↦ inl h

@@ -1,4 +1,4 @@
--- How what several members set comes together.
+-- What several members set together.
 use Rattle.std.proofs.Common.{Result, Ok, Err, ◌≤◌, ◌⊎◌, inl, inr, true≢false, ◌≡◌, ℕ, ◌+◌, ◌<◌, List, [], ◌∷◌, ◌++◌, Bool, IsTrue, Option, None, Some, refl, sym, ap, subst, ◌∙◌, take, length, get_or, append_assoc, arith, drop, if◌then◌else◌}
 use Rattle.std.proofs.lemmas.List.{take_more, take-append-drop, append-nil, take_all}
 use Rattle.std.proofs.lemmas.List.Folds.{list_any_at}
@@ -72,7 +72,7 @@ pub refused_by_one : {X : Type 0} (p : X → Bool) (xs ys : List X) (i : ℕ) (x
 refused_by_one p xs ys i x a b c same h is le (inl may) = inl (ap (list_any p) (sym same) ∙ list_any_at p xs i x h (ap p (sym is) ∙ may))
 refused_by_one p xs ys i x a b c same h is le (inr rose) = inr (omega arith)
 
--- a member that returns an error ends the injection of all
+-- a member that returns an error ends the whole injection
 pub injects_until : {X T : Type 0} (f : X → Pairs) (p : X → Bool) (xs ys : List X) (i : ℕ) (x : X) (a b c : CarrierState) (e : PropagationError) → xs ≡ ys → i < length xs → x ≡ get_or xs i x →
     Sets a.texts (flat_map f (take i xs)) b.texts → a.refusals ≤ b.refusals → Injects {T = T} (f x) (p x) b c (Err e) → Injects {T = T} (flat_map f ys) (list_any p ys) a c (Err e)
 injects_until f p xs ys i x a b c e same h is sets le t = record {
@@ -96,6 +96,6 @@ injects_all f may xs ys i a b t same h sets le = record {
 pub injects_moved : {T : Type 0} (r : Result T PropagationError) (a b c d : CarrierState) (ps : Pairs) (may : Bool) → a ≡ c → b ≡ d → Injects ps may a b r → Injects ps may c d r
 injects_moved r a b c d ps may p q h = subst (λ x. Injects ps may c x r) q (subst (λ x. Injects ps may x b r) p h)
 
--- texts that stay do so if the carrier is known by another name
+-- unchanged texts are unchanged if the carrier is known by another name
 pub texts_moved : (a b c d : CarrierState) → a ≡ c → b ≡ d → b.texts ≡ a.texts → d.texts ≡ c.texts
 texts_moved a b c d p q h = ap (λ s. s.texts) (sym q) ∙ h ∙ ap (λ s. s.texts) p

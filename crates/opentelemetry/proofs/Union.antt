@@ -45,7 +45,7 @@ others-nothing : (xs : List (List ℕ)) → xs ≡ others [] xs
 others-nothing [] = refl
 others-nothing (x ∷ xs) = ap (λ ys. x ∷ ys) (others-nothing xs)
 
--- a text that is among those before is left out anyway
+-- a text among those before is left out anyway
 others-known : (ks : List (List ℕ)) (x : List ℕ) (ys : List (List ℕ)) → list_any (bytes_eq x) ks ≡ true → others ks ys ≡ others ks (filter (λ y. not (bytes_eq x y)) ys)
 others-known ks x [] known = refl
 others-known ks x (y ∷ ys) known =
@@ -60,7 +60,7 @@ others-known ks x (y ∷ ys) known =
 bytes_eq-sym : (x y : List ℕ) → bytes_eq x y ≡ bytes_eq y x
 bytes_eq-sym x y = nat_list_eq_equiv.symm x y
 
--- a text that is new is left out of the others from then on
+-- a new text is left out of the others from then on
 others-new : (ks : List (List ℕ)) (x : List ℕ) (ys : List (List ℕ)) → others (ks ++ x ∷ []) ys ≡ others ks (filter (λ y. not (bytes_eq x y)) ys)
 others-new ks x [] = refl
 others-new ks x (y ∷ ys) =

@@ -36,7 +36,7 @@ abbrev pub AttachesInOrder : Type 0
 AttachesInOrder =
     (contexts : List ContextRecord) → length contexts ≤ last_position → IsInOrder contexts
 
--- 65534 attaches, the last given apart, and one more
+-- 65534 attaches, the last given separately, and one more
 abbrev pub filled : List ContextRecord → ContextRecord → ContextRecord → List StackEvent
 filled contexts last x = attaches contexts ++ Attach last ∷ [] ++ Attach x ∷ []
 

@@ -31,7 +31,7 @@ pub use text_map_propagator::TextMapPropagator;
 pub trait Injector {
     ghost state: { Self → CarrierState };
 
-    /// Maps the key, with its ASCII letters in lower case, to the value.
+    /// Sets the value of the key, which is stored in ASCII lower case.
     ///
     /// # Errors
     ///
@@ -44,8 +44,8 @@ pub trait Injector {
         ensures count { (state self.new).refusals
             ≡ (state self.old).refusals + (if is_refused result then 1 else 0) };
 
-    /// Hints that `additional` more texts will be set. The carrier's `state` doesn't change, even
-    /// if out of memory.
+    /// Hints that `additional` more texts will be set. The carrier's `state` doesn't change, even if
+    /// out of memory.
     fn reserve(&mut self, additional: usize)
         ensures { state self.new ≡ state self.old }
     {
@@ -53,7 +53,7 @@ pub trait Injector {
     }
 }
 
-/// A map of texts itself never refuses a text: its count of refusals is always 0.
+/// A map itself never refuses a text: its count of refusals is always 0.
 impl<S: BuildHasher> Injector for HashMap<String, String, S> {
     ghost state = { λ m. map_state m.entries };
 
@@ -78,7 +78,7 @@ impl<S: BuildHasher> Injector for HashMap<String, String, S> {
 pub trait Extractor {
     ghost texts: { Self → TextMap };
 
-    /// Returns the value of the key, with its ASCII letters in lower case, if there is one.
+    /// Returns the value of the key in ASCII lower case, if there is one.
     ///
     /// # Errors
     ///
@@ -94,8 +94,7 @@ pub trait Extractor {
     fn keys(&self, alloc: Global) -> Result<Vec<&str>, AllocError>
         ensures { IfOk result (λ keys. AreKeys (texts self.now) (borrowed_texts keys)) };
 
-    /// Returns all values of the key, with its ASCII letters in lower case: by default the one that
-    /// `get` returns.
+    /// Returns all values of the key in ASCII lower case: by default the one that `get` returns.
     ///
     /// # Errors
     ///

@@ -1,22 +1,22 @@
-//! Loggers, which make and take log records, and their providers.
+//! Loggers, which create and emit log records, and their providers.
 ghost use Rattle.std.specs.Prelude.{IfOk, option_map};
 
 use crate::logs::{LogRecord, Severity};
 use otel_base::{InstrumentationScope, StringValue};
 use std::alloc::{AllocError, Global};
 
-/// Makes log records, and takes them once they are complete (the Rust crate's `Logger`).
+/// Creates log records, and emits them (the Rust crate's `Logger`).
 ///
-/// An implementor names, by ghost relations, the records that it may make (`may_create`) and the
-/// answers that it may give on whether an event is enabled (`may_enable`). They are relations and
-/// not functions, so that a clock may be read and a configuration may change.
+/// An implementor names, by ghost relations, the records that it may create (`may_create`) and what
+/// it may answer if asked whether an event is enabled (`may_enable`). They are relations and not
+/// functions, so that it may read a clock and its configuration may change.
 ///
 /// See `otel_examples::log_bridge`.
 pub trait Logger {
     ghost use Rattle.std.specs.Prelude.{ℕ, List, Option, Bool};
     ghost use Rattle.otel_base.specs.declared.severity.Severity.{Severity};
 
-    /// The records that it makes and takes.
+    /// The records that it creates and emits.
     type LogRecord: LogRecord;
 
     ghost may_create: { Self → Self.LogRecord → Type 0 };
@@ -31,12 +31,11 @@ pub trait Logger {
     fn create_log_record(&self, alloc: Global) -> Result<Self::LogRecord, AllocError>
         ensures { IfOk result (may_create self.now) };
 
-    /// Takes a complete record. It reads no context: to have the active span in the record, set it
-    /// by `set_trace_context`. (By the Rust crate's documentation the logger reads the thread's
-    /// context.)
+    /// Emits a complete record. No context is read: to record the active span, call
+    /// `set_trace_context` first. (In the Rust crate the logger reads the thread's context.)
     fn emit(&self, record: Self::LogRecord);
 
-    /// Returns `true` if a record with this severity, target and event name would be of use.
+    /// Returns `true` if the logger wants records with this severity, target and event name.
     fn event_enabled(&self, level: Severity, target: &str, name: Option<&str>) -> bool
         ensures { let asked = option_map (λ n. n.now) name.entry in
             may_enable self.now level target.now asked result };

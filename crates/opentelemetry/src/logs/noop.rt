@@ -1,4 +1,4 @@
-//! Loggers that do nothing, for programs without a log.
+//! Loggers that do nothing, for programs without logging.
 ghost use Rattle.std.specs.Prelude.{◌≡◌, false, IsOk};
 
 use crate::logs::{AnyValue, LogRecord, Logger, LoggerProvider, Severity};
@@ -60,7 +60,7 @@ impl Logger for NoopLogger {
 
     ghost may_enable = { λ _ _ _ _ enabled. enabled ≡ false };
 
-    /// Returns a record that ignores all that is set on it. Takes no memory.
+    /// Returns a record that ignores everything set on it. Takes no memory.
     fn create_log_record(&self, _alloc: Global) -> Result<NoopLogRecord, AllocError>
         ensures { IsOk result }
     {
@@ -75,7 +75,7 @@ impl Logger for NoopLogger {
     }
 }
 
-/// A log record that ignores all that is set on it (the Rust crate's `NoopLogRecord`).
+/// A log record that ignores everything set on it (the Rust crate's `NoopLogRecord`).
 ///
 /// See [`LogRecord`].
 #[derive(Clone, Debug, Default, Drop)]

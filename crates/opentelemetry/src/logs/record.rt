@@ -7,14 +7,14 @@ use otel_base::{Key, StringValue};
 use otel_ids::{SpanId, TraceFlags, TraceId};
 use std::alloc::{AllocError, Global};
 
-/// One entry of a log, while it is put together (the Rust crate's `LogRecord`).
+/// A log record that is being built (the Rust crate's `LogRecord`).
 ///
-/// An implementor names, by ghost members, the effect of each writing call as a function of the
-/// record and of what the arguments mean: `after_event_name`, `after_target`, `after_timestamp`,
+/// An implementor names, by ghost members, the effect of each setter as a function of the record and
+/// of what the arguments mean: `after_event_name`, `after_target`, `after_timestamp`,
 /// `after_observed_timestamp`, `after_severity_text`, `after_severity_number`, `after_body`,
-/// `after_attributes`, `after_attribute`. Each call has its effect or, after an error, leaves the
-/// record unchanged. `may_be_traced` says which records `set_trace_context` may leave: the
-/// unchanged record is one of them (`may_be_untraced`), and by default the only one.
+/// `after_attributes`, `after_attribute`. After an error the record is unchanged. `may_be_traced`
+/// says which records `set_trace_context` may leave: the unchanged record is one of them
+/// (`may_be_untraced`), and by default the only one.
 ///
 /// Times are nanoseconds since 1970-01-01T00:00:00Z. In the Rust crate they are values of
 /// `SystemTime`, and attributes come from an iterator.
@@ -49,8 +49,7 @@ pub trait LogRecord: Drop {
     fn set_event_name(&mut self, name: &'static str)
         ensures { self.new ≡ after_event_name self.old name.now };
 
-    /// Sets the target: the part of the program that the record comes from, as the path of a
-    /// module.
+    /// Sets the target: the part of the program that the record comes from, such as a module path.
     fn set_target(&mut self, target: StringValue)
         ensures { self.new ≡ after_target self.old target };
 
@@ -62,7 +61,7 @@ pub trait LogRecord: Drop {
     fn set_observed_timestamp(&mut self, timestamp: u64)
         ensures { self.new ≡ after_observed_timestamp self.old timestamp };
 
-    /// Sets the severity as the source of the record writes it.
+    /// Sets the severity as a text, in the words of the record's source.
     fn set_severity_text(&mut self, text: &'static str)
         ensures { self.new ≡ after_severity_text self.old text.now };
 

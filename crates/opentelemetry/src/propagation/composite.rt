@@ -85,8 +85,8 @@ impl TextMapCompositePropagator {
     ///
     /// # Errors
     ///
-    /// `AllocError` if out of memory for the names, so never without members. The members are
-    /// dropped.
+    /// `AllocError` if out of memory for the names, so never if there are no members. The members
+    /// are dropped.
     pub fn new(
         alloc: Global,
         members: Vec<Box<dyn TextMapPropagator>>,
@@ -107,7 +107,7 @@ impl TextMapCompositePropagator {
     ///
     /// # Errors
     ///
-    /// `AllocError` if out of memory, so never if both are without members. The members of both are
+    /// `AllocError` if out of memory, so never if neither has members. The members of both are
     /// dropped.
     pub fn join(
         self,
@@ -127,13 +127,13 @@ impl TextMapCompositePropagator {
         TextMapCompositePropagator::new(alloc, members)
     }
 
-    /// Lets each member inject the context, in turn, until one returns an error, and returns that.
-    /// Without members it is `Ok` and nothing of the carrier changes.
+    /// Lets each member inject the context, in turn. Stops at the first error and returns it.
+    /// Without members it returns `Ok`, and the carrier is unchanged.
     ///
     /// # Errors
     ///
     /// `Memory` if out of memory; `Refused` only if a member may refuse, or the carrier refuses a
-    /// text. After either a beginning of the members' pairs is set.
+    /// text. After either, a prefix of the members' pairs is set.
     pub fn inject_context(
         &self,
         context: &Context,
@@ -168,9 +168,9 @@ impl TextMapCompositePropagator {
         self.inject_context(stack.current(), injector)
     }
 
-    /// Lets each member extract, in turn, from the context that the one before returned, the first
-    /// from the given one. Stops at the first error and returns it. Without members it returns a
-    /// copy of the given context.
+    /// Lets each member extract, in turn, starting from the context that the one before returned,
+    /// and the first from the given one. Stops at the first error and returns it. Without members it
+    /// returns a copy of the given context.
     ///
     /// # Errors
     ///

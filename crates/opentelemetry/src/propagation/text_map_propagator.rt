@@ -59,7 +59,7 @@ pub trait TextMapPropagator: Drop {
         self.inject_context(stack.current(), injector)
     }
 
-    /// Returns the context, with what the carrier holds for this propagator.
+    /// Returns a copy of the context with what the carrier holds for this propagator.
     ///
     /// # Errors
     ///
@@ -74,7 +74,8 @@ pub trait TextMapPropagator: Drop {
         ensures { Extracts (extracted self.now context.now (texts extractor.now))
             (may_refuse self.now) result };
 
-    /// Returns the stack's current context, with what the carrier holds for this propagator.
+    /// Returns a copy of the stack's current context with what the carrier holds for this
+    /// propagator.
     ///
     /// # Errors
     ///

@@ -10,7 +10,7 @@ use crate::trace::attributes::{copy_attributes, same_attributes};
 use otel_base::{KeyValue, StringValue};
 use std::alloc::{AllocError, Global};
 
-/// Something that happened at one time during a span, with attributes (the Rust crate's `Event`).
+/// Something that happened at a point in time during a span (the Rust crate's `Event`).
 ///
 /// Contracts see the record of its four parts, the attributes as a list.
 ///

@@ -10,17 +10,17 @@ use std::alloc::{AllocError, Global};
 
 /// Why no body ran in a span. Not in the Rust crate.
 ///
-/// The stack is unchanged, and the table holds the same spans. That no body ran isn't said by a
-/// clause: code that had called the body couldn't discard its result, as [`SpanBody::Out`] has no
-/// `Drop` bound, and so wouldn't compile.
+/// The stack is unchanged, and the table holds the same spans. No clause says that no body ran, but
+/// code that had called the body couldn't discard its result, since [`SpanBody::Out`] has no `Drop`
+/// bound, and so wouldn't compile.
 ///
 /// See `otel_examples::in_span`.
 #[derive(Drop)]
 pub enum StartError<S> {
     /// Out of memory before there was a span. The table is unchanged.
     Build(AllocError),
-    /// The numbers of the table are used up, or out of memory; the span that was built comes back.
-    /// In the first case the table is unchanged, in the second its next number may be one higher.
+    /// The table's numbers are used up, or out of memory; the span that was built comes back. In the
+    /// first case the table is unchanged, in the second its next number may be one higher.
     Refused(SpanRefused<S>),
 }
 
@@ -42,8 +42,8 @@ pub trait SpanBody<S>: Drop {
 
     ghost can_call: { Self → Type 0 } = { λ _. Unit {0} };
 
-    /// Runs the body. The context is the current one, unless the greatest position is live, so that
-    /// it couldn't be attached.
+    /// Runs the body. The context is the current one, unless it couldn't be attached because the
+    /// greatest position was live.
     fn call(self, stack: &mut ContextStack, spans: &mut Spans<S>, context: Context) -> Self::Out
         requires { can_call self }
         ensures { may_leave self stack.old spans.old context result stack.new spans.new };
@@ -51,7 +51,7 @@ pub trait SpanBody<S>: Drop {
 
 /// A closure as a body: `Run(|stack, spans, context| ..)`. Not in the Rust crate.
 ///
-/// It may leave what the closure promises.
+/// It may leave what the closure's contract allows.
 ///
 /// ```
 /// Run(|stack: &mut ContextStack, _spans: &mut Spans<NoopSpan>, _context: Context| {

@@ -60,8 +60,7 @@ impl Clone for Link {
     ///
     /// # Errors
     ///
-    /// `AllocError` if out of memory, or if the count of those that share the pairs of the trace
-    /// state is at its limit. The link is unchanged.
+    /// `AllocError` if out of memory. The link is unchanged.
     fn clone(&self) -> Result<Link, AllocError> {
         Ok(Link {
             span_context: self.span_context.clone()?,

@@ -76,13 +76,13 @@ impl Tracer for NoopTracer {
 
     ghost may_build = { λ _ _ parent span. span ≡ span_context parent };
 
-    /// Returns a span with the parent's span context, valid or not, so that what calls carry goes
-    /// on. Takes no memory.
+    /// Returns a span with the parent's span context, valid or not, so that it is still propagated.
+    /// Takes no memory.
     ///
     /// # Errors
     ///
-    /// `AllocError` if the count of those that share the pairs of the trace state is at its limit,
-    /// so never if there are no pairs.
+    /// `AllocError` if the reference count of the trace state's pairs is at its limit, so never if
+    /// there are no pairs.
     fn build_with_context(
         &self,
         _alloc: Global,
@@ -98,7 +98,7 @@ impl Tracer for NoopTracer {
     }
 }
 
-/// A span that never records and ignores all that is set on it (the Rust crate's `NoopSpan`).
+/// A span that never records and ignores everything set on it (the Rust crate's `NoopSpan`).
 ///
 /// Contracts see its span context.
 ///
@@ -147,12 +147,12 @@ impl Clone for NoopSpan {
 
     ghost is_infallible = { λ s. s.trace_state ≡ [] };
 
-    /// Returns a span of the same span context.
+    /// Returns a span with the same span context.
     ///
     /// # Errors
     ///
-    /// `AllocError` if the count of those that share the pairs of the trace state is at its limit,
-    /// so never if there are no pairs.
+    /// `AllocError` if the reference count of the trace state's pairs is at its limit, so never if
+    /// there are no pairs.
     fn clone(&self) -> Result<NoopSpan, AllocError> {
         Ok(NoopSpan {
             span_context: self.span_context.clone()?,
@@ -225,7 +225,7 @@ impl Span for NoopSpan {
         self.add_event_with_timestamp(alloc, name, now, attributes)
     }
 
-    /// Ignores the error, and doesn't print it. Takes no memory.
+    /// Ignores the error without printing it. Takes no memory.
     fn record_error<E: Display>(
         &mut self,
         _alloc: Global,
@@ -282,7 +282,7 @@ impl Span for NoopSpan {
 pub struct NoopTextMapPropagator;
 
 impl NoopTextMapPropagator {
-    /// Returns the propagator, the only value of its type.
+    /// Returns the propagator.
     pub fn new() -> NoopTextMapPropagator {
         NoopTextMapPropagator
     }

@@ -36,7 +36,7 @@ pub struct SpanBuilder {
 }
 
 impl SpanBuilder {
-    /// Returns a builder with the name and nothing else set.
+    /// Returns a builder with only the name set.
     pub fn from_name(name: StringValue) -> SpanBuilder
         ensures { builder_of result ≡ from_name name }
     {

@@ -75,7 +75,7 @@ pub trait Tracer {
         self.build_with_context(alloc, self.span_builder(name), parent)
     }
 
-    /// Returns a builder with the name and nothing else set.
+    /// Returns a builder with only the name set.
     fn span_builder(&self, name: StringValue) -> SpanBuilder
         ensures { builder_of result ≡ from_name name }
     {
@@ -98,20 +98,20 @@ pub trait Tracer {
         self.build_with_context(alloc, builder, stack.current())
     }
 
-    /// Runs a body in a new span of a builder under a parent context.
+    /// Runs a body in a span started from a builder under a parent context.
     ///
     /// The span goes into the table, the parent's context with it is attached, and the body is
     /// called once, with the stack, the table and that context. Then what is live at the attached
     /// position is removed. If the greatest position is live, nothing is attached, and the body
     /// still runs. Returns the body's result and the span's number; the span stays in the table
-    /// until it is taken. After the body no memory is requested.
+    /// until it is taken. Nothing is allocated after the body.
     ///
     /// # Errors
     ///
-    /// `Build` if out of memory before there is a span; `Refused`, with the span, if the numbers of
-    /// the table are used up, and otherwise if out of memory. The body isn't called, the stack is
-    /// unchanged, and the table has the same spans. If its numbers are used up the table is
-    /// unchanged; if out of memory its next number may be one higher.
+    /// `Build` if out of memory before there is a span; `Refused`, with the span, if the table's
+    /// numbers are used up, or if out of memory after that. The body isn't called, the stack is
+    /// unchanged, and the table has the same spans. If its numbers are used up, the table is
+    /// unchanged; if out of memory, its next number may be one higher.
     fn in_span_with_builder_and_context<F: SpanBody<Self::Span>>(
         &self,
         alloc: Global,
@@ -149,7 +149,7 @@ pub trait Tracer {
         Ok((answer, number))
     }
 
-    /// Runs a body in a new span named `name` under a parent context, as
+    /// Runs a body in a span named `name` under a parent context, as
     /// [`Tracer::in_span_with_builder_and_context`] does.
     ///
     /// # Errors
@@ -178,7 +178,7 @@ pub trait Tracer {
         self.in_span_with_builder_and_context(alloc, stack, spans, builder, parent, f)
     }
 
-    /// Runs a body in a new span of a builder under the current context, as
+    /// Runs a body in a span started from a builder under the current context, as
     /// [`Tracer::in_span_with_builder_and_context`] does.
     ///
     /// # Errors
@@ -210,7 +210,7 @@ pub trait Tracer {
         }
     }
 
-    /// Runs a body in a new span named `name` under the current context, as
+    /// Runs a body in a span named `name` under the current context, as
     /// [`Tracer::in_span_with_builder_and_context`] does.
     ///
     /// # Errors
