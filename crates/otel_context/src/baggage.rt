@@ -24,6 +24,7 @@ use self::header::write_header;
 pub use self::metadata::{BaggageMetadata, KeyValueMetadata};
 pub use self::weight::{MAX_KEY_VALUE_PAIRS, MAX_LEN_OF_ALL_PAIRS};
 use self::weight::{weight_after, weight_of};
+use crate::names::is_same;
 use indexmap::{IndexMap, map};
 use otel_base::{Key, KeyValue, StringValue};
 use std::alloc::{AllocError, Global};
@@ -288,11 +289,12 @@ impl Baggage {
     }
 }
 
-/// Returns the index of the key, if present. A key of another length is skipped at once.
+/// Returns the index of the key, if present. A key of another length or with another last byte is
+/// skipped at once.
 fn index_of(held: &IndexMap<Key, (StringValue, BaggageMetadata)>, key: &str) -> Option<usize>
     ensures { result ≡ position (bytes_eq key.now) (keys_of held.now.entries) }
 {
-    held.keys().position(|name| key == name.as_str())
+    held.keys().position(|name| is_same(key, name.as_str()))
 }
 
 impl fmt::Display for Baggage {

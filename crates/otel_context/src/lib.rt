@@ -7,6 +7,7 @@
 pub mod baggage;
 mod context;
 pub mod laws;
+mod names;
 mod span;
 mod stack;
 

@@ -202,8 +202,12 @@ impl Contents {
     fn with_active_span(&self, alloc: Global, span: ActiveSpan) -> Result<Rc<Contents>, AllocError>
         ensures { IfOk result (λ c. c.value ≡ record self.now { span = Some (span_part span) }) }
     {
-        let mut contents = self.clone()?;
-        contents.span = Some(Rc::new(alloc, span)?);
+        let contents = Contents {
+            entries: self.entries.clone()?,
+            baggage: self.baggage.clone()?,
+            span: Some(Rc::new(alloc, span)?),
+            suppressed: self.suppressed,
+        };
         Ok(Rc::new(alloc, contents)?)
     }
 
