@@ -7,9 +7,13 @@ use Rattle.std.specs.List.{IsDistinct}
 use Rattle.std.specs.Option.{option_map_or}
 use Rattle.std.specs.Fmt.{take_chars}
 use Rattle.std.specs.Str.{bytes_eq}
+use Rattle.std.specs.declared.alloc.Global.{Global}
+use Rattle.std.specs.declared.vec.Vec.{Vec}
 use Rattle.otel_base.specs.Array.{ArrayValue, booleans, integers, texts}
 use Rattle.otel_base.specs.Value.{AttributeValue, boolean, integer, text, array}
 use Rattle.otel_base.specs.KeyValue.{Attribute, has_key}
+use Rattle.otel_base.specs.View.{attribute_of}
+use Rattle.otel_base.specs.declared.key_value.KeyValue.{KeyValue}
 
 -- ---- setting
 -- the place of the key, if an attribute has it
@@ -71,6 +75,35 @@ cut_value n (integer z) = integer z
 abbrev pub cut : Option ℕ → Attribute → Attribute
 cut None a = a
 cut (Some n) a = (a.0, cut_value n a.1)
+
+-- the attributes, each cut and then set in turn in an empty list, up to the limit
+abbrev pub limited : ℕ → Option ℕ → List Attribute → List Attribute
+limited limit length given = set_all limit [] (map (cut length) given)
+
+-- how many of the attributes aren't kept then
+abbrev pub left_out : ℕ → Option ℕ → List Attribute → ℕ
+left_out limit length given = dropped limit [] (map (cut length) given)
+
+-- ---- the lists of the program
+abbrev pub attributes_of : Vec KeyValue Global → List Attribute
+attributes_of list = map attribute_of list.items
+
+-- `new` is `old` with the attribute put
+abbrev pub Puts : KeyValue → Vec KeyValue Global → Vec KeyValue Global → Type 0
+Puts attribute old new = attributes_of new ≡ put (attributes_of old) (attribute_of attribute)
+
+-- `new` is `old` with each of the given attributes put in turn
+abbrev pub PutsAll : Vec KeyValue Global → Vec KeyValue Global → Vec KeyValue Global → Type 0
+PutsAll given old new = attributes_of new ≡ put_all (attributes_of old) (attributes_of given)
+
+-- whether the attribute is kept in the list under the limit
+abbrev pub is_kept : ℕ → KeyValue → Vec KeyValue Global → Bool
+is_kept limit attribute list = keeps limit (attributes_of list) (attribute_of attribute)
+
+-- `new` is `old` with the attribute set under the limit
+abbrev pub Sets : ℕ → KeyValue → Vec KeyValue Global → Vec KeyValue Global → Type 0
+Sets limit attribute old new =
+    attributes_of new ≡ set limit (attributes_of old) (attribute_of attribute)
 
 -- ---- worked rows
 abbrev on : List ℕ → Attribute

@@ -2,6 +2,7 @@ pub mod Attributes
 pub mod Clock
 pub mod Export
 pub mod IdGenerator
+pub mod ParentBased
 pub mod Processor
 pub mod Ratio
 pub mod RatioLaws

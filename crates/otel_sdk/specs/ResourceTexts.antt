@@ -2,7 +2,7 @@
 -- information via an environment variable").
 use Rattle.std.specs.Prelude.{◌≡◌, ℕ, Bool, true, false, not, ◌&&◌, ◌==◌, List, [], ◌∷◌, drop}
 use Rattle.std.specs.Prelude.{Option, Some, None, MatchOption, Result, Ok, Err, is_some, position, codes, refl}
-use Rattle.std.specs.Prelude.{if◌then◌else◌, map, length, filter_map}
+use Rattle.std.specs.Prelude.{if◌then◌else◌, map, length, filter_map, option_map}
 use Rattle.std.specs.Char.{is_ascii_hexdigit, encode_utf8}
 use Rattle.std.specs.List.{list_all, list_any, slice_split, before_first, after_first}
 use Rattle.std.specs.Str.{is_utf8, chars}
@@ -14,7 +14,7 @@ use Rattle.otel_ids.specs.Text.{is_comma, is_equals, cut_blanks}
 use Rattle.otel_base.specs.KeyValue.{Attribute}
 use Rattle.otel_base.specs.View.{attribute_of}
 use Rattle.otel_base.specs.declared.key_value.KeyValue.{KeyValue}
-use Rattle.otel_sdk.specs.Attributes.{put, put_all}
+use Rattle.otel_sdk.specs.Attributes.{attributes_of, put, put_all}
 use Rattle.otel_sdk.specs.Resource.{Parts, named}
 use Rattle.otel_sdk.specs.declared.resource.texts.ResourceTextError.{ResourceTextError}
 
@@ -77,6 +77,10 @@ is_fault piece = not (is_some (attribute_in piece)) && not (length (cut_blanks p
 abbrev pub fault : List ℕ → Option ℕ
 fault t = position is_fault (pieces t)
 
+-- the piece that an error names, if there is an error
+abbrev pub reported_piece : Option ResourceTextError → Option ℕ
+reported_piece error = option_map (λ e. e.piece) error
+
 -- the attributes that the pieces stand for, set in turn
 abbrev pub attributes_in : List ℕ → List Attribute
 attributes_in t = put_all [] (filter_map attribute_in (pieces t))
@@ -93,6 +97,10 @@ abbrev pub with_service_name : List ℕ → List Attribute → List Attribute
 with_service_name name xs =
     if length (cut_blanks name) == 0 then xs
     else put xs (named (codes "service.name") (cut_blanks name))
+
+-- `new` is `old` with this name of the service, unless it is blank
+abbrev pub NamesService : List ℕ → Vec KeyValue Global → Vec KeyValue Global → Type 0
+NamesService name old new = attributes_of new ≡ with_service_name name (attributes_of old)
 
 -- The resource of a text of attributes and a name of the service (the variables
 -- `OTEL_RESOURCE_ATTRIBUTES` and `OTEL_SERVICE_NAME`). A text with a fault gives no attributes.

@@ -1,5 +1,5 @@
 //! Lists of attributes with unique keys, under a limit.
-ghost use Rattle.std.specs.Prelude.{◌≡◌, [], map, IfOk, OnOk, OnErr};
+ghost use Rattle.std.specs.Prelude.{◌≡◌, map, IfOk, OnOk, OnErr};
 ghost use Rattle.otel_base.specs.View.{attribute_of};
 ghost use Rattle.otel_sdk.specs.Attributes as spec;
 ghost use Rattle.otel_sdk.specs.SpanLimits.{up_by};
@@ -22,8 +22,7 @@ fn place(attributes: &[KeyValue], key: &Key) -> Option<usize>
 ///
 /// Returns an error if memory runs out. The list is then unchanged, and the attribute is dropped.
 pub fn put(attributes: &mut Vec<KeyValue>, attribute: KeyValue) -> Result<(), AllocError>
-    ensures ok { OnOk result (map attribute_of attributes.new.items
-        ≡ spec.put (map attribute_of attributes.old.items) (attribute_of attribute)) }
+    ensures ok { OnOk result (spec.Puts attribute attributes.old attributes.new) }
     ensures err { OnErr result (attributes.new.items ≡ attributes.old.items) }
 {
     match place(attributes, &attribute.key) {
@@ -44,10 +43,8 @@ pub fn set(
     limit: u32,
     attribute: KeyValue,
 ) -> Result<bool, AllocError>
-    ensures kept { IfOk result (λ kept. kept
-        ≡ spec.keeps limit (map attribute_of attributes.old.items) (attribute_of attribute)) }
-    ensures ok { OnOk result (map attribute_of attributes.new.items
-        ≡ spec.set limit (map attribute_of attributes.old.items) (attribute_of attribute)) }
+    ensures kept { IfOk result (λ kept. kept ≡ spec.is_kept limit attribute attributes.old) }
+    ensures ok { OnOk result (spec.Sets limit attribute attributes.old attributes.new) }
     ensures err { OnErr result (attributes.new.items ≡ attributes.old.items) }
 {
     let is_held = place(attributes, &attribute.key).is_some();
@@ -64,8 +61,7 @@ pub fn set(
 ///
 /// Returns an error if memory runs out. Those before are then put, and the others are dropped.
 pub fn put_all(attributes: &mut Vec<KeyValue>, given: Vec<KeyValue>) -> Result<(), AllocError>
-    ensures { OnOk result (map attribute_of attributes.new.items
-        ≡ spec.put_all (map attribute_of attributes.old.items) (map attribute_of given.items)) }
+    ensures { OnOk result (spec.PutsAll given attributes.old attributes.new) }
 {
     for attribute in given {
         put(attributes, attribute)?;
@@ -86,10 +82,10 @@ pub fn limited(
     given: Vec<KeyValue>,
     mut count: u32,
 ) -> Result<(Vec<KeyValue>, u32), AllocError>
-    ensures kept { IfOk result (λ r. map attribute_of r.0.items
-        ≡ spec.set_all limit [] (map (spec.cut length) (map attribute_of given.items))) }
-    ensures count { IfOk result (λ r. r.1 ≡ up_by count
-        (spec.dropped limit [] (map (spec.cut length) (map attribute_of given.items)))) }
+    ensures kept { IfOk result (λ r.
+        spec.attributes_of r.0 ≡ spec.limited limit length (spec.attributes_of given)) }
+    ensures count { IfOk result (λ r.
+        r.1 ≡ up_by count (spec.left_out limit length (spec.attributes_of given))) }
 {
     let mut kept = Vec::new(alloc);
     for attribute in given {

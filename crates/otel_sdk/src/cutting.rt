@@ -83,7 +83,7 @@ fn cut_value(alloc: Global, length: u32, value: Value) -> Result<Value, AllocErr
 ///
 /// Returns an error if memory runs out. The attribute is dropped.
 pub fn cut(alloc: Global, length: Option<u32>, attribute: KeyValue) -> Result<KeyValue, AllocError>
-    ensures { IfOk result (λ kept. attribute_of kept ≡ spec.cut length (attribute_of attribute)) }
+    ensures { IfOk result (λ cut. attribute_of cut ≡ spec.cut length (attribute_of attribute)) }
 {
     match length {
         Some(length) => {

@@ -3,7 +3,7 @@ ghost use Rattle.std.specs.Prelude.{◌≡◌, ◌↔◌, [], IfOk, IsTrue, leng
 ghost use Rattle.std.specs.Slice.Iter.{iter_rest};
 ghost use Rattle.otel_base.specs.View.{attribute_of, value_of};
 ghost use Rattle.otel_sdk.specs.Resource as spec;
-ghost use Rattle.otel_sdk.specs.ResourceTexts.{fault, from_texts};
+ghost use Rattle.otel_sdk.specs.ResourceTexts.{fault, from_texts, reported_piece};
 
 mod texts;
 
@@ -118,7 +118,7 @@ impl Resource {
         service_name: &str,
     ) -> Result<(Resource, Option<ResourceTextError>), AllocError>
         ensures resource { IfOk result (λ r. r.0 ≡ from_texts attributes.now service_name.now) }
-        ensures fault { IfOk result (λ r. option_map (λ e. e.piece) r.1 ≡ fault attributes.now) }
+        ensures error { IfOk result (λ r. reported_piece r.1 ≡ fault attributes.now) }
     {
         let (mut attributes, error) = match read_attributes(alloc, attributes)? {
             Ok(attributes) => (attributes, None),

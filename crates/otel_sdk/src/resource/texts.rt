@@ -1,5 +1,5 @@
 //! Reads a resource from the texts of two environment variables.
-ghost use Rattle.std.specs.Prelude.{◌≡◌, IfOk, OnOk, map, option_map, string_bytes};
+ghost use Rattle.std.specs.Prelude.{◌≡◌, IfOk, OnOk, option_map, string_bytes};
 ghost use Rattle.otel_base.specs.View.{attribute_of};
 ghost use Rattle.otel_sdk.specs.ResourceTexts as spec;
 
@@ -111,8 +111,7 @@ pub fn set_service_name(
     attributes: &mut Vec<KeyValue>,
     name: &str,
 ) -> Result<(), AllocError>
-    ensures { OnOk result (map attribute_of attributes.new.items
-        ≡ spec.with_service_name name.now (map attribute_of attributes.old.items)) }
+    ensures { OnOk result (spec.NamesService name.now attributes.old attributes.new) }
 {
     let name = cut_blanks(name);
     if name.is_empty() {

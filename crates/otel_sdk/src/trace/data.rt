@@ -2,6 +2,7 @@
 ghost use Rattle.std.specs.Prelude.{◌≡◌, IfOk, OnOk, OnErr, fold, map};
 ghost use Rattle.otel_base.specs.View.{attribute_of};
 ghost use Rattle.opentelemetry.specs.View.{event_of, link_of};
+ghost use Rattle.otel_sdk.specs.Attributes.{attributes_of};
 ghost use Rattle.otel_sdk.specs.Span as spec;
 
 use crate::attributes::set;
@@ -198,8 +199,8 @@ impl SpanData {
         limits: SpanLimits,
         attributes: Vec<KeyValue>,
     ) -> Result<(), AllocError>
-        ensures { OnOk result (self.new
-            ≡ fold (spec.with_attribute limits) self.old (map attribute_of attributes.items)) }
+        ensures { OnOk result
+            (self.new ≡ fold (spec.with_attribute limits) self.old (attributes_of attributes)) }
     {
         for attribute in attributes {
             self.set_attribute(alloc, limits, attribute)?;

@@ -1,6 +1,6 @@
 //! The sampler that follows the parent.
 ghost use Rattle.std.specs.Prelude.{◌≡◌, ◌++◌, IfOk, OnOk, codes, string_bytes};
-ghost use Rattle.otel_sdk.specs.Sampler.{parent_based, parent_based_text};
+ghost use Rattle.otel_sdk.specs.ParentBased.{IsParentBasedText, after_parent};
 
 use crate::trace::sampler::{Sampler, SamplingResult, ShouldSample};
 use opentelemetry::trace::{Link, SpanKind, TraceId};
@@ -40,13 +40,7 @@ pub struct ParentBased<
 impl<Root> ParentBased<Root> {
     /// Returns a sampler that samples what has a sampled parent, and asks `root` for a root.
     pub fn new(root: Root) -> ParentBased<Root>
-        ensures { result ≡ record {
-          root = root;
-          remote_parent_sampled = Sampler.AlwaysOn;
-          remote_parent_not_sampled = Sampler.AlwaysOff;
-          local_parent_sampled = Sampler.AlwaysOn;
-          local_parent_not_sampled = Sampler.AlwaysOff;
-        } }
+        ensures { result ≡ after_parent root }
     {
         ParentBased {
             root,
@@ -71,7 +65,7 @@ fn joined(
     local_on: &str,
     local_off: &str,
 ) -> Result<String, AllocError>
-    ensures { IfOk result (λ text. string_bytes text ≡ parent_based_text
+    ensures { IfOk result (IsParentBasedText
         root.now remote_on.now remote_off.now local_on.now local_off.now) }
 {
     let mut text = String::from_str(alloc, "ParentBased{root:")?;
@@ -97,7 +91,7 @@ where
     E: ShouldSample,
 {
     ghost use Rattle.std.specs.Prelude.{◌≡◌, List, ℕ};
-    ghost use Rattle.otel_sdk.specs.Sampler.{parent_based, parent_based_text, DescribesParentBased};
+    ghost use Rattle.otel_sdk.specs.Sampler.{parent_based, DescribesParentBased};
 
     ghost answer = { λ s. parent_based (A.answer s.root) (B.answer s.remote_parent_sampled)
         (C.answer s.remote_parent_not_sampled) (D.answer s.local_parent_sampled)
