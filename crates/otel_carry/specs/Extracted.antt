@@ -1,4 +1,4 @@
--- What the program shows of an extraction. Not in the Rust crate.
+-- What the program prints of an extraction. Not in the Rust crate.
 use Rattle.std.specs.Prelude.{ℕ, List, ◌++◌, Result, Ok, Err, codes}
 use Rattle.std.specs.Option.{option_map_or}
 use Rattle.otel_ids.specs.Ids.{id_text}
@@ -14,7 +14,7 @@ abbrev pub shown_of_context : ContextRecord → Extracted
 shown_of_context context =
     option_map_or (λ span. Span span.context.trace_id span.context.span_id) context.span NoSpan
 
--- of the result of an extraction: what is shown of the context, or why there is none
+-- of the result of an extraction: what is printed of the context, or why there is none
 abbrev pub shown : Result ContextRecord PropagationError → Extracted
 shown (Ok context) = shown_of_context context
 shown (Err errors.Refused) = Refused

@@ -1,4 +1,4 @@
--- What the program returns and writes if it has nothing to report. Not in the Rust crate.
+-- What the program returns and writes if there is no report. Not in the Rust crate.
 use Rattle.std.specs.Prelude.{ℕ, List, ◌++◌, codes}
 use Rattle.std.specs.Fmt.{decimal}
 use Rattle.otel_carry.specs.Lines.{fault_text}

@@ -1,11 +1,14 @@
 -- What the program writes, line by line. Not in the Rust crate.
 use Rattle.std.specs.Prelude.{◌≡◌, ℕ, List, [], ◌++◌, codes, Option, unwrap_or}
 use Rattle.std.specs.Fmt.{decimal}
+use Rattle.std.specs.HashMap.{HashMap}
 use Rattle.std.specs.Io.KnownBytes.{Appends}
 use Rattle.std.specs.List.{enumerate_from, flat_map}
 use Rattle.std.specs.Option.{option_map_or}
+use Rattle.std.specs.declared.string.String.{String}
+use denote.Ref.{Bor}
 use Rattle.otel_context.specs.Context.{ContextRecord}
-use Rattle.opentelemetry.specs.Carrier.{TextMap, AreKeys, at}
+use Rattle.opentelemetry.specs.Carrier.{TextMap, AreKeys, at, text_map}
 use Rattle.opentelemetry.specs.declared.carry.event.AttachOutcome.{AttachOutcome}
 use Rattle.opentelemetry.specs.declared.carry.event.AttachOutcome.TheVariants.{Attached, Full}
 use Rattle.opentelemetry.specs.declared.carry.event.AttachOutcome.TheVariants.{NoMemory}
@@ -34,11 +37,24 @@ abbrev pub text_line : TextMap → List ℕ → List ℕ
 text_line texts key =
     option_map_or (λ value. key ++ codes "=" ++ value ++ codes "\n") (at texts key) []
 
+-- the line of a key in a map of texts
+abbrev pub line_at : {A S : Type 0} → HashMap (String A) (String A) S → List ℕ → List ℕ
+line_at texts key = text_line (text_map texts.entries) key
+
+-- the lines of these keys, in order
+abbrev pub lines_at : {A S : Type 0} → HashMap (String A) (String A) S → List (Bor (List ℕ))
+    → List ℕ
+lines_at texts keys = flat_map (λ key. line_at texts key.now) keys
+
 -- the lines of a carrier's texts: one for each key, in ascending order of the keys' bytes
 pub record AreTextLines (texts : TextMap) (lines : List ℕ) : Type 0 where
   pub keys : List (List ℕ)
   pub are_keys : AreKeys texts keys
   pub lines_are : lines ≡ flat_map (text_line texts) keys
+
+-- the lines of a map of texts
+abbrev pub AreLinesOf : {A S : Type 0} → HashMap (String A) (String A) S → List ℕ → Type 0
+AreLinesOf texts lines = AreTextLines (text_map texts.entries) lines
 
 -- the line of what is extracted from a carrier: this context
 abbrev pub extracted_line : ContextRecord → List ℕ

@@ -1,8 +1,16 @@
 -- What the program writes of a whole run. Not in the Rust crate.
-use Rattle.std.specs.Prelude.{◌≡◌, ◌≢◌, ◌↔◌, ℕ, List, ◌++◌, Option}
+use Rattle.std.specs.Prelude.{◌≡◌, ◌≢◌, ◌↔◌, ℕ, Bool, List, ◌++◌, Option, IfSome, Result, OnOk}
 use Rattle.std.specs.FinMap as fin
+use Rattle.std.specs.HashMap.{HashMap}
+use Rattle.std.specs.declared.string.String.{String}
 use Rattle.otel_context.specs.Context.{ContextRecord, empty_context}
-use Rattle.opentelemetry.specs.Carrier.{Pairs, TextMap, Sets}
+use Rattle.otel_context.specs.Stack.{current}
+use Rattle.opentelemetry.specs.Carrier.{Pairs, TextMap, Sets, text_map}
+use Rattle.opentelemetry.specs.Composite.{extracted_of, may_refuse_of, pairs_of}
+use Rattle.opentelemetry.specs.Extraction.{Extracts}
+use Rattle.opentelemetry.specs.declared.carry.RunReport.{RunReport}
+use Rattle.opentelemetry.specs.declared.propagation.composite.TextMapCompositePropagator.{TextMapCompositePropagator}
+use Rattle.opentelemetry.specs.declared.propagation.error.PropagationError.{PropagationError}
 use Rattle.opentelemetry.specs.declared.carry.event.StackEvent.{StackEvent}
 use Rattle.opentelemetry.specs.declared.carry.event.AttachOutcome.{AttachOutcome}
 use Rattle.opentelemetry.specs.Run.{IsCurrent, Legal}
@@ -22,6 +30,16 @@ pub record IsRunOf (pairs : ContextRecord → Pairs) (input : List ℕ) (old new
   pub current : IsCurrent events outcomes context
   pub sets : Sets old (pairs context) new
 
+-- if the report of a run says that its injection succeeded, it is a run of the input, if that is
+-- known, which filled the map
+abbrev pub IsRunReport : {A S I : Type 0} {D : I → Type 0} → TextMapCompositePropagator I D
+    → ((x : I) × D x → ContextRecord → Pairs) → Option (List ℕ)
+    → HashMap (String A) (String A) S → HashMap (String A) (String A) S → RunReport → Type 0
+IsRunReport composite pairs input old new report =
+    OnOk report.injected (IfSome input (λ bytes.
+    IsRunOf (pairs_of (λ m. pairs (m.vtable, m.value)) composite) bytes (text_map old.entries) (text_map new.entries)
+    report.outcomes.items (current report.stack.live)))
+
 -- The text has the lines of the outcomes, of the current context, of the carrier's texts, and of
 -- what is extracted from these.
 pub record IsRunText (extracted : ContextRecord → TextMap → ContextRecord)
@@ -31,6 +49,24 @@ pub record IsRunText (extracted : ContextRecord → TextMap → ContextRecord)
   pub of_texts : AreTextLines texts lines
   pub text_is : text ≡ outcome_lines outcomes ++ current_line context ++ lines
       ++ extracted_line (extracted empty_context texts)
+
+-- after the status 0 the text of the report and of the map is written, and nothing else
+abbrev pub WritesRun : {A S I : Type 0} {D : I → Type 0} → TextMapCompositePropagator I D
+    → ((x : I) × D x → ContextRecord → TextMap → ContextRecord) → RunReport
+    → HashMap (String A) (String A) S → Option (List ℕ) → Option (List ℕ) → ℕ → Type 0
+WritesRun composite extracted report texts old new status =
+    status ≡ 0 → Writes (IsRunText (extracted_of (λ m. extracted (m.vtable, m.value)) composite)
+    report.outcomes.items (current report.stack.live) (text_map texts.entries)) old new
+
+-- the composite extracted from the map onto the context with this result
+abbrev pub ExtractsFromMap : {A S I : Type 0} {D : I → Type 0} → TextMapCompositePropagator I D
+    → ((x : I) × D x → ContextRecord → TextMap → ContextRecord) → ((x : I) × D x → Bool)
+    → ContextRecord → HashMap (String A) (String A) S
+    → Result ContextRecord PropagationError → Type 0
+ExtractsFromMap composite extracted may_refuse context texts result =
+    Extracts (extracted_of (λ m. extracted (m.vtable, m.value)) composite context
+    (text_map texts.entries))
+    (may_refuse_of (λ m. may_refuse (m.vtable, m.value)) composite) result
 
 -- the text is what the program writes of a run of the input, which fills an empty carrier
 pub record IsReport (pairs : ContextRecord → Pairs)
@@ -61,3 +97,13 @@ pub record Ends (pairs : ContextRecord → Pairs)
   pub unread : status ≡ 1 → IsFaultyInput input → Writes (IsFailureReport 1 input) old new
   -- after 0 the whole report of the run is written, and nothing else
   pub report : status ≡ 0 → Writes (IsReport pairs extracted input) old new
+
+-- the exit status and what was written are those of an end of the program, if the input is known
+abbrev pub EndsBy : {I : Type 0} {D : I → Type 0} → TextMapCompositePropagator I D
+    → ((x : I) × D x → ContextRecord → Pairs)
+    → ((x : I) × D x → ContextRecord → TextMap → ContextRecord)
+    → Option (List ℕ) → Option (List ℕ) → Option (List ℕ) → ℕ → Type 0
+EndsBy composite pairs extracted input old new status =
+    IfSome input (λ bytes.
+    Ends (pairs_of (λ m. pairs (m.vtable, m.value)) composite)
+    (extracted_of (λ m. extracted (m.vtable, m.value)) composite) bytes status old new)

@@ -1,14 +1,10 @@
 //! A whole run: from the bytes of the input to the lines of the output.
 ghost use Rattle.std.specs.Prelude.{◌≡◌, ◌≤◌, IsOk, IfOk, IfErr, IfSome, OnOk};
 ghost use Rattle.std.specs.Io.KnownBytes.{Appends};
-ghost use Rattle.otel_context.specs.Stack.{current};
-ghost use Rattle.opentelemetry.specs.Carrier.{text_map};
-ghost use Rattle.opentelemetry.specs.Composite.{extracted_of, may_refuse_of, pairs_of};
-ghost use Rattle.opentelemetry.specs.Extraction.{Extracts};
 ghost use Rattle.otel_carry.specs.Failures.{status_of};
 ghost use Rattle.otel_carry.specs.Outcome.{IsFailureOf, IsGood, IsGoodInput};
-ghost use Rattle.otel_carry.specs.Report.{Writes, failure_line};
-ghost use Rattle.otel_carry.specs.Run.{Ends, IsRunOf, IsRunText};
+ghost use Rattle.otel_carry.specs.Report.{failure_line};
+ghost use Rattle.otel_carry.specs.Run.{EndsBy, ExtractsFromMap, IsRunReport, WritesRun};
 
 use crate::events::events_of;
 use crate::extraction::Extracted;
@@ -28,7 +24,7 @@ use std::io::{self, Read, Write};
 /// # Errors
 ///
 /// The error of a write or a flush that fails, and `OutOfMemory` if out of memory while the report
-/// is written. A beginning of the report may have been written.
+/// is written. A prefix of the report may have been written.
 pub fn carry<R: Read + Drop, W: Write>(
     alloc: Global,
     input: R,
@@ -36,10 +32,8 @@ pub fn carry<R: Read + Drop, W: Write>(
     composite: &TextMapCompositePropagator,
 ) -> io::Result<u8>
     ensures status { IfOk result (λ status. status ≤ 2) }
-    ensures ends { IfOk result (λ status. IfSome (R.remaining input) (λ bytes.
-        Ends (pairs_of (λ m. pairs (m.vtable, m.value)) composite.now)
-        (extracted_of (λ m. extracted (m.vtable, m.value)) composite.now)
-        bytes status (W.contents output.old) (W.contents output.new))) }
+    ensures ends { IfOk result (EndsBy composite.now (λ m. pairs m) (λ m. extracted m)
+        (R.remaining input) (W.contents output.old) (W.contents output.new)) }
 {
     let status = write_result(alloc, input, output, composite)?;
     output.flush()?;
@@ -55,10 +49,8 @@ fn write_result<R: Read + Drop, W: Write>(
     composite: &TextMapCompositePropagator,
 ) -> io::Result<u8>
     ensures status { IfOk result (λ status. status ≤ 2) }
-    ensures ends { IfOk result (λ status. IfSome (R.remaining input) (λ bytes.
-        Ends (pairs_of (λ m. pairs (m.vtable, m.value)) composite.now)
-        (extracted_of (λ m. extracted (m.vtable, m.value)) composite.now)
-        bytes status (W.contents output.old) (W.contents output.new))) }
+    ensures ends { IfOk result (EndsBy composite.now (λ m. pairs m) (λ m. extracted m)
+        (R.remaining input) (W.contents output.old) (W.contents output.new)) }
 {
     let mut carrier = HashMap::new(alloc);
     match run_input(alloc, input, composite, &mut carrier) {
@@ -76,10 +68,8 @@ fn run_input<R: Read + Drop>(
     carrier: &mut HashMap<String, String>,
 ) -> Result<RunReport, Failure>
     ensures good { IfOk result (λ _. IfSome (R.remaining input) IsGood) }
-    ensures run { IfOk result (λ report. OnOk report.injected (IfSome (R.remaining input) (λ bytes.
-        IsRunOf (pairs_of (λ m. pairs (m.vtable, m.value)) composite.now) bytes
-        (text_map carrier.old.entries) (text_map carrier.new.entries)
-        report.outcomes.items (current report.stack.live)))) }
+    ensures run { IfOk result (IsRunReport composite.now (λ m. pairs m)
+        (R.remaining input) carrier.old carrier.new) }
     ensures failure { IfErr result (λ failure. IfSome (R.remaining input) (λ bytes.
         IsFailureOf bytes failure)) }
 {
@@ -120,10 +110,8 @@ fn write_run<W: Write>(
 ) -> io::Result<u8>
     ensures status { IfOk result (λ status. status ≤ 1) }
     ensures injected { IfOk result (λ status. status ≡ 0 → IsOk report.now.injected) }
-    ensures written { IfOk result (λ status. status ≡ 0 → Writes (IsRunText
-        (extracted_of (λ m. extracted (m.vtable, m.value)) composite.now)
-        report.now.outcomes.items (current report.now.stack.live) (text_map carrier.now.entries))
-        (W.contents output.old) (W.contents output.new)) }
+    ensures written { IfOk result (WritesRun composite.now (λ m. extracted m) report.now
+        carrier.now (W.contents output.old) (W.contents output.new)) }
 {
     write_outcomes(output, &report.outcomes)?;
     write_current(output, report.stack.current())?;
@@ -145,9 +133,8 @@ fn extract(
     context: &Context,
     carrier: &HashMap<String, String>,
 ) -> Result<Context, PropagationError>
-    ensures { Extracts (extracted_of (λ m. extracted (m.vtable, m.value)) composite.now
-        context.now (text_map carrier.now.entries))
-        (may_refuse_of (λ m. may_refuse (m.vtable, m.value)) composite.now) result }
+    ensures { ExtractsFromMap composite.now (λ m. extracted m) (λ m. may_refuse m)
+        context.now carrier.now result }
 {
     composite.extract_with_context(alloc, context, carrier)
 }

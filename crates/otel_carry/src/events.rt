@@ -17,7 +17,7 @@ use std::alloc::{AllocError, Global};
 ///
 /// # Errors
 ///
-/// `Failure::Line` for the first line that can't be carried out, with its number, 1 for the first;
+/// `Failure::Line` for the first line that can't be carried out, with its number, from 1;
 /// `Failure::NoMemory` if out of memory. The events so far are dropped.
 pub fn events_of(alloc: Global, text: &str) -> Result<Vec<StackEvent>, Failure>
     ensures events { IfOk result (λ events. AskFor (lines_of text.now) events.items) }

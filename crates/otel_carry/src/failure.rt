@@ -1,4 +1,4 @@
-//! Why there is nothing to report.
+//! Why there is no report.
 ghost use Rattle.std.specs.Prelude.{◌≡◌, Some};
 ghost use Rattle.otel_carry.specs.Failures.{status_of, text_of};
 ghost use Rattle.otel_carry.specs.declared.failure.Failure.TheVariants.{NoMemory};
@@ -7,7 +7,7 @@ use crate::lines::Fault;
 use std::alloc::{AllocError, AllocFailed};
 use std::fmt;
 
-/// Why there is nothing to report. Its `Display` prints the one line that the program then writes.
+/// The reason why there is no report. Its `Display` prints the line that the program then writes.
 #[derive(Clone, Copy, Debug, PartialEq, Eq)]
 pub enum Failure {
     /// A read failed, or no read reported the end of the input.

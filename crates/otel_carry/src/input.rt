@@ -5,19 +5,19 @@ use crate::failure::Failure;
 use std::alloc::Global;
 use std::io::Read;
 
-/// The limit on the reads of the input, for a reader that never ends.
+/// The limit on the number of reads, for a reader that never ends.
 const READS: u32 = 1_048_576;
 
-/// The number of bytes that each read has room for.
+/// The most bytes that one read returns.
 const ROOM: usize = 4096;
 
-/// Returns all bytes that are left of the input.
+/// Returns all bytes that are left in the input.
 ///
-/// It is read at most 1,048,576 times, each time with room for 4,096 bytes.
+/// Reads at most 1,048,576 times, each time up to 4,096 bytes.
 ///
 /// # Errors
 ///
-/// `Unreadable` if a read fails, or if none of these reports the end; `NoMemory` if out of memory.
+/// `Unreadable` if a read fails, or if none of them reports the end; `NoMemory` if out of memory.
 /// What was read is dropped.
 pub fn read_whole<R: Read + Drop>(alloc: Global, mut input: R) -> Result<Vec<u8>, Failure>
     ensures whole { IfOk result (λ bytes. IfSome (R.remaining input) (λ left.

@@ -20,7 +20,7 @@ pub enum Line<'a> {
     Detach(usize),
 }
 
-/// Why a line can't be carried out. Its `Display` prints what the program says about the line.
+/// The reason why a line can't be carried out. Its `Display` prints what the program says of it.
 #[derive(Clone, Copy, Debug, PartialEq, Eq)]
 pub enum Fault {
     /// The line begins neither with `attach ` nor with `detach `.

@@ -1,10 +1,8 @@
 //! What the program writes of a run, line by line.
 ghost use Rattle.std.specs.Prelude.{OnOk};
 ghost use Rattle.std.specs.Io.KnownBytes.{Appends};
-ghost use Rattle.std.specs.List.{flat_map};
-ghost use Rattle.opentelemetry.specs.Carrier.{text_map};
-ghost use Rattle.otel_carry.specs.Report.{AreTextLines, Writes, current_line, outcome_line};
-ghost use Rattle.otel_carry.specs.Report.{outcome_lines, text_line};
+ghost use Rattle.otel_carry.specs.Report.{AreLinesOf, Writes, current_line, line_at, lines_at};
+ghost use Rattle.otel_carry.specs.Report.{outcome_line, outcome_lines};
 
 use crate::name_member::name_of;
 use opentelemetry::Context;
@@ -49,30 +47,30 @@ pub fn write_current<W: Write>(output: &mut W, context: &Context) -> io::Result<
     writeln!(output, "current: {name}")
 }
 
-/// Writes a line `key=value` for each text of the carrier, in ascending order of the keys.
+/// Writes a line `key=value` for each of the texts, in ascending order of the keys.
 pub fn write_texts<W: Write>(
     alloc: Global,
     output: &mut W,
-    carrier: &HashMap<String, String>,
+    texts: &HashMap<String, String>,
 ) -> io::Result<()>
-    ensures { OnOk result (Writes (AreTextLines (text_map carrier.now.entries))
+    ensures { OnOk result (Writes (AreLinesOf texts.now)
         (W.contents output.old) (W.contents output.new)) }
 {
-    let keys = Extractor::keys(carrier, alloc)?;
-    write_texts_at(output, carrier, &keys)
+    let keys = Extractor::keys(texts, alloc)?;
+    write_texts_at(output, texts, &keys)
 }
 
 /// Writes the lines of the texts at these keys, in order.
 fn write_texts_at<W: Write>(
     output: &mut W,
-    carrier: &HashMap<String, String>,
+    texts: &HashMap<String, String>,
     keys: &[&str],
 ) -> io::Result<()>
     ensures { OnOk result (Appends (W.contents output.old) (W.contents output.new)
-        (flat_map (λ key. text_line (text_map carrier.now.entries) key.now) keys.now)) }
+        (lines_at texts.now keys.now)) }
 {
     for key in keys {
-        write_text_at(output, carrier, key)?;
+        write_text_at(output, texts, key)?;
     }
     Ok(())
 }
@@ -80,13 +78,13 @@ fn write_texts_at<W: Write>(
 /// Writes the line of the text at this key, if there is one.
 fn write_text_at<W: Write>(
     output: &mut W,
-    carrier: &HashMap<String, String>,
+    texts: &HashMap<String, String>,
     key: &str,
 ) -> io::Result<()>
     ensures { OnOk result (Appends (W.contents output.old) (W.contents output.new)
-        (text_line (text_map carrier.now.entries) key.now)) }
+        (line_at texts.now key.now)) }
 {
-    match carrier.get(key) {
+    match texts.get(key) {
         Some(value) => writeln!(output, "{key}={value}"),
         None => Ok(()),
     }

@@ -9,4 +9,4 @@ use Rattle.otel_carry.proofs.report.write_texts_at.Given as goal
 abbrev pub invariant-loop-key : goal.invariant-loop-key
 invariant-loop-key g l =
     Appends (g.W.Write.contents l.fn.output) (g.W.Write.contents l.output)
-    (flat_map (λ key. text_line (text_map l.carrier.entries) key.now) (take l.key-index l.keys))
+    (flat_map (λ key. text_line (text_map l.texts.entries) key.now) (take l.key-index l.keys))
