@@ -5,9 +5,9 @@ use Rattle.otel_base.specs.AnyValue.{Tree}
 use Rattle.otel_base.specs.View.{tree_code}
 use Rattle.otel_recording.specs.declared.recording_log_record.TraceContext.{TraceContext}
 
--- A log record: the event's name, the target, the moments of the event and of its being seen, the
--- severity as a text and as its number, what it says, its attributes in order, and the span that was
--- active (OpenTelemetry logs data model).
+-- A log record: the event's name, the target, the times at which the event happened and was
+-- observed, the severity as a text and as a number, the body, the attributes in order, and the span
+-- that was active (OpenTelemetry logs data model).
 pub record RecordedLog : Type 0 where
   pub event_name : Option (List ℕ)
   pub target : Option (List ℕ)
@@ -19,7 +19,7 @@ pub record RecordedLog : Type 0 where
   pub attributes : List (List ℕ × Tree)
   pub trace_context : Option TraceContext
 
--- a record on which nothing is set
+-- a record with nothing set
 abbrev pub empty : RecordedLog
 empty = record {
   event_name = None;
@@ -33,7 +33,7 @@ empty = record {
   trace_context = None;
 }
 
--- the same record with one attribute more, the last
+-- the same record with one more attribute, the last
 abbrev pub with_attribute : RecordedLog → List ℕ → Tree → RecordedLog
 with_attribute log key value = record log { attributes = log.attributes ++ (key, value) ∷ [] }
 
@@ -47,7 +47,7 @@ with_trace_context log trace_id span_id trace_flags = record log {
   });
 }
 
--- ---- a code of records, by which a proof tells them apart
+-- ---- an encoding of records, by which proofs tell them apart
 abbrev texts_code : Coded (Option (List ℕ))
 texts_code = coded_option (coded_list coded_ℕ)
 

@@ -22,8 +22,8 @@ kept (E.Event name timestamp attributes) = event name timestamp (attributes_of a
 kept (E.Attribute set) = attribute (attribute_of set)
 kept (E.Link context attributes) = link context (attributes_of attributes)
 
--- a recording span: its span context, its name, what it keeps in order, its status, the time of its
--- end, whether it records, and whether its next attribute stops it
+-- a recording span: its span context, its name, its effects in order, its status, the time at which
+-- it ended, whether it records, and whether its next attribute stops the recording
 pub record Recorded : Type 0 where
   pub context : SpanContextRecord
   pub name : List ℕ
@@ -45,7 +45,7 @@ new context name = record {
   stops_at_attribute = false;
 }
 
--- the same span, which keeps one more thing
+-- the same span with one more effect
 abbrev pub with_effect : Recorded → Kept → Recorded
 with_effect span effect = record span { effects = span.effects ++ effect ∷ [] }
 
@@ -53,7 +53,7 @@ with_effect span effect = record span { effects = span.effects ++ effect ∷ [] 
 abbrev pub with_event : Recorded → List ℕ → ℕ → List Attribute → Recorded
 with_event span name timestamp attributes = with_effect span (event name timestamp attributes)
 
--- the same span with an attribute, which may stop it
+-- the same span with an attribute, which may stop the recording
 abbrev pub with_attribute : Recorded → Attribute → Recorded
 with_attribute span set = record (with_effect span (attribute set)) {
   recording = span.recording && not span.stops_at_attribute;

@@ -1,4 +1,4 @@
--- Which spans a recording tracer starts.
+-- The spans that a recording tracer starts.
 use Rattle.std.specs.Prelude.{ℕ, ◌+◌, ◌%◌, ◌^◌, ◌==◌, if◌then◌else◌, false, []}
 use Rattle.otel_ids.specs.SpanContext.{SpanContextRecord}
 use Rattle.otel_context.specs.Context.{ContextRecord, span_context}

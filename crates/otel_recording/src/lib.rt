@@ -1,5 +1,5 @@
-//! Spans and log records that keep what the calls give them, and what makes them, for tests and
-//! examples of what is built on spans and logs.
+//! Spans and log records that keep what they are given, with their tracers, loggers and providers,
+//! for tests and examples.
 #![tactic(auto)]
 
 mod recording_log_record;

@@ -1,4 +1,4 @@
-//! A log record that keeps what the calls set on it.
+//! A log record that keeps what is set on it.
 ghost use Rattle.std.specs.Prelude.{◌≡◌, OnOk, OnErr, map, option_copied};
 ghost use Rattle.std.specs.Option.{option_map};
 
@@ -8,7 +8,7 @@ use otel_ids::{SpanId, TraceFlags, TraceId};
 use std::alloc::{AllocError, Global};
 use std::marker::Model;
 
-/// The span that was active when the event of a log record happened.
+/// The span that was active when a log record's event happened.
 ///
 /// See [`RecordingLogRecord::trace_context`].
 #[derive(Clone, Copy, Debug)]
@@ -21,9 +21,9 @@ pub struct TraceContext {
     pub trace_flags: Option<TraceFlags>,
 }
 
-/// A log record that keeps what the calls set on it.
+/// A log record that keeps what is set on it.
 ///
-/// It can be set to let a call fail as if out of memory.
+/// It can be made to fail as if out of memory: see [`RecordingLogRecord::fail_after`].
 ///
 /// ```
 /// let mut record = RecordingLogRecord::new(alloc);
@@ -40,7 +40,7 @@ pub struct RecordingLogRecord {
     body: Option<AnyValue>,
     attributes: Vec<(Key, AnyValue)>,
     trace_context: Option<TraceContext>,
-    // How many more calls add attributes; no contract sees it.
+    // How many more calls may add attributes. No contract sees it.
     room: u64,
 }
 
@@ -72,7 +72,7 @@ impl RecordingLogRecord {
     ghost use Rattle.otel_base.specs.View.{tree, pairs_view};
     ghost use Rattle.otel_recording.specs.LogRecord.{empty};
 
-    /// Makes a record on which nothing is set. It takes no memory.
+    /// Returns a record with nothing set. Takes no memory.
     pub fn new(alloc: Global) -> RecordingLogRecord
         ensures { result ≡ empty }
     {
@@ -90,7 +90,7 @@ impl RecordingLogRecord {
         }
     }
 
-    /// Lets each call that adds attributes after the next `taken` fail as if out of memory.
+    /// Makes each call that adds attributes, after the next `taken`, fail as if out of memory.
     pub fn fail_after(&mut self, taken: u64)
         ensures { self.new ≡ self.old }
     {
@@ -111,21 +111,21 @@ impl RecordingLogRecord {
         text_of(&self.target)
     }
 
-    /// Returns the moment of the event in nanoseconds since 1970, if it was set.
+    /// Returns the timestamp of the event, in nanoseconds since 1970, if it was set.
     pub fn timestamp(&self) -> Option<u64>
         ensures { result ≡ self.now.timestamp }
     {
         self.timestamp
     }
 
-    /// Returns the moment at which the event was seen in nanoseconds since 1970, if it was set.
+    /// Returns the time at which the event was observed, in nanoseconds since 1970, if it was set.
     pub fn observed_timestamp(&self) -> Option<u64>
         ensures { result ≡ self.now.observed_timestamp }
     {
         self.observed_timestamp
     }
 
-    /// Returns the severity as the source of the record writes it, if it was set.
+    /// Returns the severity text, as the source of the record writes it, if it was set.
     pub fn severity_text(&self) -> Option<&str>
         ensures { option_copied result ≡ self.now.severity_text }
     {
@@ -139,7 +139,7 @@ impl RecordingLogRecord {
         self.severity_number
     }
 
-    /// Returns what the record says, if that was set.
+    /// Returns the body, if one was set.
     pub fn body(&self) -> Option<&AnyValue>
         ensures { option_map tree (option_copied result) ≡ self.now.body }
     {
@@ -160,7 +160,7 @@ impl RecordingLogRecord {
         self.trace_context
     }
 
-    // Takes one of the calls that are left.
+    // Takes one of the calls that are left, if any is.
     fn take_room(&mut self) -> Result<(), AllocError>
         ensures { self.new ≡ self.old }
     {
@@ -259,7 +259,7 @@ impl LogRecord for RecordingLogRecord {
         Ok(())
     }
 
-    /// Keeps the span, in place of the one before.
+    /// Sets the span, in place of the one before.
     fn set_trace_context(
         &mut self,
         trace_id: TraceId,

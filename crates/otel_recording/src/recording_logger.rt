@@ -1,4 +1,4 @@
-//! A logger that keeps the records that it takes, and what makes such loggers.
+//! A logger that keeps the records it is given, and its provider.
 ghost use Rattle.std.specs.Prelude.{◌≡◌, IsOkAnd};
 
 use crate::recording_log_record::RecordingLogRecord;
@@ -7,9 +7,9 @@ use otel_base::InstrumentationScope;
 use std::alloc::{AllocError, Global};
 use std::cell::RefCell;
 
-/// A logger that keeps the records that it takes, in order.
+/// A logger that keeps the records it is given, in order.
 ///
-/// An event is enabled from the logger's least severity on.
+/// An event is enabled if its severity is at least the logger's least one.
 ///
 /// ```
 /// RecordingLogger::new(alloc, scope, Severity::Trace)
@@ -24,7 +24,7 @@ pub struct RecordingLogger {
 }
 
 impl RecordingLogger {
-    /// Makes a logger that has taken no record. It takes no memory.
+    /// Returns a logger without records. Takes no memory.
     pub fn new(alloc: Global, scope: InstrumentationScope, least: Severity) -> RecordingLogger
         ensures scope { result.scope ≡ scope }
         ensures least { result.least ≡ least }
@@ -36,7 +36,7 @@ impl RecordingLogger {
         }
     }
 
-    /// Returns the records that the logger has taken, in order.
+    /// Returns the records that the logger was given, in order.
     pub fn into_emitted(self) -> Vec<RecordingLogRecord> {
         let RecordingLogger {
             scope: _,
@@ -59,27 +59,27 @@ impl Logger for RecordingLogger {
     ghost may_enable = { λ logger level _ _ enabled.
         enabled ≡ nat_le (number logger.least) (number level) };
 
-    /// Makes a record on which nothing is set. It takes no memory.
+    /// Returns a record with nothing set. Takes no memory.
     fn create_log_record(&self, alloc: Global) -> Result<RecordingLogRecord, AllocError>
         ensures { IsOkAnd result (λ log. log ≡ empty) }
     {
         Ok(RecordingLogRecord::new(alloc))
     }
 
-    /// Keeps the record, behind those that it has. If out of memory, it drops it.
+    /// Keeps the record, after the others. If out of memory, drops it.
     fn emit(&self, record: RecordingLogRecord) {
         if let Ok(mut emitted) = self.emitted.try_borrow_mut() {
             drop(emitted.push(record));
         }
     }
 
-    /// Whether the severity is the logger's least one or a graver one.
+    /// Returns whether the severity is at least the logger's least one.
     fn event_enabled(&self, level: Severity, _target: &str, _name: Option<&str>) -> bool {
         self.least.number() <= level.number()
     }
 }
 
-/// What makes a [`RecordingLogger`] for each scope.
+/// A provider that returns a [`RecordingLogger`] for each scope.
 ///
 /// ```
 /// RecordingLoggerProvider {
@@ -88,7 +88,7 @@ impl Logger for RecordingLogger {
 /// ```
 #[derive(Clone, Copy, Debug)]
 pub struct RecordingLoggerProvider {
-    /// The least severity of an event that its loggers enable.
+    /// The least severity of an event that is enabled.
     pub least: Severity,
 }
 
@@ -100,7 +100,7 @@ impl LoggerProvider for RecordingLoggerProvider {
     ghost may_give = { λ provider scope logger.
         (logger.scope ≡ scope) × (logger.least ≡ provider.least) };
 
-    /// Makes a logger of that scope. It takes no memory.
+    /// Returns a logger for the scope. Takes no memory.
     fn logger_with_scope(
         &self,
         alloc: Global,

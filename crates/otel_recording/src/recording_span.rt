@@ -1,4 +1,4 @@
-//! A span that keeps a list of what its calls give it.
+//! A span that keeps a list of what it is given.
 ghost use Rattle.std.specs.Prelude.{◌≡◌, OnOk, OnErr, map, refl, true, false};
 
 use otel_base::{KeyValue, StringValue};
@@ -12,18 +12,19 @@ use std::marker::Model;
 /// See [`RecordingSpan::effects`].
 #[derive(Debug, Drop)]
 pub enum Effect {
-    /// An event: its name, its time in nanoseconds since 1970, its attributes.
+    /// An event: its name, its time in nanoseconds since 1970, and its attributes.
     Event(StringValue, u64, Vec<KeyValue>),
     /// An attribute.
     Attribute(KeyValue),
-    /// A link: the other span, and the link's attributes.
+    /// A link: the other span, and the attributes.
     Link(SpanContext, Vec<KeyValue>),
 }
 
-/// A span that keeps a list of what its calls give it, whether it records or not.
+/// A span that keeps a list of what it is given, whether it records or not.
 ///
-/// It records until it ends, or until its first attribute if [`RecordingSpan::stop_at_attribute`]
-/// was called. It can be set to let calls fail as if out of memory.
+/// It records until it ends, until [`RecordingSpan::stop`], or until the first attribute after
+/// [`RecordingSpan::stop_at_attribute`]. It can be made to fail as if out of memory: see
+/// [`RecordingSpan::fail_after`].
 ///
 /// ```
 /// RecordingSpan::new(alloc, span_context(number), StringValue::from("work"))
@@ -37,7 +38,7 @@ pub struct RecordingSpan {
     ended: Option<u64>,
     recording: bool,
     stops_at_attribute: bool,
-    // How many more effects it takes. No contract sees it.
+    // How many more effects it keeps. No contract sees it.
     room: u64,
 }
 
@@ -77,7 +78,7 @@ impl RecordingSpan {
         }
     }
 
-    /// Makes the next attribute stop the recording.
+    /// Lets the next attribute stop the recording.
     pub fn stop_at_attribute(&mut self)
         ensures { self.new ≡ record self.old { stops_at_attribute = true } }
     {
@@ -91,7 +92,7 @@ impl RecordingSpan {
         self.recording = false;
     }
 
-    /// Makes each event, attribute and link after the next `taken` fail as if out of memory.
+    /// Makes each event, attribute and link, after the next `taken`, fail as if out of memory.
     pub fn fail_after(&mut self, taken: u64)
         ensures { self.new ≡ self.old }
     {
@@ -126,7 +127,7 @@ impl RecordingSpan {
         self.ended
     }
 
-    // Keeps one more thing, if there is room.
+    // Keeps one more effect, if there is room.
     fn keep(&mut self, effect: Effect) -> Result<(), AllocError>
         ensures ok { OnOk result (self.new ≡ with_effect self.old (kept effect)) }
         ensures err { OnErr result (self.new ≡ self.old) }
@@ -141,7 +142,8 @@ impl RecordingSpan {
 }
 
 impl Span for RecordingSpan {
-    ghost use Rattle.otel_recording.specs.Recording.{with_event, with_attribute, with_link, with_end};
+    ghost use Rattle.otel_recording.specs.Recording.{with_event, with_attribute, with_link};
+    ghost use Rattle.otel_recording.specs.Recording.{with_end};
 
     ghost context_of = { λ span. span.context };
 

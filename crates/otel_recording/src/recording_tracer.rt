@@ -11,8 +11,8 @@ use std::alloc::{AllocError, Global};
 
 /// A tracer that starts a [`RecordingSpan`] with each builder's name.
 ///
-/// A span has the trace id of its parent, or the tracer's if the parent has none, and the span id
-/// after the parent's, so that ids tell a parent from its child. It is sampled.
+/// A span has the trace id of its parent, or the tracer's if the parent has none. Its span id is
+/// the parent's plus one, so that ids show which span is the parent. It is sampled.
 ///
 /// ```
 /// RecordingTracer {
@@ -50,7 +50,8 @@ impl Tracer for RecordingTracer {
 
     type Span = RecordingSpan;
 
-    ghost may_build = { λ tracer builder parent span. span ≡ started tracer.trace_id builder parent };
+    ghost may_build = { λ tracer builder parent span.
+        span ≡ started tracer.trace_id builder parent };
 
     fn build_with_context(
         &self,

@@ -1,4 +1,4 @@
-//! What makes recording tracers.
+//! A provider of recording tracers.
 ghost use Rattle.std.specs.Prelude.{◌≡◌};
 
 use crate::recording_span::RecordingSpan;
@@ -15,7 +15,7 @@ use std::alloc::{AllocError, Global};
 pub struct ScopedTracer {
     /// The library or module that the tracer is for.
     pub scope: InstrumentationScope,
-    /// What starts its spans.
+    /// The tracer that starts the spans.
     pub tracer: RecordingTracer,
 }
 
@@ -38,7 +38,7 @@ impl Tracer for ScopedTracer {
     }
 }
 
-/// What makes a [`ScopedTracer`] for each scope.
+/// A provider that returns a [`ScopedTracer`] for each scope.
 ///
 /// ```
 /// RecordingTracerProvider {
@@ -59,7 +59,7 @@ impl TracerProvider for RecordingTracerProvider {
     ghost may_give = { λ provider scope given.
         (given.scope ≡ scope) × (given.tracer.trace_id ≡ provider.trace_id) };
 
-    /// Makes a tracer of that scope. It takes no memory.
+    /// Returns a tracer for the scope. Takes no memory.
     fn tracer_with_scope(
         &self,
         _alloc: Global,
