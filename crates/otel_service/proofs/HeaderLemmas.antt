@@ -4,7 +4,7 @@ use Rattle.std.specs.Prelude.{IsUtf8, nat_lt, position}
 use Rattle.std.specs.HashMap as hash
 use Rattle.std.specs.HashMap.{HashMap}
 use Rattle.std.specs.List.{cons_option, list_any, position_or_len, slice_split, before_first, after_first, filter_map, join_with_byte}
-use Rattle.std.specs.Option.{option_map, option_map_or, option_to_list, MatchOption}
+use Rattle.std.specs.Option.{option_map, option_map_or, option_to_list}
 use Rattle.std.specs.Str.{bytes_eq, is_utf8}
 use Rattle.std.specs.Str.Lines.{strip_carriage_return}
 use Rattle.std.specs.String.{string_eq}
@@ -23,7 +23,7 @@ use Rattle.otel_propagators.proofs.FirstCuts.{none_All}
 use Rattle.otel_context.specs.BaggageText.{is_key}
 use Rattle.opentelemetry.specs.Carrier.{lower}
 use Rattle.otel_ids.specs.Text.{cut_blanks}
-use Rattle.otel_service.specs.Headers.{is_line_feed, is_colon, header_of, headers_of, values_under, combined_value, value_at}
+use Rattle.otel_service.specs.Headers.{is_line_feed, is_colon, IsFirstLine, header_in, header_of, headers_of, values_under, combined_value, value_at}
 
 -- what isn't UTF-8 doesn't pass the test
 pub not_utf8 : (bs : List ℕ) → (IsUtf8 bs → ⊥) → is_utf8 bs ≡ false
@@ -142,17 +142,13 @@ values_under-append name xs ys =
     ap (map (λ (h : List ℕ × List ℕ). h.1)) (filter-append (λ (h : List ℕ × List ℕ). bytes_eq (lower h.0) name) xs ys)
     ∙ map-append (λ (h : List ℕ × List ℕ). h.1) _ _
 
-header_in : List ℕ → List (List ℕ × List ℕ)
-header_in line = option_to_list (header_of (strip_carriage_return line))
-
 cons_one : {Y : Type 0} (o : Option Y) (ys : List Y) → cons_option o ys ≡ option_to_list o ++ ys
 cons_one None ys = refl
 cons_one (Some y) ys = refl
 
 headers_first : (bytes line : List ℕ) (rest : Option (Bor (List ℕ))) →
-    MatchOption rest (slice_split is_line_feed bytes ≡ line ∷ []) (λ r. (slice_split is_line_feed bytes ≡ line ∷ slice_split is_line_feed r.now) × (length r.now < length bytes)) →
+    IsFirstLine bytes line rest →
     headers_of bytes ≡ header_in line ++ option_map_or (λ r. headers_of r.now) rest []
-unfolding header_in
 headers_first bytes line None cut =
     ap (filter_map (λ l. header_of (strip_carriage_return l))) cut ∙ cons_one (header_of (strip_carriage_return line)) []
 headers_first bytes line (Some r) cut =
@@ -160,11 +156,10 @@ headers_first bytes line (Some r) cut =
 
 -- the headers of a line and of what follows it are those of both
 pub read_on : (bytes line name : List ℕ) (rest : Option (Bor (List ℕ))) (old new : Option (List ℕ)) →
-    MatchOption rest (slice_split is_line_feed bytes ≡ line ∷ []) (λ r. (slice_split is_line_feed bytes ≡ line ∷ slice_split is_line_feed r.now) × (length r.now < length bytes)) →
+    IsFirstLine bytes line rest →
     new ≡ combined_value (option_to_list old ++ values_under name (option_to_list (header_of (strip_carriage_return line)))) →
     combined_value (option_to_list new ++ values_under name (option_map_or (λ r. headers_of r.now) rest []))
     ≡ combined_value (option_to_list old ++ values_under name (headers_of bytes))
-unfolding header_in
 read_on bytes line name rest old new cut is =
     let before = option_to_list old in
     let first = values_under name (header_in line) in

@@ -1,10 +1,10 @@
-//! Why a request isn't served. Bad headers are no reason: the service then starts a new trace.
+//! Why a request isn't served. Bad headers are not a reason: the service then starts a new trace.
 use opentelemetry::propagation::PropagationError;
 use opentelemetry::trace::SpanRefused;
 use std::alloc::{AllocError, AllocFailed};
 use std::io;
 
-/// Why a request isn't served.
+/// The reason why a request isn't served.
 #[derive(Clone, Copy, Debug, PartialEq, Eq)]
 pub enum Failure {
     /// The input can't be read, or the output can't be written.
@@ -42,7 +42,7 @@ impl From<PropagationError> for Failure {
 }
 
 impl<S: Drop> From<SpanRefused<S>> for Failure {
-    // The first number of a table is never used up.
+    // A new table always has a number left.
     fn from(_refused: SpanRefused<S>) -> Failure {
         Failure::NoMemory
     }

@@ -1,16 +1,14 @@
-//! The headers of a request, as lines of bytes: those that are read, and those that are written.
-ghost use Rattle.std.specs.Prelude.{◌≡◌, ◌∷◌, ◌++◌, [], ℕ, List, MatchOption, IfOk, OnOk, length};
-ghost use Rattle.std.specs.Prelude.{◌<◌, IfSome, string_bytes, position, true, false};
-ghost use Rattle.std.specs.List.{list_all, list_any, slice_split, join_with_byte};
-ghost use Rattle.std.specs.List.{before_first, after_first, flat_map};
+//! The headers of a request as lines of bytes, read and written.
+ghost use Rattle.std.specs.Prelude.{◌≡◌, ◌∷◌, [], IfOk, OnOk, string_bytes, position};
+ghost use Rattle.std.specs.List.{list_all};
 ghost use Rattle.std.specs.Io.KnownBytes.{Appends};
-ghost use Rattle.std.specs.Option.{option_map, option_to_list};
+ghost use Rattle.std.specs.Option.{option_map};
 ghost use Rattle.std.specs.Str.Lines.{strip_carriage_return};
 ghost use Rattle.otel_context.specs.BaggageText.{is_delimiter, is_key_byte, is_key};
-ghost use Rattle.otel_service.specs.Headers.{is_line_feed, is_colon};
-ghost use Rattle.otel_service.specs.Headers.{combined_value, header_of, headers_of};
-ghost use Rattle.otel_service.specs.Headers.{value_at, values_under};
-ghost use Rattle.otel_service.specs.Headers.{is_line_text, line_of};
+ghost use Rattle.otel_service.specs.Headers.{is_line_feed, IsFirstLine, IsCutAtColon};
+ghost use Rattle.otel_service.specs.Headers.{header_in, header_of, headers_of};
+ghost use Rattle.otel_service.specs.Headers.{AddsValues, HasValuesOf, with_value};
+ghost use Rattle.otel_service.specs.Headers.{is_line_text, lines_of};
 
 use otel_ids::cut_blanks;
 use std::alloc::{AllocError, Global};
@@ -23,15 +21,14 @@ use std::str;
 ///
 /// Names are compared without regard to case, and the values of a repeated name are joined by
 /// commas (RFC 9110, sections 5.1 and 5.3). Spaces and tabs around a value are dropped. A line is
-/// ignored if it isn't UTF-8, has no colon, or its name is no token: one that ends in a blank is
-/// none.
+/// ignored if it isn't UTF-8, has no colon, or its name isn't a token, for example because it ends
+/// in a blank.
 ///
 /// # Errors
 ///
 /// `AllocError` if out of memory.
 pub fn parse(alloc: Global, bytes: &[u8]) -> Result<HashMap<String, String>, AllocError>
-    ensures { IfOk result (λ headers. (name : List ℕ) →
-        value_at headers name ≡ combined_value (values_under name (headers_of bytes.now))) }
+    ensures { IfOk result (HasValuesOf (headers_of bytes.now)) }
 {
     let mut headers = HashMap::new(alloc);
     let mut left = Some(bytes);
@@ -43,11 +40,9 @@ pub fn parse(alloc: Global, bytes: &[u8]) -> Result<HashMap<String, String>, All
     Ok(headers)
 }
 
-/// Returns what stands before the first line feed, and what follows it, if there is one.
+/// Returns the bytes before the first line feed, and those after it, if there is one.
 fn first_line(bytes: &[u8]) -> (&[u8], Option<&[u8]>)
-    ensures { let lines = slice_split is_line_feed in
-        MatchOption result.1 (lines bytes.now ≡ result.0.now ∷ []) (λ rest.
-        (lines bytes.now ≡ result.0.now ∷ lines rest.now) × (length rest.now < length bytes.now)) }
+    ensures { IsFirstLine bytes.now result.0.now result.1 }
 {
     match line_feed(bytes) {
         Some(end) => (&bytes[..end], Some(&bytes[end + 1..])),
@@ -62,15 +57,13 @@ fn line_feed(bytes: &[u8]) -> Option<usize>
     bytes.iter().position(|byte| *byte == b'\n')
 }
 
-/// Adds the header of the line to the others, if the line is one.
+/// Adds the line's header to the others, if it has one.
 fn read_line(
     alloc: Global,
     headers: &mut HashMap<String, String>,
     line: &[u8],
 ) -> Result<(), AllocError>
-    ensures { OnOk result ((name : List ℕ) → value_at headers.new name
-        ≡ combined_value (option_to_list (value_at headers.old name)
-        ++ values_under name (option_to_list (header_of (strip_carriage_return line.now))))) }
+    ensures { OnOk result (AddsValues (header_in line.now) headers.old headers.new) }
 {
     match header_of(without_carriage_return(line)) {
         Some((name, value)) => add(alloc, headers, name, value),
@@ -78,7 +71,7 @@ fn read_line(
     }
 }
 
-/// Returns the line without the carriage return at its end, if it has one.
+/// Returns the line without the carriage return at its end, if there is one.
 fn without_carriage_return(line: &[u8]) -> &[u8]
     ensures { result.now ≡ strip_carriage_return line.now }
 {
@@ -103,18 +96,15 @@ fn header_of(line: &[u8]) -> Option<(&str, &str)>
     }
 }
 
-/// Returns what stands before and after the first colon, if there is one.
+/// Returns the text before and after the first colon, if there is one.
 fn split_header(line: &str) -> Option<(&str, &str)>
-    ensures { MatchOption result (list_any is_colon line.now ≡ false) (λ cut.
-        (list_any is_colon line.now ≡ true)
-        × (cut.0.now ≡ before_first is_colon line.now)
-        × (cut.1.now ≡ after_first is_colon line.now)) }
+    ensures { IsCutAtColon line.now result }
 {
     let (name, value) = line.split_once(':')?;
     Some((name, value))
 }
 
-/// The visible ASCII characters that no token has (RFC 9110, section 5.6.2).
+/// The visible ASCII characters that no token may have (RFC 9110, section 5.6.2).
 const DELIMITERS: &[u8] = b"(),/:;<=>?@[\\]{}\"";
 
 fn is_delimiter(byte: u8) -> bool
@@ -141,16 +131,14 @@ fn is_token(name: &str) -> bool
     !name.is_empty() && are_token_bytes(name.as_bytes())
 }
 
-/// Adds the value to those of the name.
+/// Adds the value to those of the name, after a comma.
 fn add(
     alloc: Global,
     headers: &mut HashMap<String, String>,
     name: &str,
     value: &str,
 ) -> Result<(), AllocError>
-    ensures { OnOk result ((other : List ℕ) → value_at headers.new other
-        ≡ combined_value (option_to_list (value_at headers.old other)
-        ++ values_under other ((name.now, value.now) ∷ []))) }
+    ensures { OnOk result (AddsValues ((name.now, value.now) ∷ []) headers.old headers.new) }
 {
     let name = name.to_ascii_lowercase(alloc)?;
     let values = headers.remove(name.as_str());
@@ -160,8 +148,8 @@ fn add(
 
 /// Appends the value to the values, after a comma if there are any.
 fn join(alloc: Global, values: Option<String>, value: &str) -> Result<String, AllocError>
-    ensures { IfOk result (λ combined. string_bytes combined
-        ≡ join_with_byte 44 (option_to_list (option_map string_bytes values) ++ value.now ∷ [])) }
+    ensures { IfOk result (λ all.
+        string_bytes all ≡ with_value (option_map string_bytes values) value.now) }
 {
     let Some(mut values) = values else {
         return String::from_str(alloc, value);
@@ -172,8 +160,8 @@ fn join(alloc: Global, values: Option<String>, value: &str) -> Result<String, Al
 }
 
 /// Writes a line `name: value` for each header, in order. A header with a carriage return, a line
-/// feed or NUL could be read as further headers, which its sender made up (RFC 9110, section 5.5):
-/// it is left out, and a line with its name is written to `errors`.
+/// feed or NUL could inject further headers (RFC 9110, section 5.5), so it is left out, and a line
+/// with its name is written to `errors`.
 ///
 /// # Errors
 ///
@@ -183,8 +171,8 @@ pub fn write<W: Write, E: Write>(
     errors: &mut E,
     headers: &[(&str, &str)],
 ) -> io::Result<()>
-    ensures { let lines = flat_map (λ h. line_of (h.0.now, h.1.now)) headers.now in
-        OnOk result (Appends (W.contents output.old) (W.contents output.new) lines) }
+    ensures { OnOk result (Appends (W.contents output.old) (W.contents output.new)
+        (lines_of headers.now)) }
 {
     for (name, value) in headers {
         if is_line_text(name) && is_line_text(value) {
@@ -199,7 +187,7 @@ pub fn write<W: Write, E: Write>(
     Ok(())
 }
 
-/// Returns whether the text may stand in a line of a header.
+/// Returns whether the text may be part of a header's line.
 fn is_line_text(text: &str) -> bool
     ensures { result ≡ is_line_text text.now }
 {

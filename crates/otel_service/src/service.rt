@@ -19,8 +19,7 @@ pub struct Sent {
 }
 
 /// Serves a request: starts a span under the one that its headers name, or in a trace of its own if
-/// they name none, adds the service's name to their baggage, and sets the headers of the request
-/// that it sends on.
+/// they name none, adds the service's name to their baggage, and sets the headers to be sent on.
 ///
 /// # Errors
 ///
@@ -49,8 +48,8 @@ fn extract(
     baggage.extract_with_context(alloc, &given, received)
 }
 
-/// Starts the service's span. Returns the context of its work, which has the span, and the
-/// service's name in the baggage.
+/// Starts the service's span. Returns the context of its work, which has the span and, in the
+/// baggage, the service's name.
 fn start_span(alloc: Global, given: &Context) -> Result<Context, Failure> {
     let span = child_of(given.span_context())?;
     let span = RecordingSpan::new(alloc, span, StringValue::from("serve"));
@@ -59,7 +58,7 @@ fn start_span(alloc: Global, given: &Context) -> Result<Context, Failure> {
     Ok(with_service_name(alloc, &context)?)
 }
 
-/// Returns the headers of the context.
+/// Returns the headers that carry the context.
 fn inject(
     alloc: Global,
     trace: &TraceContextPropagator,
@@ -72,7 +71,7 @@ fn inject(
     Ok(headers)
 }
 
-/// Returns the context, with the service's name in its baggage. A full baggage stays as it is.
+/// Returns the context with the service's name in its baggage. A full baggage is unchanged.
 fn with_service_name(alloc: Global, context: &Context) -> Result<Context, AllocError> {
     let mut baggage = Baggage::new(alloc);
     if let Some(given) = context.baggage() {
