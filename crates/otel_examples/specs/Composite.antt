@@ -1,12 +1,24 @@
 -- What composites send, and what makes it come back.
-use Rattle.std.specs.Prelude.{◌≡◌, ◌≢◌, ℕ, List, Some, codes}
+use Rattle.std.specs.Prelude.{◌≡◌, ◌≢◌, ◌++◌, ℕ, Bool, List, Some, Result, IfOk, IsTrue, OnOk}
+use Rattle.std.specs.Prelude.{codes}
+use Rattle.std.specs.HashMap.{HashMap}
 use Rattle.std.specs.Option.{option_or}
+use Rattle.std.specs.declared.alloc.Global.{Global}
+use Rattle.std.specs.declared.dyn_box.DynBox.{DynBox}
+use Rattle.std.specs.declared.string.String.{String}
 use Rattle.otel_context.specs.BaggageHeader.{header}
-use Rattle.otel_context.specs.Context.{ContextRecord}
-use Rattle.opentelemetry.specs.Carrier.{Pairs, TextMap, at}
+use Rattle.otel_context.specs.Context.{ContextRecord, empty_context}
+use Rattle.otel_context.specs.Stack.{Live, current}
+use Rattle.opentelemetry.specs.Carrier.{Pairs, Sets, TextMap, at, map_state, text_map}
+use Rattle.opentelemetry.specs.Composite.{extracted_of, may_refuse_of, pairs_of}
+use Rattle.opentelemetry.specs.Extraction.{Extracts}
+use Rattle.opentelemetry.specs.Injection.{Injects}
+use Rattle.opentelemetry.specs.Refusal.{is_refused}
+use Rattle.opentelemetry.specs.declared.propagation.composite.TextMapCompositePropagator.{TextMapCompositePropagator}
+use Rattle.opentelemetry.specs.declared.propagation.error.PropagationError.{PropagationError}
 use Rattle.otel_propagators.specs.BaggagePropagator.{members}
-use Rattle.otel_propagators.specs.Laws.{ArePairsOfBoth, BothExtract}
-use Rattle.otel_examples.specs.RequestId.{id_of}
+use Rattle.otel_propagators.specs.Laws.{ArePairsOfBoth, BothExtract, ComesBack}
+use Rattle.otel_examples.specs.RequestId.{extracted as id_extracted, id_of}
 
 -- the header of the context's request id is set in `new`; without an id it is as in `old`
 abbrev pub IsIdSent : ContextRecord → TextMap → TextMap → Type 0
@@ -28,3 +40,79 @@ pub record CarriesBoth (context given : ContextRecord) (texts : TextMap) (pairs 
     (extracted : ContextRecord) : Type 0 where
   pub sets : ArePairsOfBoth context pairs
   pub extracts : BothExtract given texts extracted
+
+-- ---- the headers as a map, which was `old` and is `new`
+
+-- if the injection of a run succeeded, the headers of the context that is then current are set
+abbrev pub SendsCurrent : {A S T : Type 0} → Result T PropagationError → Live
+    → HashMap (String A) (String A) S → HashMap (String A) (String A) S → Type 0
+SendsCurrent injected live old new =
+    OnOk injected (IsSent (current live) (text_map old.entries) (text_map new.entries))
+
+-- what comes back by both W3C headers, with the request's id that the headers carry
+abbrev pub ComesBackWithId : {A S : Type 0} → ContextRecord → HashMap (String A) (String A) S
+    → HashMap (String A) (String A) S → ContextRecord → Type 0
+ComesBackWithId context old new back =
+    ComesBack context (text_map old.entries)
+    (id_extracted empty_context (text_map new.entries)) back
+
+-- the composite, whose members may refuse by `may_refuse`, refused only if one of them may
+abbrev pub RefusesByMember : {I T : Type 0} {D : I → Type 0} → TextMapCompositePropagator I D
+    → ((x : I) × D x → Bool) → Result T PropagationError → Type 0
+RefusesByMember composite may_refuse result =
+    IsTrue (is_refused result)
+    → IsTrue (may_refuse_of (λ m. may_refuse (m.vtable, m.value)) composite)
+
+-- What a composite does: `pairs`, `extracted` and `may_refuse` are those of a member.
+module _ {A S I : Type 0} {D : I → Type 0} where
+  -- the composite injected the context with this result
+  abbrev pub Sends : {T : Type 0} → TextMapCompositePropagator I D
+      → ((x : I) × D x → ContextRecord → Pairs) → ((x : I) × D x → Bool) → ContextRecord
+      → HashMap (String A) (String A) S → HashMap (String A) (String A) S
+      → Result T PropagationError → Type 0
+  Sends composite pairs may_refuse context old new result =
+      Injects (pairs_of (λ m. pairs (m.vtable, m.value)) composite context)
+      (may_refuse_of (λ m. may_refuse (m.vtable, m.value)) composite)
+      (map_state old.entries) (map_state new.entries) result
+
+  -- the composite extracted from the headers, starting from the context, with this result
+  abbrev pub Receives : TextMapCompositePropagator I D
+      → ((x : I) × D x → ContextRecord → TextMap → ContextRecord) → ((x : I) × D x → Bool)
+      → ContextRecord → HashMap (String A) (String A) S
+      → Result ContextRecord PropagationError → Type 0
+  Receives composite extracted may_refuse context headers result =
+      Extracts (extracted_of (λ m. extracted (m.vtable, m.value)) composite context
+      (text_map headers.entries))
+      (may_refuse_of (λ m. may_refuse (m.vtable, m.value)) composite) result
+
+  -- the pairs of the composite's members are set
+  abbrev pub SetsAll : TextMapCompositePropagator I D → ((x : I) × D x → ContextRecord → Pairs)
+      → ContextRecord → HashMap (String A) (String A) S → HashMap (String A) (String A) S → Type 0
+  SetsAll composite pairs context old new =
+      Sets (text_map old.entries)
+      (pairs_of (λ m. pairs (m.vtable, m.value)) composite context) (text_map new.entries)
+
+  -- if the composite has both W3C propagators, the context that it sent comes back
+  abbrev pub Arrives : TextMapCompositePropagator I D → ((x : I) × D x → ContextRecord → Pairs)
+      → ((x : I) × D x → ContextRecord → TextMap → ContextRecord) → ContextRecord
+      → HashMap (String A) (String A) S → HashMap (String A) (String A) S
+      → Result ContextRecord PropagationError → Type 0
+  Arrives composite pairs extracted context old new result =
+      (given : ContextRecord)
+      → CarriesBoth context given (text_map new.entries)
+      (pairs_of (λ m. pairs (m.vtable, m.value)) composite context)
+      (extracted_of (λ m. extracted (m.vtable, m.value)) composite empty_context
+      (text_map new.entries))
+      → IfOk result (ComesBack context (text_map old.entries) given)
+
+  -- if these are both W3C propagators, the context that they sent in turn comes back
+  abbrev pub ArrivesBy : DynBox I Global D → DynBox I Global D
+      → (DynBox I Global D → ContextRecord → Pairs)
+      → (DynBox I Global D → ContextRecord → TextMap → ContextRecord) → ContextRecord
+      → HashMap (String A) (String A) S → HashMap (String A) (String A) S
+      → Result ContextRecord PropagationError → Type 0
+  ArrivesBy first second pairs extracted context old new result =
+      let texts = text_map new.entries in
+      CarriesBoth context empty_context texts (pairs first context ++ pairs second context)
+      (extracted second (extracted first empty_context texts) texts)
+      → IfOk result (ComesBack context (text_map old.entries) empty_context)

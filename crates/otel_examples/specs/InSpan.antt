@@ -1,5 +1,5 @@
 -- What a caller of `in_span` gets.
-use Rattle.std.specs.Prelude.{◌≡◌, ℕ, Option, Some, codes}
+use Rattle.std.specs.Prelude.{◌≡◌, ℕ, Option, Some, IfSome, codes}
 use Rattle.otel_base.specs.KeyValue.{Attribute}
 use Rattle.otel_base.specs.Value.{text}
 use Rattle.otel_context.specs.Context.{ContextRecord, span_number}
@@ -30,3 +30,7 @@ module _ {S : Type 0} (after_attribute : S → Attribute → S) where
     pub parent_number : parent ≡ old.next_number
     pub child_number : child ≡ (set (insert old parent_span) (Some parent)).next_number
     pub table : new ≡ insert (set (insert old parent_span) (Some parent)) child_span
+
+  -- a request was handled: if its child span has a number, the table has both spans
+  abbrev pub IsHandled : SpansState S → SpansState S → Option ℕ × ℕ → Type 0
+  IsHandled old new numbers = IfSome numbers.0 (λ child. HasBoth old numbers.1 child new)

@@ -1,5 +1,9 @@
+pub mod Baggage
 pub mod Composite
 pub mod InSpan
 pub mod LogBridge
 pub mod RequestId
+pub mod Scope
 pub mod Service
+pub mod ThereAndBack
+pub mod TraceState

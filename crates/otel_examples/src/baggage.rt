@@ -1,7 +1,7 @@
 //! Fills a baggage, reads it back and prints it.
-ghost use Rattle.std.specs.Prelude.{◌≡◌, ◌∷◌, [], IfOk, codes, string_bytes, option_map};
+ghost use Rattle.std.specs.Prelude.{◌≡◌, IfOk, codes, string_bytes, option_map};
 ghost use Rattle.otel_context.specs.Baggage.{get};
-ghost use Rattle.otel_context.specs.BaggageMember.{member_of};
+ghost use Rattle.otel_examples.specs.Baggage.{of_tenant};
 
 use opentelemetry::baggage::Baggage;
 use opentelemetry::{Key, StringValue};
@@ -13,9 +13,7 @@ use std::alloc::{AllocError, Global};
 ///
 /// `AllocError` if out of memory.
 pub fn of_tenant(alloc: Global) -> Result<Baggage, AllocError>
-    ensures { IfOk result (λ baggage. baggage
-        ≡ member_of (codes "tenant") (codes "acme") []
-        ∷ member_of (codes "region") (codes "eu west") [] ∷ []) }
+    ensures { IfOk result (λ baggage. baggage ≡ of_tenant) }
 {
     let mut baggage = Baggage::new(alloc);
     baggage.insert(Key::from("tenant"), StringValue::from("acme"))?;

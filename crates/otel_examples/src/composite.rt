@@ -1,17 +1,15 @@
-//! Propagators put together: a run whose current context is sent by two of them, and a context that
-//! is sent and arrives by composites that were joined.
-ghost use Rattle.std.specs.Prelude.{◌≡◌, ◌++◌, ◌||◌, IfOk, OnOk, IsTrue, false};
-ghost use Rattle.otel_context.specs.Context.{ContextRecord, empty_context};
+//! Composite propagators: a run whose current context is injected by two members, and a context
+//! that is sent and received by joined composites.
+ghost use Rattle.std.specs.Prelude.{◌≡◌, ◌||◌, IfOk, OnOk, IsTrue, false};
+ghost use Rattle.otel_context.specs.Context.{empty_context};
 ghost use Rattle.otel_context.specs.Stack.{current};
-ghost use Rattle.opentelemetry.specs.Carrier.{Sets, map_state, text_map};
-ghost use Rattle.opentelemetry.specs.Composite.{extracted_of, may_refuse_of, pairs_of};
-ghost use Rattle.opentelemetry.specs.Extraction.{Extracts};
-ghost use Rattle.opentelemetry.specs.Injection.{Injects};
+ghost use Rattle.opentelemetry.specs.Carrier.{text_map};
 ghost use Rattle.opentelemetry.specs.Refusal.{is_refused};
 ghost use Rattle.opentelemetry.specs.Run.{IsCurrent};
 ghost use Rattle.otel_propagators.specs.Laws.{ComesBack};
-ghost use Rattle.otel_examples.specs.Composite.{CarriesBoth, IsIdSent, IsSent};
-ghost use Rattle.otel_examples.specs.RequestId.{extracted as id_extracted};
+ghost use Rattle.otel_examples.specs.Composite.{Arrives, ArrivesBy, ComesBackWithId, IsIdSent};
+ghost use Rattle.otel_examples.specs.Composite.{Receives, RefusesByMember, Sends, SendsCurrent};
+ghost use Rattle.otel_examples.specs.Composite.{SetsAll};
 
 use crate::request_id::RequestId;
 use opentelemetry::Context;
@@ -22,12 +20,12 @@ use otel_propagators::{BaggagePropagator, TraceContextPropagator};
 use std::alloc::{AllocError, Global};
 use std::collections::HashMap;
 
-/// Attaches and detaches, and sends the context that is then current by the headers `x-request-id`
+/// Runs the events, and injects the context that is then current into the headers `x-request-id`
 /// and `baggage`.
 ///
 /// # Errors
 ///
-/// `AllocError` if out of memory. The headers stay.
+/// `AllocError` if out of memory. The headers are unchanged.
 pub fn run_and_send(
     alloc: Global,
     events: Vec<StackEvent>,
@@ -36,9 +34,8 @@ pub fn run_and_send(
     // The latest attach that isn't detached, or the empty context, is current.
     ensures current { IfOk result (λ report.
         IsCurrent events.items report.outcomes.items (current report.stack.live)) }
-    ensures sent { IfOk result (λ report. OnOk report.injected (
-        IsSent (current report.stack.live) (text_map headers.old.entries)
-        (text_map headers.new.entries))) }
+    ensures sent { IfOk result (λ report.
+        SendsCurrent report.injected report.stack.live headers.old headers.new) }
     // Neither of these propagators refuses.
     ensures refused { IfOk result (λ report. is_refused report.injected ≡ false) }
 {
@@ -49,53 +46,45 @@ pub fn run_and_send(
     run(alloc, events, &composite, headers)
 }
 
-/// Sends the context by a composite.
+/// Injects the context by a composite.
 fn send(
     composite: &TextMapCompositePropagator,
     context: &Context,
     headers: &mut HashMap<String, String>,
 ) -> Result<(), PropagationError>
-    ensures { Injects (pairs_of (λ m. pairs (m.vtable, m.value)) composite.now context.now)
-        (may_refuse_of (λ m. may_refuse (m.vtable, m.value)) composite.now)
-        (map_state headers.old.entries) (map_state headers.new.entries) result }
+    ensures { Sends composite.now (λ m. pairs m) (λ m. may_refuse m) context.now
+        headers.old headers.new result }
 {
     composite.inject_context(context, headers)
 }
 
-/// The context that arrives by a composite, on the given one.
+/// Returns the context that a composite extracts, starting from the given one.
 fn receive(
     composite: &TextMapCompositePropagator,
     alloc: Global,
     context: &Context,
     headers: &HashMap<String, String>,
 ) -> Result<Context, PropagationError>
-    ensures { Extracts (extracted_of (λ m. extracted (m.vtable, m.value)) composite.now context.now
-        (text_map headers.now.entries))
-        (may_refuse_of (λ m. may_refuse (m.vtable, m.value)) composite.now) result }
+    ensures { Receives composite.now (λ m. extracted m) (λ m. may_refuse m) context.now
+        headers.now result }
 {
     composite.extract_with_context(alloc, context, headers)
 }
 
-/// Sends the context by a composite, and returns what arrives by it on the empty context.
+/// Injects the context by a composite, and returns what it then extracts into the empty context.
 fn send_and_receive(
     alloc: Global,
     composite: &TextMapCompositePropagator,
     context: &Context,
     headers: &mut HashMap<String, String>,
 ) -> Result<Context, PropagationError>
-    // By a composite that has both W3C propagators, what was sent comes back.
-    ensures back { (given : ContextRecord)
-        → CarriesBoth context.now given (text_map headers.new.entries)
-        (pairs_of (λ m. pairs (m.vtable, m.value)) composite.now context.now)
-        (extracted_of (λ m. extracted (m.vtable, m.value)) composite.now empty_context
-        (text_map headers.new.entries))
-        → IfOk result (ComesBack context.now (text_map headers.old.entries) given) }
+    // If the composite has both W3C propagators, what was sent comes back.
+    ensures back { Arrives composite.now (λ m. pairs m) (λ m. extracted m) context.now
+        headers.old headers.new result }
     // The headers of its members are set.
-    ensures sent { OnOk result (Sets (text_map headers.old.entries)
-        (pairs_of (λ m. pairs (m.vtable, m.value)) composite.now context.now)
-        (text_map headers.new.entries)) }
-    ensures refused { IsTrue (is_refused result)
-        → IsTrue (may_refuse_of (λ m. may_refuse (m.vtable, m.value)) composite.now) }
+    ensures sent { OnOk result
+        (SetsAll composite.now (λ m. pairs m) context.now headers.old headers.new) }
+    ensures refused { RefusesByMember composite.now (λ m. may_refuse m) result }
 {
     every_context(context);
     headers_there_and_back();
@@ -104,8 +93,8 @@ fn send_and_receive(
     receive(composite, alloc, &empty, headers)
 }
 
-/// Sends the context by a composite of the first propagator that is joined by one of the second,
-/// and returns what arrives on the empty context.
+/// Joins composites of the first and of the second propagator, injects the context by both, and
+/// returns what they then extract into the empty context.
 fn by_both(
     alloc: Global,
     first: Box<dyn TextMapPropagator>,
@@ -113,12 +102,9 @@ fn by_both(
     context: &Context,
     headers: &mut HashMap<String, String>,
 ) -> Result<Context, PropagationError>
-    // By both W3C propagators, what was sent comes back.
-    ensures back { CarriesBoth context.now empty_context (text_map headers.new.entries)
-        (pairs first context.now ++ pairs second context.now)
-        (extracted second (extracted first empty_context (text_map headers.new.entries))
-        (text_map headers.new.entries))
-        → IfOk result (ComesBack context.now (text_map headers.old.entries) empty_context) }
+    // If these are both W3C propagators, what was sent comes back.
+    ensures back { ArrivesBy first second (λ m. pairs m) (λ m. extracted m) context.now
+        headers.old headers.new result }
     ensures refused { IsTrue (is_refused result)
         → IsTrue (may_refuse first || may_refuse second) }
 {
@@ -130,12 +116,12 @@ fn by_both(
     send_and_receive(alloc, &both, context, headers)
 }
 
-/// Sends the context by the W3C headers, and returns what arrives: a composite of the propagator of
-/// trace contexts is joined by one of the propagator of baggage.
+/// Injects the context into the W3C headers, and returns what is extracted from them: a composite
+/// of the trace context's propagator is joined with one of the baggage's.
 ///
 /// # Errors
 ///
-/// `Memory` if out of memory. Some of the headers may be set then.
+/// `Memory` if out of memory. Some of the headers may then be set.
 pub fn trace_before_baggage(
     alloc: Global,
     context: &Context,
@@ -150,11 +136,11 @@ pub fn trace_before_baggage(
     by_both(alloc, trace, baggage, context, headers)
 }
 
-/// As [`trace_before_baggage`], with the composites joined in the other order.
+/// Does the same as [`trace_before_baggage`], with the composites joined in the other order.
 ///
 /// # Errors
 ///
-/// `Memory` if out of memory. Some of the headers may be set then.
+/// `Memory` if out of memory. Some of the headers may then be set.
 pub fn baggage_before_trace(
     alloc: Global,
     context: &Context,
@@ -169,21 +155,19 @@ pub fn baggage_before_trace(
     by_both(alloc, baggage, trace, context, headers)
 }
 
-/// As [`trace_before_baggage`], by one composite whose first member carries the id of a request in
-/// a header of its own. The context that arrives has that id too.
+/// Does the same as [`trace_before_baggage`], by one composite whose first member carries a request
+/// id in a header of its own. The extracted context has that id too.
 ///
 /// # Errors
 ///
-/// `Memory` if out of memory. Some of the headers may be set then.
+/// `Memory` if out of memory. Some of the headers may then be set.
 pub fn after_request_id(
     alloc: Global,
     context: &Context,
     headers: &mut HashMap<String, String>,
 ) -> Result<Context, PropagationError>
-    ensures back { IfOk result (λ back.
-        ComesBack context.now (text_map headers.old.entries)
-        (id_extracted empty_context (text_map headers.new.entries)) back) }
-    // The header of the id is set; without an id it stays.
+    ensures back { IfOk result (ComesBackWithId context.now headers.old headers.new) }
+    // The id's header is set; without an id it is unchanged.
     ensures id { OnOk result (IsIdSent context.now (text_map headers.old.entries)
         (text_map headers.new.entries)) }
     ensures refused { is_refused result ≡ false }

@@ -1,4 +1,4 @@
-//! A custom carrier: headers as HTTP has them, a list of names with values.
+//! A custom carrier: headers as in HTTP, a list of names and values.
 ghost use Rattle.std.specs.Prelude.{◌≡◌, string_bytes};
 ghost use Rattle.std.specs.List.{position};
 ghost use Rattle.std.specs.Str.{bytes_eq};

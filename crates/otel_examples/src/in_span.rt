@@ -1,6 +1,6 @@
 //! Work in a span, with a child span inside.
 ghost use Rattle.std.specs.Prelude.{◌≡◌, IfOk, IfSome};
-ghost use Rattle.otel_examples.specs.InSpan.{HasChild, HasBoth};
+ghost use Rattle.otel_examples.specs.InSpan.{HasChild, IsHandled};
 
 use opentelemetry::context::{Context, ContextStack};
 use opentelemetry::trace::{Span, SpanBody, Spans, StartError, Tracer};
@@ -74,16 +74,15 @@ impl<T: Tracer> SpanBody<T::Span> for Request<'_, T> {
 ///
 /// # Errors
 ///
-/// That of [`Tracer::in_span`]: the request wasn't handled. The child's number is `None` if memory
-/// runs out later.
+/// Those of [`Tracer::in_span`]: the request isn't handled. If memory runs out later, the child's
+/// number is `None`.
 pub fn handle<T: Tracer>(
     alloc: Global,
     tracer: &T,
     stack: &mut ContextStack,
     spans: &mut Spans<T::Span>,
 ) -> Result<(Option<u64>, u64), StartError<T::Span>>
-    ensures { IfOk result (λ answer. IfSome answer.0 (λ child.
-        HasBoth T.Span.after_attribute spans.old answer.1 child spans.new)) }
+    ensures { IfOk result (IsHandled T.Span.after_attribute spans.old spans.new) }
 {
     let request = Request { tracer, alloc };
     tracer.in_span(alloc, stack, spans, StringValue::from("request"), request)

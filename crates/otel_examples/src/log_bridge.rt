@@ -1,4 +1,4 @@
-//! A bridge from a log to a logger: each record names the span in which it was made.
+//! A bridge from a log to a logger: each record names the span that is active when it is made.
 ghost use Rattle.std.specs.Prelude.{IfOk, codes, string_bytes};
 ghost use Rattle.otel_base.specs.AnyValue.{text};
 ghost use Rattle.otel_context.specs.Context.{span_context};
@@ -10,8 +10,8 @@ use opentelemetry::context::ContextStack;
 use opentelemetry::logs::{AnyValue, LogRecord, Logger};
 use std::alloc::{AllocError, Global};
 
-/// Returns a record of a message, with the trace id, span id and flags of the current context's
-/// span if that is valid.
+/// Returns a record with the message as its body and, if the current context has a valid span, the
+/// trace id, span id and flags of that.
 ///
 /// # Errors
 ///
@@ -36,7 +36,11 @@ pub fn stamped_record<L: Logger>(
     Ok(record)
 }
 
-/// Hands a message to a logger, if a record with this target would be of use.
+/// Emits a record of the message.
+///
+/// # Errors
+///
+/// `AllocError` if out of memory. Nothing is emitted.
 pub fn log<L: Logger>(
     alloc: Global,
     logger: &L,

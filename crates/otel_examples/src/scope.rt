@@ -1,8 +1,7 @@
 //! Work under a context of its own: attach, work, detach, even if the work fails.
-ghost use Rattle.std.specs.Prelude.{◌≡◌, ◌<◌, ◌+◌, IfOk, IsOk, codes};
-ghost use Rattle.otel_base.specs.AnyValue.{integer};
-ghost use Rattle.otel_context.specs.Context.{get};
+ghost use Rattle.std.specs.Prelude.{◌≡◌, ◌<◌, ◌+◌, IfOk, IsOk};
 ghost use Rattle.otel_context.specs.Stack.{current, newest_position, last_position};
+ghost use Rattle.otel_examples.specs.Scope.{HasAmount};
 
 use opentelemetry::Context;
 use opentelemetry::context::ContextStack;
@@ -11,7 +10,7 @@ use otel_context::laws::stack_calls;
 use std::alloc::AllocError;
 use thiserror::Error;
 
-/// Why there is no amount.
+/// The reason why there is no amount.
 #[derive(Debug, Drop, Error)]
 pub enum AmountError {
     /// The current context has no integer under `amount`.
@@ -28,8 +27,7 @@ pub enum AmountError {
 ///
 /// `Missing` if there is none.
 pub fn current_amount(stack: &ContextStack) -> Result<i64, AmountError>
-    ensures { IfOk result (λ amount.
-        get (current stack.now.live) (codes "amount") ≡ Some (integer amount)) }
+    ensures { IfOk result (HasAmount (current stack.now.live)) }
 {
     match stack.current().get("amount") {
         Some(AnyValue::Int(amount)) => Ok(*amount),
@@ -44,8 +42,8 @@ pub fn current_amount(stack: &ContextStack) -> Result<i64, AmountError>
 /// `Missing` if the context has no integer under `amount`; `Memory` if out of memory. What is live
 /// on the stack is the same after either.
 pub fn amount_under(stack: &mut ContextStack, context: Context) -> Result<i64, AmountError>
-    ensures amount { newest_position stack.old.live < last_position → IfOk result (λ amount.
-        get context (codes "amount") ≡ Some (integer amount)) }
+    ensures amount { newest_position stack.old.live < last_position
+        → IfOk result (HasAmount context) }
     ensures restored { stack.new.live ≡ stack.old.live }
 {
     stack_calls();
@@ -62,7 +60,7 @@ pub fn amount_under(stack: &mut ContextStack, context: Context) -> Result<i64, A
 ///
 /// # Errors
 ///
-/// `AllocError` if out of memory. What is live on the stack is the same then too.
+/// `AllocError` if out of memory. What is live on the stack is the same after it too.
 pub fn current_between(
     stack: &mut ContextStack,
     first: Context,

@@ -1,5 +1,4 @@
-//! A service between two others: what a request's headers carry is passed on in those that it
-//! sends.
+//! A service between two others, which passes on what a request's headers carry.
 ghost use Rattle.std.specs.Prelude.{◌≡◌, IfOk, codes};
 ghost use Rattle.otel_context.specs.Stack.{current};
 ghost use Rattle.opentelemetry.specs.SpanBuilder.{from_name};
@@ -11,7 +10,7 @@ use opentelemetry::propagation::{Extractor, Injector, PropagationError, TextMapP
 use opentelemetry::trace::{SpanRefused, Spans, Tracer};
 use std::alloc::{AllocError, Global};
 
-/// Why a request wasn't forwarded.
+/// The reason why a request wasn't forwarded.
 #[derive(Drop)]
 pub enum ForwardError<S> {
     /// The headers weren't read or set.

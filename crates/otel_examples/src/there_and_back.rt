@@ -1,13 +1,10 @@
-//! A context that is sent by the W3C headers and arrives: by two propagators, one after the other.
-ghost use Rattle.std.specs.Prelude.{◌≡◌, ◌++◌, IfOk, OnErr, false};
+//! A context that is sent and received in the W3C headers, by two propagators in turn.
+ghost use Rattle.std.specs.Prelude.{◌≡◌, IfOk, OnErr, false};
 ghost use Rattle.otel_context.specs.Context.{empty_context};
-ghost use Rattle.opentelemetry.specs.Carrier.{SetsBeginning, map_state, text_map};
-ghost use Rattle.opentelemetry.specs.Extraction.{Extracts};
-ghost use Rattle.opentelemetry.specs.Injection.{Injects};
+ghost use Rattle.opentelemetry.specs.Carrier.{text_map};
 ghost use Rattle.opentelemetry.specs.Refusal.{is_refused};
-ghost use Rattle.otel_propagators.specs.BaggagePropagator.{baggage_pairs};
 ghost use Rattle.otel_propagators.specs.Laws.{ComesBack};
-ghost use Rattle.otel_propagators.specs.TraceContext.{trace_pairs};
+ghost use Rattle.otel_examples.specs.ThereAndBack.{Fills, Reads, SetsSome};
 
 use opentelemetry::Context;
 use opentelemetry::propagation::{PropagationError, TextMapPropagator};
@@ -20,12 +17,12 @@ use std::collections::HashMap;
 fn inject<P: TextMapPropagator>(
     propagator: &P,
     context: &Context,
-    carrier: &mut HashMap<String, String>,
+    map: &mut HashMap<String, String>,
 ) -> Result<(), PropagationError>
-    ensures { Injects (P.pairs propagator.now context.now) (P.may_refuse propagator.now)
-        (map_state carrier.old.entries) (map_state carrier.new.entries) result }
+    ensures { Fills (P.pairs propagator.now context.now) (P.may_refuse propagator.now)
+        map.old map.new result }
 {
-    propagator.inject_context(context, carrier)
+    propagator.inject_context(context, map)
 }
 
 /// Extracts from a map.
@@ -33,20 +30,20 @@ fn extract<P: TextMapPropagator>(
     propagator: &P,
     alloc: Global,
     context: &Context,
-    carrier: &HashMap<String, String>,
+    map: &HashMap<String, String>,
 ) -> Result<Context, PropagationError>
-    ensures { Extracts (P.extracted propagator.now context.now (text_map carrier.now.entries))
-        (P.may_refuse propagator.now) result }
+    ensures { Reads (P.extracted propagator.now context.now) (P.may_refuse propagator.now)
+        map.now result }
 {
-    propagator.extract_with_context(alloc, context, carrier)
+    propagator.extract_with_context(alloc, context, map)
 }
 
-/// Injects the context into the carrier by both propagators, and extracts it from there into the
-/// empty context.
+/// Injects the context into the carrier by both propagators, and returns what they then extract
+/// into the empty context.
 ///
 /// # Errors
 ///
-/// `Memory` if out of memory. A beginning of the pairs is set then.
+/// `Memory` if out of memory. A prefix of the pairs is then set.
 pub fn there_and_back(
     alloc: Global,
     trace: &TraceContextPropagator,
@@ -56,9 +53,8 @@ pub fn there_and_back(
 ) -> Result<Context, PropagationError>
     ensures back { IfOk result (λ back.
         ComesBack context.now (text_map carrier.old.entries) empty_context back) }
-    ensures err { OnErr result (SetsBeginning (text_map carrier.old.entries)
-        (trace_pairs context.now ++ baggage_pairs context.now) (text_map carrier.new.entries)) }
-    // Neither a propagator of these nor a map refuses.
+    ensures err { OnErr result (SetsSome context.now carrier.old carrier.new) }
+    // Neither these propagators nor a map refuses.
     ensures refused { is_refused result ≡ false }
 {
     every_context(context);

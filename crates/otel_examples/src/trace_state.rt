@@ -1,7 +1,6 @@
 //! Reads a trace state, changes it and prints it.
-ghost use Rattle.std.specs.Prelude.{◌≡◌, List, IfOk, codes, string_bytes};
-ghost use Rattle.otel_ids.specs.Reading.{Reads};
-ghost use Rattle.otel_ids.specs.TraceState.{Pair, header, insert};
+ghost use Rattle.std.specs.Prelude.{IfOk, string_bytes};
+ghost use Rattle.otel_examples.specs.TraceState.{PutsOwnFirst};
 
 use opentelemetry::trace::{TraceState, TraceStateError};
 use std::alloc::Global;
@@ -12,8 +11,7 @@ use std::alloc::Global;
 ///
 /// Those of [`TraceState::from_str`] for the header, and of [`TraceState::insert`] for the value.
 pub fn with_own_entry(alloc: Global, received: &str, value: &str) -> Result<String, TraceStateError>
-    ensures { IfOk result (λ sent. (pairs : List Pair) × Reads received.now pairs
-        × (string_bytes sent ≡ header (insert pairs (codes "acme") value.now))) }
+    ensures { IfOk result (λ sent. PutsOwnFirst received.now value.now (string_bytes sent)) }
 {
     let state = TraceState::from_str(alloc, received)?;
     let state = state.insert(alloc, "acme", value)?;
