@@ -27,4 +27,4 @@ pub use provider::{SdkTracerProvider, TracerProviderBuilder};
 pub use sampler::parent_based::ParentBased;
 pub use sampler::{Sampler, SamplingDecision, SamplingResult, ShouldSample, laws};
 pub use span::SdkSpan;
-pub use tracer::SdkTracer;
+pub use tracer::{Pipeline, SdkTracer, TracerPipeline};

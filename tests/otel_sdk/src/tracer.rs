@@ -1,6 +1,8 @@
 //! Which ids, flags and parents spans get, with worked cases.
+use opentelemetry::context::ContextStack;
 use opentelemetry::trace::{
-    Link, Span, SpanBuilder, SpanContext, SpanId, SpanKind, TraceFlags, TraceId, TraceState,
+    Link, Run, Span, SpanBuilder, SpanContext, SpanId, SpanKind, Spans, TraceFlags,
+    TraceId, TraceState, Tracer, TracerProvider,
 };
 use opentelemetry::{Context, Key, KeyValue, StringValue, Value};
 use otel_sdk::resource::Resource;
@@ -224,6 +226,63 @@ fn the_sampler_decides(rt: HostRuntime) -> Result<(), Fail> {
     assert!(rt; seen(&span) == ids(1, 9, 0x02, true));
     assert!(rt; *span.span_context().trace_state() == TraceState::NONE);
     assert!(rt; span.data().map(|data| data.attributes.len()) == Some(1));
+    Ok(())
+}
+
+/// What a library does that knows only the API: handles a request `a=1` in a span, and a query in
+/// a span inside. Returns the span contexts that both saw, and the number of the request's span.
+fn handle<T: Tracer>(
+    alloc: Global,
+    tracer: &T,
+    stack: &mut ContextStack,
+    spans: &mut Spans<T::Span>,
+) -> Result<(Vec<SpanContext>, u64), Fail> {
+    let a = KeyValue::new(Key::from("a"), Value::I64(1));
+    let builder = work().with_attributes(vec![in alloc; a]?);
+    let name = StringValue::from("query");
+    let seen = |stack: &mut ContextStack, spans: &mut Spans<T::Span>, context: Context| {
+        let query = |_stack: &mut ContextStack, _spans: &mut Spans<T::Span>, context: Context| {
+            context.span_context().clone()
+        };
+        let inner = tracer.in_span(alloc, stack, spans, name, Run(query));
+        (context.span_context().clone(), inner)
+    };
+    let Ok(((outer, Ok((inner, _))), number)) =
+        tracer.in_span_with_builder(alloc, stack, spans, builder, Run(seen))
+    else {
+        return Err(Fail::from(AllocError));
+    };
+    Ok((vec![in alloc; outer?, inner?]?, number))
+}
+
+#[test]
+fn a_library_over_the_api_runs_in_spans(rt: HostRuntime) -> Result<(), Fail> {
+    let alloc = rt.alloc();
+    let sampler = Answers {
+        decision: SamplingDecision::RecordAndSample,
+    };
+    let provider = SdkTracerProvider::builder(rt)
+        .with_sampler(sampler)
+        .with_id_generator(CountedIdGenerator::new())
+        .build(alloc)?;
+    let tracer = provider.tracer(alloc, StringValue::from("lib"))?;
+    let mut stack = ContextStack::new(alloc)?;
+    let mut spans = Spans::new(alloc);
+    let (seen, number) = handle(alloc, &tracer, &mut stack, &mut spans)?;
+    assert!(rt; stack.newest_position() == 0 && spans.len() == 2);
+    assert!(rt; seen[0].trace_id() == TraceId::from(1) && seen[0].span_id() == SpanId::from(1));
+    assert!(rt; seen[1].trace_id() == TraceId::from(1) && seen[1].span_id() == SpanId::from(2));
+    let Some(data) = spans.get(number).and_then(SdkSpan::data) else {
+        assert!(rt; false);
+        return Ok(());
+    };
+    assert!(rt; data.attributes.len() == 2);
+    assert!(rt; data.attributes[0] == KeyValue::new(Key::from("a"), Value::I64(1)));
+    assert!(rt; data.attributes[1] == KeyValue::new(Key::from("s"), Value::I64(1)));
+    provider.shutdown();
+    let (seen, number) = handle(alloc, &tracer, &mut stack, &mut spans)?;
+    assert!(rt; seen[0] == SpanContext::NONE && seen[1] == SpanContext::NONE);
+    assert!(rt; spans.get(number).is_some_and(|span| !span.is_recording()));
     Ok(())
 }
 

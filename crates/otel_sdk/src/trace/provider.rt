@@ -1,7 +1,6 @@
 //! What makes the tracers of the SDK.
 ghost use Rattle.std.specs.Prelude.{◌≡◌, IfOk, Some, None, map};
 ghost use Rattle.std.specs.Option.{option_map_or};
-ghost use Rattle.opentelemetry.specs.Scope.{scope_of_name};
 ghost use Rattle.otel_sdk.specs.Resource.{merge, with_defaults};
 ghost use Rattle.otel_sdk.specs.SpanLimits.{default_limits};
 ghost use Rattle.otel_sdk.specs.Tracer as spec;
@@ -12,7 +11,8 @@ use crate::trace::id_generator::{IdGenerator, RandomIdGenerator};
 use crate::trace::limits::SpanLimits;
 use crate::trace::sampler::parent_based::ParentBased;
 use crate::trace::sampler::{Sampler, ShouldSample};
-use crate::trace::tracer::SdkTracer;
+use crate::trace::tracer::{SdkTracer, TracerPipeline};
+use opentelemetry::trace::TracerProvider;
 use opentelemetry::{InstrumentationScope, StringValue};
 use std::alloc::{AllocError, Global};
 use std::cell::Cell;
@@ -109,35 +109,41 @@ impl<S: ShouldSample, G: IdGenerator, C: Clock> SdkTracerProvider<S, G, C> {
     pub fn failed_ids(&self) -> u64 {
         self.inner.failed_ids.get()
     }
+}
 
-    /// Returns a tracer of the scope that has this name and nothing else.
-    ///
-    /// # Errors
-    ///
-    /// `AllocError` if out of memory. The name is dropped.
-    pub fn tracer(&self, alloc: Global, name: StringValue) -> Result<SdkTracer<S, G, C>, AllocError>
-        ensures { IfOk result (λ tracer. tracer ≡ spec.tracer_of self.now (scope_of_name name)) }
-    {
-        let scope = InstrumentationScope::builder(name).build(alloc)?;
-        self.tracer_with_scope(alloc, scope)
-    }
+impl<S: ShouldSample, G: IdGenerator, C: Clock> TracerProvider for SdkTracerProvider<S, G, C> {
+    ghost use Rattle.std.specs.Prelude.{◌≡◌};
+    ghost use Rattle.otel_sdk.specs.Tracer as spec;
+
+    type Tracer = SdkTracer<TracerPipeline<S, G, C>>;
+
+    ghost may_give = { λ provider scope tracer. tracer ≡ spec.tracer_of provider scope };
 
     /// Returns a tracer of that scope.
     ///
     /// # Errors
     ///
     /// `AllocError` if out of memory. The scope is dropped.
-    pub fn tracer_with_scope(
+    fn tracer_with_scope(
         &self,
         alloc: Global,
         scope: InstrumentationScope,
-    ) -> Result<SdkTracer<S, G, C>, AllocError>
-        ensures { IfOk result (λ tracer. tracer ≡ spec.tracer_of self.now scope) }
-    {
-        Ok(SdkTracer {
+    ) -> Result<SdkTracer<TracerPipeline<S, G, C>>, AllocError> {
+        let pipeline = TracerPipeline {
             provider: self.inner.clone()?,
             scope: Rc::new(alloc, scope)?,
-        })
+        };
+        Ok(SdkTracer { pipeline })
+    }
+
+    // As the trait has it: the toolchain doesn't cover a default method for this type.
+    fn tracer(
+        &self,
+        alloc: Global,
+        name: StringValue,
+    ) -> Result<SdkTracer<TracerPipeline<S, G, C>>, AllocError> {
+        let scope = InstrumentationScope::builder(name).build(alloc)?;
+        self.tracer_with_scope(alloc, scope)
     }
 }
 

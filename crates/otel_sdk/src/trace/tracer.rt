@@ -12,29 +12,90 @@ use crate::trace::provider::TracerProviderInner;
 use crate::trace::sampler::ShouldSample;
 use crate::trace::span::SdkSpan;
 use crate::trace::start::{Ids, ask, given_data, new_ids, parent_of, records, span_context_of};
-use opentelemetry::trace::{SpanBuilder, SpanContext};
+use opentelemetry::trace::{SpanBuilder, SpanContext, Tracer};
 use opentelemetry::{Context, InstrumentationScope, KeyValue};
 use std::alloc::{AllocError, Global};
 use std::marker::Model;
 use std::rc::Rc;
 
+/// What an [`SdkTracer`] starts its spans by. Not in the Rust crate.
+///
+/// A pipeline names, by the ghost relation `may_start`, the spans that it may start.
+///
+/// See [`TracerPipeline`].
+pub trait Pipeline: Drop {
+    ghost use Rattle.otel_context.specs.Context.{ContextRecord};
+    ghost use Rattle.opentelemetry.specs.SpanBuilder.{BuilderRecord};
+    ghost use Rattle.otel_sdk.specs.Span.{SpanState};
+
+    ghost may_start: { Self → BuilderRecord → ContextRecord → SpanState → Type 0 };
+
+    /// Starts a span from a builder under a parent context.
+    ///
+    /// # Errors
+    ///
+    /// `AllocError` if out of memory. The builder is dropped.
+    fn start_span(
+        &self,
+        alloc: Global,
+        builder: SpanBuilder,
+        parent: &Context,
+    ) -> Result<SdkSpan, AllocError>
+        ensures { IfOk result (may_start self.now (builder_of builder) parent.now) };
+}
+
 /// Starts the spans of one library or module (the Rust crate's `SdkTracer`).
+///
+/// Contracts see its pipeline.
+///
+/// See [`crate::trace::SdkTracerProvider`].
+#[derive(Drop)]
+pub struct SdkTracer<P> {
+    pub(crate) pipeline: P,
+}
+
+impl<P> Model for SdkTracer<P> {
+    ghost Value = { P };
+
+    ghost view = { λ t. t.pipeline };
+}
+
+impl<P: Pipeline> Tracer for SdkTracer<P> {
+    type Span = SdkSpan;
+
+    ghost may_build = { P.may_start };
+
+    /// Starts a span from a builder under a parent context.
+    ///
+    /// # Errors
+    ///
+    /// `AllocError` if out of memory. The builder is dropped.
+    fn build_with_context(
+        &self,
+        alloc: Global,
+        builder: SpanBuilder,
+        parent: &Context,
+    ) -> Result<SdkSpan, AllocError> {
+        self.pipeline.start_span(alloc, builder, parent)
+    }
+}
+
+/// The sampler, generator of ids and clock of a provider, and a scope: what its tracers start spans
+/// by. Not in the Rust crate.
 ///
 /// A span has its parent's trace id, or a new one if it is a root, and a new span id. Its sampler
 /// decides whether it records. Under suppressed telemetry, or once its provider is shut down, a span
 /// has no ids and doesn't record. If the generator of ids fails, a span doesn't record and has the
 /// span context of its parent, and the provider counts it.
 ///
-/// It doesn't implement the API's `Tracer` yet.
-///
 /// See [`crate::trace::SdkTracerProvider`].
 #[derive(Drop)]
-pub struct SdkTracer<S, G, C> {
+pub struct TracerPipeline<S, G, C> {
     pub(crate) provider: Rc<TracerProviderInner<S, G, C>>,
     pub(crate) scope: Rc<InstrumentationScope>,
 }
 
-impl<S, G, C> Model for SdkTracer<S, G, C> {
+impl<S, G, C> Model for TracerPipeline<S, G, C> {
     ghost use Rattle.std.specs.Rc.{rc_value};
     ghost use Rattle.otel_sdk.specs.Tracer.{TracerState};
 
@@ -62,7 +123,7 @@ fn without_ids(parent: Option<&SpanContext>) -> Result<SdkSpan, AllocError>
     }
 }
 
-impl<S: ShouldSample, G: IdGenerator, C: Clock> SdkTracer<S, G, C> {
+impl<S: ShouldSample, G: IdGenerator, C: Clock> TracerPipeline<S, G, C> {
     /// Returns the given moment, or else the clock's.
     fn start_time(&self, given: Option<u64>) -> u64
         ensures { result ≡ unwrap_or given result }
@@ -141,22 +202,25 @@ impl<S: ShouldSample, G: IdGenerator, C: Clock> SdkTracer<S, G, C> {
         }
         self.record(alloc, builder, parent, span_context, answer.attributes)
     }
+}
 
-    /// Starts a span from a builder under a parent context, as the API's `Tracer` does.
+impl<S: ShouldSample, G: IdGenerator, C: Clock> Pipeline for TracerPipeline<S, G, C> {
+    ghost use Rattle.otel_sdk.specs.Tracer as spec;
+
+    ghost may_start = { λ pipeline builder parent span. spec.MayBuild (S.answer pipeline.sampler)
+        (G.random pipeline.id_generator) pipeline.limits pipeline.scope builder parent span };
+
+    /// Starts a span from a builder under a parent context.
     ///
     /// # Errors
     ///
     /// `AllocError` if out of memory. The builder is dropped.
-    pub fn build_with_context(
+    fn start_span(
         &self,
         alloc: Global,
         builder: SpanBuilder,
         parent: &Context,
-    ) -> Result<SdkSpan, AllocError>
-        ensures { IfOk result (spec.MayBuild (S.answer self.now.sampler)
-            (G.random self.now.id_generator) self.now.limits self.now.scope (builder_of builder)
-            parent.now) }
-    {
+    ) -> Result<SdkSpan, AllocError> {
         if parent.is_telemetry_suppressed() || self.provider.is_shut_down.get() {
             return Ok(SdkSpan::without_data(SpanContext::NONE));
         }

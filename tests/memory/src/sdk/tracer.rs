@@ -1,12 +1,16 @@
 //! Providers and tracers.
 use crate::lines::Lines;
-use opentelemetry::trace::SpanBuilder;
+use opentelemetry::trace::{SpanBuilder, Tracer, TracerProvider};
 use opentelemetry::{Context, InstrumentationScope, Key, KeyValue, StringValue, Value};
 use otel_sdk::resource::Resource;
-use otel_sdk::trace::{CountedIdGenerator, ManualClock, Sampler, SdkTracer, SdkTracerProvider};
+use otel_sdk::trace::{
+    CountedIdGenerator, ManualClock, Sampler, SdkTracer, SdkTracerProvider, TracerPipeline,
+};
 use std::alloc::{AllocError, Global};
 
 type Provider = SdkTracerProvider<Sampler, CountedIdGenerator, ManualClock>;
+
+type Pipeline = TracerPipeline<Sampler, CountedIdGenerator, ManualClock>;
 
 pub fn play<R: Print>(rt: HostRuntime, lines: &Lines<'_, R>) {
     let alloc = rt.alloc();
@@ -63,9 +67,7 @@ fn tracer_of_scope<R: Print>(rt: HostRuntime, lines: &Lines<'_, R>) -> Result<()
     Ok(())
 }
 
-fn tracer(
-    rt: HostRuntime,
-) -> Result<SdkTracer<Sampler, CountedIdGenerator, ManualClock>, AllocError> {
+fn tracer(rt: HostRuntime) -> Result<SdkTracer<Pipeline>, AllocError> {
     provider(rt)?.tracer(rt.alloc(), StringValue::from("lib"))
 }
 

@@ -4,7 +4,7 @@ use Rattle.otel_sdk.specs.Sampler.{result_of}
 use Rattle.otel_sdk.specs.Tracer as spec
 use Rattle.otel_sdk.proofs.Outcomes.{weaken}
 use Rattle.otel_sdk.proofs.Starts.{recorded}
-use Rattle.otel_sdk.proofs.trace.tracer.SdkTracer.start_with_ids.Goals as goal
+use Rattle.otel_sdk.proofs.trace.tracer.TracerPipeline.start_with_ids.Goals as goal
 
 pub returns : goal.returns
 returns g c =
