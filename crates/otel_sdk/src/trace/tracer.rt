@@ -35,7 +35,7 @@ pub trait Pipeline: Drop {
     /// # Errors
     ///
     /// `AllocError` if out of memory. The builder is dropped.
-    fn start_span(
+    fn build_with_context(
         &self,
         alloc: Global,
         builder: SpanBuilder,
@@ -76,7 +76,7 @@ impl<P: Pipeline> Tracer for SdkTracer<P> {
         builder: SpanBuilder,
         parent: &Context,
     ) -> Result<SdkSpan, AllocError> {
-        self.pipeline.start_span(alloc, builder, parent)
+        self.pipeline.build_with_context(alloc, builder, parent)
     }
 }
 
@@ -215,7 +215,7 @@ impl<S: ShouldSample, G: IdGenerator, C: Clock> Pipeline for TracerPipeline<S, G
     /// # Errors
     ///
     /// `AllocError` if out of memory. The builder is dropped.
-    fn start_span(
+    fn build_with_context(
         &self,
         alloc: Global,
         builder: SpanBuilder,
