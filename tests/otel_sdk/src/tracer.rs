@@ -1,8 +1,8 @@
 //! Which ids, flags and parents spans get, with worked cases.
 use opentelemetry::context::ContextStack;
 use opentelemetry::trace::{
-    Link, Run, Span, SpanBuilder, SpanContext, SpanId, SpanKind, Spans, TraceFlags,
-    TraceId, TraceState, Tracer, TracerProvider,
+    Link, Run, Span, SpanBuilder, SpanContext, SpanId, SpanKind, Spans, TraceFlags, TraceId,
+    TraceState, Tracer, TracerProvider,
 };
 use opentelemetry::{Context, Key, KeyValue, StringValue, Value};
 use otel_sdk::resource::Resource;
@@ -229,30 +229,40 @@ fn the_sampler_decides(rt: HostRuntime) -> Result<(), Fail> {
     Ok(())
 }
 
+/// The ids of the context's span.
+fn ids_of(context: Context) -> (TraceId, SpanId) {
+    let span_context = context.span_context();
+    (span_context.trace_id(), span_context.span_id())
+}
+
 /// What a library does that knows only the API: handles a request `a=1` in a span, and a query in
-/// a span inside. Returns the span contexts that both saw, and the number of the request's span.
+/// a span inside. Returns the ids that both saw, and the number of the request's span.
 fn handle<T: Tracer>(
     alloc: Global,
     tracer: &T,
     stack: &mut ContextStack,
     spans: &mut Spans<T::Span>,
-) -> Result<(Vec<SpanContext>, u64), Fail> {
+) -> Result<([(TraceId, SpanId); 2], u64), Fail> {
     let a = KeyValue::new(Key::from("a"), Value::I64(1));
     let builder = work().with_attributes(vec![in alloc; a]?);
     let name = StringValue::from("query");
-    let seen = |stack: &mut ContextStack, spans: &mut Spans<T::Span>, context: Context| {
+    let request = |stack: &mut ContextStack, spans: &mut Spans<T::Span>, context: Context| {
         let query = |_stack: &mut ContextStack, _spans: &mut Spans<T::Span>, context: Context| {
-            context.span_context().clone()
+            ids_of(context)
         };
         let inner = tracer.in_span(alloc, stack, spans, name, Run(query));
-        (context.span_context().clone(), inner)
+        (ids_of(context), inner)
     };
-    let Ok(((outer, Ok((inner, _))), number)) =
-        tracer.in_span_with_builder(alloc, stack, spans, builder, Run(seen))
-    else {
+    let Ok(((outer, Ok((inner, _))), number)) = tracer.in_span_with_builder(
+        alloc,
+        stack,
+        spans,
+        builder,
+        Run(request),
+    ) else {
         return Err(Fail::from(AllocError));
     };
-    Ok((vec![in alloc; outer?, inner?]?, number))
+    Ok(([outer, inner], number))
 }
 
 #[test]
@@ -270,8 +280,8 @@ fn a_library_over_the_api_runs_in_spans(rt: HostRuntime) -> Result<(), Fail> {
     let mut spans = Spans::new(alloc);
     let (seen, number) = handle(alloc, &tracer, &mut stack, &mut spans)?;
     assert!(rt; stack.newest_position() == 0 && spans.len() == 2);
-    assert!(rt; seen[0].trace_id() == TraceId::from(1) && seen[0].span_id() == SpanId::from(1));
-    assert!(rt; seen[1].trace_id() == TraceId::from(1) && seen[1].span_id() == SpanId::from(2));
+    assert!(rt; seen[0] == (TraceId::from(1), SpanId::from(1)));
+    assert!(rt; seen[1] == (TraceId::from(1), SpanId::from(2)));
     let Some(data) = spans.get(number).and_then(SdkSpan::data) else {
         assert!(rt; false);
         return Ok(());
@@ -281,7 +291,7 @@ fn a_library_over_the_api_runs_in_spans(rt: HostRuntime) -> Result<(), Fail> {
     assert!(rt; data.attributes[1] == KeyValue::new(Key::from("s"), Value::I64(1)));
     provider.shutdown();
     let (seen, number) = handle(alloc, &tracer, &mut stack, &mut spans)?;
-    assert!(rt; seen[0] == SpanContext::NONE && seen[1] == SpanContext::NONE);
+    assert!(rt; seen == [(TraceId::INVALID, SpanId::INVALID); 2]);
     assert!(rt; spans.get(number).is_some_and(|span| !span.is_recording()));
     Ok(())
 }
