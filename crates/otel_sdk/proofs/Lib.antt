@@ -1,5 +1,6 @@
 mod BatchLemmas
 pub mod DrawLemmas
+pub mod EndLemmas
 mod FirstChars
 pub mod Lists
 pub mod Outcomes

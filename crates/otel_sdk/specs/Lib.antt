@@ -1,5 +1,6 @@
 pub mod Attributes
 pub mod Clock
+pub mod Ended
 pub mod Export
 pub mod IdGenerator
 pub mod ParentBased

@@ -2,6 +2,7 @@
 //! exporters: that calls succeed, texts as printed, and worked cases.
 #![tactic(auto)]
 
+mod ended;
 mod exporter;
 mod id_generator;
 mod processor;

@@ -47,15 +47,15 @@ pub fn span(alloc: Global, number: u64, flags: u8) -> Result<SpanData, AllocErro
 /// An exporter with a plan: at `+` it accepts a batch, and else refuses it. It writes down each
 /// batch as the spans' numbers in brackets, with a `!` if it refuses it.
 #[derive(Drop)]
-struct Planned {
+pub struct Planned {
     kept: InMemorySpanExporter,
     plan: &'static [u8],
-    log: String,
+    pub log: String,
     flushes: u8,
 }
 
 impl Planned {
-    fn new(alloc: Global, plan: &'static str) -> Planned {
+    pub fn new(alloc: Global, plan: &'static str) -> Planned {
         Planned {
             kept: InMemorySpanExporter::new(alloc),
             plan: plan.as_bytes(),
@@ -102,7 +102,7 @@ impl SpanExporter for Planned {
 }
 
 /// Writes down the error of a call: `closed` or `failed`.
-fn report(errors: &mut String, error: &OTelSdkError) -> Result<(), AllocError> {
+pub fn report(errors: &mut String, error: &OTelSdkError) -> Result<(), AllocError> {
     errors.push_str(match error {
         OTelSdkError::AlreadyShutdown => " closed",
         _ => " failed",

@@ -1,13 +1,13 @@
 //! Processors and exporters of spans.
 use crate::lines::Lines;
 use opentelemetry::trace::{
-    SpanContext, SpanId, SpanKind, Status, TraceFlags, TraceId, TraceState,
+    Span, SpanContext, SpanId, SpanKind, Spans, Status, TraceFlags, TraceId, TraceState,
 };
 use opentelemetry::{InstrumentationScope, StringValue};
 use otel_sdk::error::OTelSdkResult;
 use otel_sdk::trace::{
-    BatchSpanProcessor, EndRefused, InMemorySpanExporter, SimpleSpanProcessor, SpanData,
-    SpanEvents, SpanExporter, SpanLinks, SpanProcessor,
+    BatchSpanProcessor, EndRefused, InMemorySpanExporter, SdkSpan, SimpleSpanProcessor, SpanData,
+    SpanEvents, SpanExporter, SpanLimits, SpanLinks, SpanProcessor,
 };
 use std::alloc::{AllocError, Global};
 use std::rc::Rc;
@@ -15,6 +15,12 @@ use std::rc::Rc;
 pub fn play<R: Print>(alloc: Global, lines: &Lines<'_, R>) {
     if lines.begin("batch-processor-on-end") {
         lines.end(end_queued(alloc, lines));
+    }
+    if lines.begin("batch-processor-on-end-of") {
+        lines.end(end_numbered(alloc, lines));
+    }
+    if lines.begin("batch-processor-collect") {
+        lines.end(collect(alloc, lines));
     }
     if lines.begin("batch-processor-force-flush") {
         lines.end(flush(alloc, lines));
@@ -94,6 +100,40 @@ fn end_queued<R: Print>(alloc: Global, lines: &Lines<'_, R>) -> Result<(), Alloc
     let mut processor = processor(alloc);
     let count = ended(lines, processor.on_end(span), 1);
     lines.due(processor.queued_spans() == count && processor.dropped_spans() == 0);
+    Ok(())
+}
+
+/// A table with two sampled spans that have ended.
+fn ended_spans(alloc: Global) -> Result<Spans<SdkSpan>, AllocError> {
+    let mut spans = Spans::new(alloc);
+    for _ in 0..2 {
+        let mut span = SdkSpan::new(alloc, span(alloc)?, SpanLimits::default())?;
+        span.end(9);
+        if spans.insert(span).is_err() {
+            return Err(AllocError);
+        }
+    }
+    Ok(spans)
+}
+
+fn end_numbered<R: Print>(alloc: Global, lines: &Lines<'_, R>) -> Result<(), AllocError> {
+    let mut spans = ended_spans(alloc)?;
+    let mut processor = processor(alloc);
+    let answer = processor.on_end_of(&mut spans, 1);
+    let taken = if answer.is_ok() { 1 } else { 0 };
+    lines.answer_named("taken", answer);
+    lines.due(processor.queued_spans() == taken && spans.len() == 2 - taken);
+    Ok(())
+}
+
+fn collect<R: Print>(alloc: Global, lines: &Lines<'_, R>) -> Result<(), AllocError> {
+    let mut spans = ended_spans(alloc)?;
+    let mut ended = vec![in alloc; 1, 0]?;
+    let mut processor = processor(alloc);
+    let answer = processor.collect(&mut spans, &mut ended);
+    let taken = if answer.is_ok() { 2 } else { 0 };
+    lines.answer_named("collected", answer);
+    lines.due(processor.queued_spans() == taken && spans.len() == ended.len());
     Ok(())
 }
 

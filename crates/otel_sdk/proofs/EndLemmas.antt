@@ -1,0 +1,183 @@
+-- Ended spans on their way to a processor: none is lost.
+use Rattle.std.proofs.Common.{◌≡◌, ℕ, zero, suc, ◌+◌, ◌-◌, ◌^◌, min, Bool, true, false, cond, List, [], ◌∷◌, ◌++◌, length}
+use Rattle.std.proofs.Common.{take, drop, map, fold, Option, Some, None, refl, sym, ap, subst, ◌∙◌, arith, append_assoc}
+use Rattle.std.specs.Prelude.{◌==◌, if◌then◌else◌, nat_lt}
+use Rattle.std.specs.List.{filter_map, IsDistinct, AllByRecursion, cons_option}
+use Rattle.std.specs.Ordering.{nat_cmp, eq_by_cmp, is_eq}
+use Rattle.std.specs.Cmp.{nat_cmp_total, eq_by_cmp_equiv, unsigned_Decides}
+use Rattle.std.specs.FinMap as map
+use Rattle.std.specs.declared.cmp.Ordering.{Ordering}
+use Rattle.std.specs.declared.cmp.Ordering.TheVariants.{Less, Equal, Greater}
+use Rattle.std.proofs.lemmas.Cmp.{nat_eq_equiv}
+use Rattle.std.proofs.lemmas.List.{map-append, length-append, append-nil}
+use Rattle.std.proofs.lemmas.List.Elements.{filter_map-append}
+use Rattle.otel_context.specs.Spans as table
+use Rattle.otel_context.specs.Spans.{SpansState}
+use Rattle.otel_sdk.specs.Ended.{Collecting, Fate, NothingLost, after_end_of, after_end_if, dropped, ended_data, exported}
+use Rattle.otel_sdk.specs.Ended.{AreListed, is_ended, kept, waiting, without_ended}
+use Rattle.otel_sdk.specs.Export.{spans_of}
+use Rattle.otel_sdk.specs.Processor.{ProcessorState, counted, is_sampled, one_more, queued, taken_of}
+use Rattle.otel_sdk.specs.Span.{SpanState}
+use Rattle.otel_sdk.specs.SpanData.{SpanRecord}
+
+-- ---- what waits after a span has left the table
+
+equal_of : (r : Ordering) → is_eq r ≡ true → r ≡ Equal
+equal_of Less e = cc
+equal_of Equal e = refl
+equal_of Greater e = cc
+
+same_bool : (b c : Bool) → (b ≡ true → c ≡ true) → (c ≡ true → b ≡ true) → b ≡ c
+same_bool true c f g = sym (f refl)
+same_bool false true f g = g refl
+same_bool false false f g = refl
+
+-- `==` tells numbers apart as their order does
+flipped : (k q : ℕ) → eq_by_cmp nat_cmp q k ≡ (k == q)
+flipped k q = same_bool (eq_by_cmp nat_cmp q k) (q == k)
+    (λ e. (unsigned_Decides q k).1 (map.nat_cmp-IsAntisymmetric q k (equal_of (nat_cmp q k) e)))
+    (λ e. sym (ap (λ x. eq_by_cmp nat_cmp q x) ((unsigned_Decides q k).0 e)) ∙ (eq_by_cmp_equiv nat_cmp_total).refl q)
+    ∙ nat_eq_equiv.symm q k
+
+module _ (spans : SpansState SpanState) (n : ℕ) where
+  get_other : (m : ℕ) → (n == m) ≡ false → table.get (table.take spans n) m ≡ table.get spans m
+  get_other m e = map.get-remove nat_cmp_total spans.spans n m
+      ∙ ap (λ (b : Bool). cond b None (map.get spans.spans m)) (flipped n m ∙ e)
+
+  others_wait : (ns : List ℕ) → AllByRecursion (λ m. n == m ≡ false) ns
+      → waiting (table.take spans n) ns ≡ waiting spans ns
+  others_wait [] h = refl
+  others_wait (m ∷ ns) h =
+      ap (λ (o : Option SpanState). cons_option (exported (ended_data o)) (waiting (table.take spans n) ns)) (get_other m h.0)
+      ∙ ap (λ (xs : List SpanRecord). cons_option (exported (ended_data (table.get spans m))) xs) (others_wait ns h.1)
+
+  left_waiting : (b : Bool) (ns : List ℕ) → AllByRecursion (λ m. n == m ≡ false) ns
+      → waiting (if b then table.take spans n else spans) ns ≡ waiting spans ns
+  left_waiting true ns h = others_wait ns h
+  left_waiting false ns h = refl
+
+  others_listed : (ns : List ℕ) → AllByRecursion (λ m. n == m ≡ false) ns
+      → AllByRecursion (λ m. is_ended (table.get spans m) ≡ true) ns
+      → AllByRecursion (λ m. is_ended (table.get (table.take spans n) m) ≡ true) ns
+  others_listed [] h a = a
+  others_listed (m ∷ ns) h a = (ap is_ended (get_other m h.0) ∙ a.0, others_listed ns h.1 a.1)
+
+  left_listed : (b : Bool) (ns : List ℕ) → AllByRecursion (λ m. n == m ≡ false) ns
+      → AllByRecursion (λ m. is_ended (table.get spans m) ≡ true) ns
+      → AllByRecursion (λ m. is_ended (table.get (if b then table.take spans n else spans) m) ≡ true) ns
+  left_listed true ns h a = others_listed ns h a
+  left_listed false ns h a = a
+
+-- ---- the data of one span, handed in
+
+up_to : (n m : ℕ) → m ≡ n + 1 → min (min n (2 ^ 64 - 1) + 1) (2 ^ 64 - 1) ≡ min m (2 ^ 64 - 1)
+up_to n m e = grind arith
+
+module _ {E : Type 0} (accepted : E → List (List SpanRecord)) (earlier ends : List SpanRecord) where
+  -- what is known while the data waits
+  pub record Before (rest : List SpanRecord) (p : ProcessorState E) (fates : List Fate) : Type 0 where
+    pub ended : ends ≡ map (λ f. f.span) fates ++ rest
+    pub taken : spans_of (accepted p.exporter) ++ p.queue ≡ earlier ++ filter_map kept fates
+    pub counted : p.dropped_spans ≡ min (length (filter_map dropped fates)) (2 ^ 64 - 1)
+
+  with_fate : (d : SpanRecord) (b : Bool) (rest : List SpanRecord) (fates : List Fate)
+      → ends ≡ map (λ f. f.span) fates ++ d ∷ rest
+      → ends ≡ map (λ (f : Fate). f.span) (fates ++ record { span = d; is_dropped = b } ∷ []) ++ rest
+  with_fate d b rest fates e =
+      let last : Fate = record { span = d; is_dropped = b } in
+      e ∙ sym (append_assoc (map (λ (f : Fate). f.span) fates) (d ∷ []) rest)
+      ∙ ap (λ (xs : List SpanRecord). xs ++ rest) (sym (map-append (λ (f : Fate). f.span) fates (last ∷ [])))
+
+  one : (sampled room : Bool) (d : SpanRecord) (rest : List SpanRecord) (p : ProcessorState E) (fates : List Fate)
+      → Before (cons_option (if sampled then Some d else None) rest) p fates
+      → (after : List Fate) × Before rest
+      (if sampled then (if room then queued d p else counted p) else p) after
+  one false room d rest p fates h = (fates, h)
+  one true true d rest p fates h =
+      let last : Fate = record { span = d; is_dropped = false } in (
+        fates ++ last ∷ [],
+        record {
+          ended = with_fate d false rest fates h.ended;
+          taken = sym (append_assoc (spans_of (accepted p.exporter)) p.queue (d ∷ []))
+              ∙ ap (λ (xs : List SpanRecord). xs ++ d ∷ []) h.taken
+              ∙ append_assoc earlier (filter_map kept fates) (d ∷ [])
+              ∙ ap (λ (xs : List SpanRecord). earlier ++ xs) (sym (filter_map-append kept fates (last ∷ [])));
+          counted = h.counted
+              ∙ ap (λ (n : ℕ). min n (2 ^ 64 - 1)) (sym (ap length (filter_map-append dropped fates (last ∷ []))
+              ∙ length-append (filter_map dropped fates) [] ∙ (omega arith)));
+        },
+      )
+  one true false d rest p fates h =
+      let last : Fate = record { span = d; is_dropped = true } in (
+        fates ++ last ∷ [],
+        record {
+          ended = with_fate d true rest fates h.ended;
+          taken = h.taken
+              ∙ ap (λ (xs : List SpanRecord). earlier ++ xs)
+              (sym (filter_map-append kept fates (last ∷ []) ∙ append-nil (filter_map kept fates)));
+          counted = ap one_more h.counted
+              ∙ up_to (length (filter_map dropped fates)) (length (filter_map dropped (fates ++ last ∷ [])))
+              (ap length (filter_map-append dropped fates (last ∷ [])) ∙ length-append (filter_map dropped fates) (last.span ∷ []));
+        },
+      )
+
+  any : (o : Option SpanRecord) (rest : List SpanRecord) (p : ProcessorState E) (fates : List Fate)
+      → Before (cons_option (exported o) rest) p fates
+      → (after : List Fate) × Before rest (after_end_if o p) after
+  any None rest p fates h = (fates, h)
+  any (Some d) rest p fates h =
+      one (is_sampled d) (nat_lt (length p.queue) p.config.max_queue_size) d rest p fates h
+
+  -- ---- many spans
+
+  step : (c : Collecting E) (n : ℕ) (ns : List ℕ) → AllByRecursion (λ m. n == m ≡ false) ns
+      → NothingLost accepted earlier ends c (n ∷ ns)
+      → NothingLost accepted earlier ends (after_end_of c n) ns
+  step c n ns distinct h =
+      let o : Option SpanState = table.get c.spans n in
+      let got = any (ended_data o) (waiting c.spans ns) c.processor h.fates
+      (record { ended = h.ended; taken = h.taken; counted = h.counted }) in
+      record {
+        fates = got.0;
+        ended = got.1.ended ∙ ap (λ (xs : List SpanRecord). map (λ (f : Fate). f.span) got.0 ++ xs)
+            (sym (left_waiting c.spans n (is_ended o) ns distinct));
+        taken = got.1.taken;
+        counted = got.1.counted;
+      }
+
+  pub steps : (k : ℕ) (ns : List ℕ) (c : Collecting E) → IsDistinct ◌==◌ ns
+      → NothingLost accepted earlier ends c ns
+      → NothingLost accepted earlier ends (fold after_end_of c (take k ns)) (drop k ns)
+  unfolding IsDistinct
+  steps zero ns c d h = h
+  steps (suc k) [] c d h = h
+  steps (suc k) (n ∷ ns) c d h = steps k ns (after_end_of c n) d.1 (step c n ns d.0 h)
+
+  pub loses_nothing : (numbers same left : List ℕ) (k : ℕ) (old new : Collecting E) → same ≡ numbers
+      → new ≡ fold after_end_of old (take k same) → left ≡ drop k numbers → IsDistinct ◌==◌ numbers
+      → NothingLost accepted earlier ends old numbers → NothingLost accepted earlier ends new left
+  loses_nothing numbers same left k old new s e r d h =
+      subst (λ (c : Collecting E). NothingLost accepted earlier ends c left)
+      (sym (e ∙ ap (λ (ns : List ℕ). fold after_end_of old (take k ns)) s))
+      (subst (λ (ns : List ℕ). NothingLost accepted earlier ends (fold after_end_of old (take k numbers)) ns) (sym r)
+      (steps k numbers old d h))
+
+module _ {E : Type 0} where
+  stay_listed : (k : ℕ) (ns : List ℕ) (c : Collecting E) → AreListed c.spans ns
+      → AreListed (fold after_end_of c (take k ns)).spans (drop k ns)
+  unfolding IsDistinct
+  stay_listed zero ns c h = h
+  stay_listed (suc k) [] c h = h
+  stay_listed (suc k) (n ∷ ns) c h = stay_listed k ns (after_end_of c n) (record {
+    ended = left_listed c.spans n (is_ended (table.get c.spans n)) ns h.distinct.0 h.ended.1;
+    distinct = h.distinct.1;
+  })
+
+  pub stays_listed : (numbers same left : List ℕ) (k : ℕ) (old new : Collecting E) → same ≡ numbers
+      → new ≡ fold after_end_of old (take k same) → left ≡ drop k numbers
+      → AreListed old.spans numbers → AreListed new.spans left
+  stays_listed numbers same left k old new s e r h =
+      subst (λ (c : Collecting E). AreListed c.spans left)
+      (sym (e ∙ ap (λ (ns : List ℕ). fold after_end_of old (take k ns)) s))
+      (subst (λ (ns : List ℕ). AreListed (fold after_end_of old (take k numbers)).spans ns) (sym r)
+      (stay_listed k numbers old h))

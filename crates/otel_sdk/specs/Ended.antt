@@ -1,0 +1,107 @@
+-- How the ended spans of a table get to a processor.
+use Rattle.std.specs.Prelude.{◌≡◌, ℕ, ◌-◌, ◌^◌, ◌≤◌, min, Bool, false, true, List, ◌++◌}
+use Rattle.std.specs.Prelude.{length, take, drop, ◌==◌}
+use Rattle.std.specs.Prelude.{map, fold, Option, Some, None, if◌then◌else◌}
+use Rattle.std.specs.List.{filter_map, AllByRecursion, IsDistinct}
+use Rattle.otel_context.specs.Spans as table
+use Rattle.otel_context.specs.Spans.{SpansState}
+use Rattle.otel_sdk.specs.Processor.{ProcessorState, after_end, is_sampled, taken_of}
+use Rattle.otel_sdk.specs.Span.{SpanState}
+use Rattle.otel_sdk.specs.SpanData.{SpanRecord}
+
+-- whether there is such a span and it has ended
+abbrev pub is_ended : Option SpanState → Bool
+is_ended None = false
+is_ended (Some s) = s.has_ended
+
+-- what such a span has recorded, if it has ended and recorded at all
+abbrev pub ended_data : Option SpanState → Option SpanRecord
+ended_data None = None
+ended_data (Some s) = if s.has_ended then s.recorded else None
+
+-- whether a span with this data is exported
+abbrev pub is_exported : Option SpanRecord → Bool
+is_exported None = false
+is_exported (Some span) = is_sampled span
+
+-- the table without the span under the number if that has ended, and else as it is
+abbrev pub without_ended : SpansState SpanState → ℕ → SpansState SpanState
+without_ended spans number =
+    if is_ended (table.get spans number) then table.take spans number else spans
+
+-- the data, if the span is exported
+abbrev pub exported : Option SpanRecord → Option SpanRecord
+exported None = None
+exported (Some span) = if is_sampled span then Some span else None
+
+-- The sampled spans that have ended and aren't collected: those of the table under these numbers, in
+-- this order.
+abbrev pub waiting : SpansState SpanState → List ℕ → List SpanRecord
+waiting spans numbers =
+    filter_map (λ number. exported (ended_data (table.get spans number))) numbers
+
+-- each of the numbers is that of a span that has ended, and none stands twice
+pub record AreListed (spans : SpansState SpanState) (numbers : List ℕ) : Type 0 where
+  pub ended : AllByRecursion (λ number. is_ended (table.get spans number) ≡ true) numbers
+  pub distinct : IsDistinct ◌==◌ numbers
+
+-- a sampled span that was collected, and whether it was dropped, as it met a full queue
+pub record Fate : Type 0 where
+  pub span : SpanRecord
+  pub is_dropped : Bool
+
+-- the span, if it was kept
+abbrev pub kept : Fate → Option SpanRecord
+kept f = if f.is_dropped then None else Some f.span
+
+-- the span, if it was dropped
+abbrev pub dropped : Fate → Option SpanRecord
+dropped f = if f.is_dropped then Some f.span else None
+
+-- a processor, and the table whose spans it takes
+pub record Collecting (E : Type 0) : Type 0 where
+  pub processor : ProcessorState E
+  pub spans : SpansState SpanState
+
+module _ {E : Type 0} where
+  -- these two
+  abbrev pub of : ProcessorState E → SpansState SpanState → Collecting E
+  of processor spans = record { processor = processor; spans = spans }
+
+  -- the processor after the end of a span with this data, if there is one
+  abbrev pub after_end_if : Option SpanRecord → ProcessorState E → ProcessorState E
+  after_end_if None p = p
+  after_end_if (Some span) p = after_end span p
+
+  -- The span under the number leaves the table if it has ended, and its data is handed in.
+  abbrev pub after_end_of : Collecting E → ℕ → Collecting E
+  after_end_of c number = record {
+    processor = after_end_if (ended_data (table.get c.spans number)) c.processor;
+    spans = without_ended c.spans number;
+  }
+
+  -- The first of the numbers were handed in, in order and each once, and the others are left.
+  pub record AreCollected (numbers left : List ℕ) (old new : Collecting E) : Type 0 where
+    -- how many
+    pub count : ℕ
+    pub within : count ≤ length numbers
+    pub rest : left ≡ drop count numbers
+    pub handed_in : new ≡ fold after_end_of old (take count numbers)
+
+  -- Of the sampled spans that ended, in the order of their ends, each is in exactly one place: taken
+  -- (accepted by the exporter after what that had accepted earlier, or queued), waiting, or dropped
+  -- and counted. Those taken, followed by those that wait, are in that order (OpenTelemetry trace
+  -- SDK, "Span processor").
+  pub record NothingLost (accepted : E → List (List SpanRecord)) (earlier ends : List SpanRecord)
+      (c : Collecting E) (numbers : List ℕ) : Type 0 where
+    -- what became of those that were collected
+    pub fates : List Fate
+    pub ended : ends ≡ map (λ f. f.span) fates ++ waiting c.spans numbers
+    pub taken : (taken_of accepted c.processor).spans ≡ earlier ++ filter_map kept fates
+    pub counted : c.processor.dropped_spans ≡ min (length (filter_map dropped fates)) (2 ^ 64 - 1)
+
+  -- what lost nothing before loses nothing after
+  abbrev pub LosesNothing : (E → List (List SpanRecord)) → (numbers left : List ℕ)
+      → (old new : Collecting E) → Type 0
+  LosesNothing accepted numbers left old new = (earlier ends : List SpanRecord)
+      → NothingLost accepted earlier ends old numbers → NothingLost accepted earlier ends new left

@@ -1,0 +1,112 @@
+//! Taking ended spans out of a table, by number.
+ghost use Rattle.std.specs.Prelude.{◌≡◌, ◌≤◌, ◌==◌, false, [], length, take, fold, IfErr, OnOk, OnErr, IsTrue};
+ghost use Rattle.std.specs.List.{IsDistinct};
+ghost use Rattle.otel_sdk.specs.Processor.{cause};
+ghost use Rattle.otel_sdk.specs.Ended as spec;
+ghost use Rattle.otel_sdk.specs.Ended.{AreCollected, AreListed, LosesNothing};
+
+use super::BatchSpanProcessor;
+use crate::error::{OTelSdkError, OTelSdkResult};
+use crate::trace::export::SpanExporter;
+use crate::trace::span::SdkSpan;
+use opentelemetry::trace::Spans;
+
+/// Returns whether the span is exported at its end: it recorded and is sampled.
+fn is_exported(span: &SdkSpan) -> bool
+    ensures { result ≡ spec.is_exported span.now.recorded }
+{
+    match span.data() {
+        Some(data) => data.span_context.is_sampled(),
+        None => false,
+    }
+}
+
+impl<E: SpanExporter> BatchSpanProcessor<E> {
+    /// Takes the span with the number out of the table if it has ended, and queues it if it is
+    /// sampled, or drops and counts it if the queue is full. Does nothing if there is no such span
+    /// or it hasn't ended.
+    ///
+    /// # Errors
+    ///
+    /// `AlreadyShutdown` after [`SpanProcessor::shutdown`], else `Memory` if out of memory. Nothing
+    /// changes, and the span stays in the table.
+    ///
+    /// [`SpanProcessor::shutdown`]: crate::trace::SpanProcessor::shutdown
+    pub fn on_end_of(&mut self, spans: &mut Spans<SdkSpan>, number: u64) -> OTelSdkResult
+        ensures ok { OnOk result (spec.of self.new spans.new
+            ≡ spec.after_end_of (spec.of self.old spans.old) number) }
+        ensures open { OnOk result (self.old.is_shut_down ≡ false) }
+        ensures err { OnErr result (self.new ≡ self.old) }
+        ensures table { OnErr result (spans.new ≡ spans.old) }
+        ensures refused { IfErr result (λ error. error ≡ cause self.old) }
+    {
+        if self.is_shut_down {
+            return Err(OTelSdkError::AlreadyShutdown);
+        }
+        let is_exported = match spans.get(number) {
+            Some(span) if span.has_ended() => is_exported(span),
+            _ => return Ok(()),
+        };
+        let has_room = self.queue.len() < self.config.max_queue_size;
+        if is_exported && has_room {
+            self.queue.reserve(1)?;
+        }
+        let data = match spans.take(number) {
+            Some(span) => span.into_data(),
+            None => None,
+        };
+        match data {
+            Some(data) if is_exported && has_room => self.queue.push_reserved(data),
+            Some(_) if is_exported => self.dropped_spans = self.dropped_spans.saturating_add(1),
+            _ => (),
+        }
+        Ok(())
+    }
+
+    /// Takes the ended spans with these numbers, in order, as [`BatchSpanProcessor::on_end_of`]
+    /// does. Their numbers leave the list.
+    ///
+    /// # Errors
+    ///
+    /// `AlreadyShutdown` after [`SpanProcessor::shutdown`]: nothing changes. Else `Memory` if out
+    /// of memory: the numbers of the span that wasn't taken, and of those after it, stay in the
+    /// list, and these spans in the table.
+    ///
+    /// [`SpanProcessor::shutdown`]: crate::trace::SpanProcessor::shutdown
+    pub fn collect(&mut self, spans: &mut Spans<SdkSpan>, ended: &mut Vec<u64>) -> OTelSdkResult
+        ensures collected { AreCollected ended.old.items ended.new.items
+            (spec.of self.old spans.old) (spec.of self.new spans.new) }
+        ensures nothing_lost { IsDistinct ◌==◌ ended.old.items
+            → LosesNothing E.accepted ended.old.items ended.new.items
+            (spec.of self.old spans.old) (spec.of self.new spans.new) }
+        ensures listed { AreListed spans.old ended.old.items
+            → AreListed spans.new ended.new.items }
+        ensures ok { OnOk result (ended.new.items ≡ []) }
+        ensures open { OnOk result (self.old.is_shut_down ≡ false) }
+        ensures refused { IfErr result (λ error. error ≡ cause self.new) }
+        ensures closed { IsTrue self.old.is_shut_down → ended.new.items ≡ ended.old.items }
+    {
+        if self.is_shut_down {
+            return Err(OTelSdkError::AlreadyShutdown);
+        }
+        let (taken, outcome) = self.take_each(spans, ended.as_slice());
+        drop(ended.drain(..taken));
+        outcome
+    }
+
+    // Takes the spans with these numbers, until one is refused. Returns how many were taken.
+    fn take_each(&mut self, spans: &mut Spans<SdkSpan>, numbers: &[u64]) -> (usize, OTelSdkResult)
+        ensures within { result.0 ≤ length numbers.now }
+        ensures handed_in { spec.of self.new spans.new ≡ fold spec.after_end_of
+            (spec.of self.old spans.old) (take result.0 numbers.now) }
+        ensures ok { OnOk result.1 (result.0 ≡ length numbers.now) }
+        ensures refused { IfErr result.1 (λ error. error ≡ cause self.new) }
+    {
+        for (taken, number) in numbers.iter().enumerate() {
+            if let Err(error) = self.on_end_of(spans, *number) {
+                return (taken, Err(error));
+            }
+        }
+        (numbers.len(), Ok(()))
+    }
+}

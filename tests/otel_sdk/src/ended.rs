@@ -1,0 +1,196 @@
+//! How ended spans get from a table to an exporter: worked runs.
+use crate::processor::{Planned, report, span};
+use opentelemetry::trace::{Span, SpanContext, Spans};
+use otel_sdk::trace::{
+    BatchConfigBuilder, BatchSpanProcessor, InMemorySpanExporter, SdkSpan, SpanLimits,
+    SpanProcessor,
+};
+use std::alloc::Global;
+use std::test::Fail;
+
+/// A span that records, with this number for its span id.
+fn recording(alloc: Global, number: u64, flags: u8) -> Result<SdkSpan, Fail> {
+    Ok(SdkSpan::new(alloc, span(alloc, number, flags)?, SpanLimits::default())?)
+}
+
+/// Ends the span with the number, and lists the number if the span hadn't ended.
+fn end(spans: &mut Spans<SdkSpan>, ended: &mut Vec<u64>, number: u64) -> Result<(), Fail> {
+    if let Some(span) = spans.get_mut(number) {
+        if !span.has_ended() {
+            ended.push(number)?;
+            span.end_with_timestamp(9);
+        }
+    }
+    Ok(())
+}
+
+/// Makes the calls of a script: `s`, `r` and `d` start the next span, from number 1 on, as sampled,
+/// recorded only and not at all, `e1` ends the span 1, `c` collects, `f` flushes, and `x` shuts
+/// down. Returns the errors, and how many spans are left in the table.
+fn played(
+    alloc: Global,
+    processor: &mut BatchSpanProcessor<Planned>,
+    script: &'static str,
+) -> Result<(String, usize), Fail> {
+    let mut errors = String::new(alloc);
+    let mut spans = Spans::starting_at(alloc, 1);
+    let mut ended = Vec::new(alloc);
+    for call in script.split(' ') {
+        let next = spans.next_number();
+        let started = match call.as_bytes() {
+            [b's'] => Some(recording(alloc, next, 3)?),
+            [b'r'] => Some(recording(alloc, next, 2)?),
+            [b'd'] => Some(SdkSpan::without_data(SpanContext::NONE)),
+            _ => None,
+        };
+        if let Some(span) = started {
+            if spans.insert(span).is_err() {
+                return Err(Fail::from("no room for the span"));
+            }
+        }
+        let error = match call.as_bytes() {
+            [b'c'] => processor.collect(&mut spans, &mut ended).err(),
+            [b'f'] => processor.force_flush().err(),
+            [b'x'] => processor.shutdown().err(),
+            [b'e', number] => {
+                end(&mut spans, &mut ended, (*number - b'0') as u64)?;
+                None
+            }
+            _ => None,
+        };
+        if let Some(error) = error {
+            report(&mut errors, &error)?;
+        }
+    }
+    Ok((errors, spans.len()))
+}
+
+/// The limits of the queue and of a batch, the exporter's plan, the calls; the batches that the
+/// exporter is handed, the errors, and how many spans are left in the queue, were dropped, and are
+/// left in the table.
+type Row = (
+    usize,
+    usize,
+    &'static str,
+    &'static str,
+    &'static str,
+    &'static str,
+    usize,
+    u64,
+    usize,
+);
+
+const RUNS: &[Row] = &[
+    (4, 2, "++", "s s s e1 e2 e3 c f", "[1 2][3]", "", 0, 0, 0),
+    (
+        4,
+        2,
+        "-",
+        "s s s e1 e2 e3 c f",
+        "[1 2]!",
+        " failed",
+        3,
+        0,
+        0,
+    ),
+    (
+        4,
+        2,
+        "-++",
+        "s s s e1 e2 e3 c f f",
+        "[1 2]![1 2][3]",
+        " failed",
+        0,
+        0,
+        0,
+    ),
+    (
+        4,
+        2,
+        "+-+",
+        "s s s e1 e2 e3 c f s e4 c f",
+        "[1 2][3]![3 4]",
+        " failed",
+        0,
+        0,
+        0,
+    ),
+    (
+        4,
+        2,
+        "++",
+        "s s s s s s e1 e2 e3 e4 e5 e6 c f",
+        "[1 2][3 4]",
+        "",
+        0,
+        2,
+        0,
+    ),
+    (
+        4,
+        2,
+        "-++",
+        "s s s s e1 e2 e3 e4 c f s e5 c f",
+        "[1 2]![1 2][3 4]",
+        " failed",
+        0,
+        1,
+        0,
+    ),
+    (
+        4,
+        2,
+        "-+",
+        "s e1 c x s e2 c x s e3 c f x",
+        "[1]![1 2]",
+        " failed closed closed closed",
+        0,
+        0,
+        1,
+    ),
+    (4, 2, "+", "f c c s e1 e1 c f", "[1]", "", 0, 0, 0),
+    (4, 2, "+", "s s e2 e1 c f", "[2 1]", "", 0, 0, 0),
+    (4, 2, "+", "s r d e1 e2 e3 c f", "[1]", "", 0, 0, 0),
+    (4, 2, "+", "s e2 s e2 c f", "[2]", "", 0, 0, 1),
+    (2, 4, "+", "s s s e1 e2 e3 c f", "[1 2]", "", 0, 1, 0),
+];
+
+#[test]
+fn ended_spans_are_collected(rt: HostRuntime) -> Result<(), Fail> {
+    let alloc = rt.alloc();
+    for (queue, batch, plan, script, batches, errors, queued, dropped, left) in RUNS {
+        let config = BatchConfigBuilder::default()
+            .with_max_queue_size(*queue)
+            .with_max_export_batch_size(*batch)
+            .build();
+        let exporter = Planned::new(alloc, plan);
+        let mut processor = BatchSpanProcessor::new(alloc, exporter, config);
+        let (found, in_table) = played(alloc, &mut processor, script)?;
+        assert_eq!(rt; processor.exporter().log.as_str(), *batches, "{script}");
+        assert_eq!(rt; found.as_str(), *errors, "{script}");
+        assert_eq!(rt; processor.queued_spans(), *queued, "{script}");
+        assert_eq!(rt; processor.dropped_spans(), *dropped, "{script}");
+        assert_eq!(rt; in_table, *left, "{script}");
+    }
+    Ok(())
+}
+
+#[test]
+fn an_ended_span_is_taken_by_its_number(rt: HostRuntime) -> Result<(), Fail> {
+    let alloc = rt.alloc();
+    let exporter = InMemorySpanExporter::new(alloc);
+    let mut processor = BatchSpanProcessor::new(alloc, exporter, Default::default());
+    let mut spans = Spans::new(alloc);
+    assert!(rt; spans.insert(recording(alloc, 5, 1)?).is_ok());
+    assert!(rt; processor.on_end_of(&mut spans, 0).is_ok());
+    assert!(rt; processor.on_end_of(&mut spans, 1).is_ok());
+    assert_eq!(rt; (processor.queued_spans(), spans.len()), (0, 1));
+    let mut ended = Vec::new(alloc);
+    end(&mut spans, &mut ended, 0)?;
+    assert!(rt; processor.on_end_of(&mut spans, 0).is_ok());
+    assert_eq!(rt; (processor.queued_spans(), spans.len()), (1, 0));
+    assert!(rt; processor.collect(&mut spans, &mut ended).is_ok());
+    assert!(rt; ended.is_empty());
+    assert_eq!(rt; processor.queued_spans(), 1);
+    Ok(())
+}
