@@ -56,14 +56,22 @@ result_of r = record {
   trace_state = r.trace_state;
 }
 
+-- whether the parent is a span: neither of its ids is 0
+abbrev pub has_parent : SpanContextRecord → Bool
+has_parent parent = if nat_eq parent.trace_id 0 || nat_eq parent.span_id 0 then false else true
+
 -- ---- the built-in samplers
+
+-- the parent's trace state, and for a root the empty one
+abbrev pub parents_trace_state : SpanContextRecord → List Pair
+parents_trace_state parent = if has_parent parent then parent.trace_state else []
 
 -- that decision, with no attributes and the parent's trace state
 abbrev pub unchanged : SamplingDecision → Asked → Answer
 unchanged decision asked = record {
   decision = decision;
   attributes = [];
-  trace_state = (span_context asked.parent).trace_state;
+  trace_state = parents_trace_state (span_context asked.parent);
 }
 
 -- what becomes of a span of the trace
@@ -83,10 +91,6 @@ IsDescription (TraceIdRatioBased ratio) text =
     × (text ≡ codes "TraceIdRatioBased{" ++ number ++ codes "}")
 
 -- ---- `ParentBased`
-
--- whether the parent is a span: neither of its ids is 0
-abbrev pub has_parent : SpanContextRecord → Bool
-has_parent parent = if nat_eq parent.trace_id 0 || nat_eq parent.span_id 0 then false else true
 
 -- The answer of one of five samplers: of the first for a root, and else by whether the parent is
 -- remote and sampled: of a remote parent that is sampled, one that isn't, a local parent that is, one

@@ -170,15 +170,9 @@ fn a_root_has_new_ids_and_no_parent(rt: HostRuntime) -> Result<(), Fail> {
     )?;
     assert!(rt; seen(&counted) == ids(1, 1, 0x01, true));
     let no_span_id = under(alloc, 0, 0x01, false, "a=1")?;
-    let span = started(
-        rt,
-        Answers {
-            decision: SamplingDecision::RecordAndSample,
-        },
-        NINES,
-        &no_span_id,
-    )?;
+    let span = started(rt, Sampler::AlwaysOn, NINES, &no_span_id)?;
     assert!(rt; seen(&span) == ids(9, 9, 0x03, true));
+    assert!(rt; *span.span_context().trace_state() == TraceState::NONE);
     Ok(())
 }
 

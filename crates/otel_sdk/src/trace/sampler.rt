@@ -4,13 +4,14 @@ ghost use Rattle.std.specs.Float.{binary64};
 ghost use Rattle.otel_base.specs.View.{attribute_of};
 ghost use Rattle.otel_sdk.specs.Ratio.{bound, half, IsNumberText};
 ghost use Rattle.otel_sdk.specs.Sampler.{asked_of, result_of, decision_of, unchanged, IsDescription};
+ghost use Rattle.otel_sdk.specs.Sampler.{parents_trace_state};
 
 pub mod laws;
 pub(crate) mod parent_based;
 mod ratio;
 
 use crate::trace::sampler::ratio::{bound, number_text};
-use opentelemetry::trace::{Link, SpanKind, TraceId, TraceState};
+use opentelemetry::trace::{Link, SpanContext, SpanKind, TraceId, TraceState};
 use opentelemetry::{Context, KeyValue};
 use std::alloc::{AllocError, Global};
 use std::fmt::HasDigits;
@@ -125,6 +126,21 @@ fn half(trace_id: TraceId) -> u64
     low >> 1
 }
 
+/// Returns the trace state of the parent, or the empty one for a root: if one of its ids is 0.
+///
+/// # Errors
+///
+/// `AllocError` if the count of those that share the pairs is at its limit.
+fn parents_trace_state(parent: &SpanContext) -> Result<TraceState, AllocError>
+    ensures { IfOk result (λ state. state ≡ parents_trace_state parent.now) }
+{
+    if parent.is_valid() {
+        parent.trace_state().clone()
+    } else {
+        Ok(TraceState::NONE)
+    }
+}
+
 impl ShouldSample for Sampler {
     ghost use Rattle.otel_sdk.specs.Sampler.{decision_of, unchanged, IsDescription};
 
@@ -150,7 +166,7 @@ impl ShouldSample for Sampler {
         Ok(SamplingResult {
             decision: self.decide(trace_id),
             attributes: Vec::new(alloc),
-            trace_state: parent_context.span_context().trace_state().clone()?,
+            trace_state: parents_trace_state(parent_context.span_context())?,
         })
     }
 
