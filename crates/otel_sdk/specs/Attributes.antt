@@ -85,6 +85,7 @@ abbrev pub left_out : ℕ → Option ℕ → List Attribute → ℕ
 left_out limit length given = dropped limit [] (map (cut length) given)
 
 -- ---- the lists of the program
+-- what a list of the program means
 abbrev pub attributes_of : Vec KeyValue Global → List Attribute
 attributes_of list = map attribute_of list.items
 
