@@ -1,0 +1,147 @@
+//! The headers of HTTP as a carrier that texts are written to.
+ghost use Rattle.std.specs.Prelude.{◌≡◌, ◌+◌, IsTrue, IsErr, IfOk, OnOk, OnErr, Some, string_bytes};
+ghost use Rattle.std.specs.Prelude.{if◌then◌else◌};
+ghost use Rattle.http_header.specs.FieldName.{IsFieldName};
+ghost use Rattle.http_header.specs.FieldValue.{plain_value, IsVisibleAscii};
+ghost use Rattle.http_header.specs.HeaderMap.{insert, RefusesInsert};
+ghost use Rattle.opentelemetry.specs.Carrier.{lower};
+ghost use Rattle.opentelemetry.specs.Refusal.{is_refused};
+ghost use Rattle.otel_http.specs.Headers.{Refuses, text as text_of_value};
+
+use crate::value::read;
+use http_header::{
+    HeaderMap, HeaderMapError, HeaderName, HeaderNameError, HeaderValue, HeaderValueError,
+};
+use opentelemetry::propagation::{Injector, PropagationError};
+use std::alloc::{AllocError, Global};
+
+/// Headers that texts are written to (the Rust crate's `HeaderInjector` of `opentelemetry-http`).
+/// It has the headers until [`HeaderInjector::into_headers`] gives them back.
+#[derive(Drop)]
+pub struct HeaderInjector {
+    /// The headers.
+    pub headers: HeaderMap,
+    refusals: u64,
+}
+
+/// Returns the key as the name of a header.
+fn name_of(alloc: Global, key: &str) -> Result<HeaderName, PropagationError>
+    ensures ok { IfOk result (λ name. name ≡ lower key.now) }
+    ensures refused { IsTrue (is_refused result) → ¬ (IsFieldName key.now) }
+    ensures refuses { ¬ (IsFieldName key.now) → IsErr result }
+{
+    match HeaderName::from_bytes(alloc, key.as_bytes()) {
+        Ok(name) => Ok(name),
+        Err(HeaderNameError::Invalid) => Err(PropagationError::Refused),
+        Err(HeaderNameError::OutOfMemory) => Err(PropagationError::Memory(AllocError)),
+    }
+}
+
+/// Returns the text as the value of a header, which has it as its text.
+fn value_of(text: String) -> Result<HeaderValue, PropagationError>
+    ensures ok { IfOk result (λ value. value ≡ plain_value (string_bytes text)) }
+    ensures readable { OnOk result
+        (text_of_value (plain_value (string_bytes text)) ≡ Some (string_bytes text)) }
+    ensures refused { IsTrue (is_refused result) → ¬ (IsVisibleAscii (string_bytes text)) }
+    ensures refuses { ¬ (IsVisibleAscii (string_bytes text)) → IsErr result }
+{
+    match HeaderValue::from_string(text) {
+        Ok(value) => {
+            if read(&value).is_some() {
+                Ok(value)
+            } else {
+                Err(PropagationError::Refused)
+            }
+        }
+        Err(HeaderValueError::Invalid) => Err(PropagationError::Refused),
+        Err(HeaderValueError::OutOfMemory) => Err(PropagationError::Memory(AllocError)),
+    }
+}
+
+/// Puts the value in place of all those of the name.
+fn replace(
+    headers: &mut HeaderMap,
+    name: HeaderName,
+    value: HeaderValue,
+) -> Result<(), PropagationError>
+    ensures ok { OnOk result (headers.new ≡ insert headers.old name value) }
+    ensures refused { IsTrue (is_refused result) → RefusesInsert headers.old name }
+    ensures refuses { RefusesInsert headers.old name → IsErr result }
+    ensures err { OnErr result (headers.new ≡ headers.old) }
+{
+    match headers.insert(name, value) {
+        Ok(_) => Ok(()),
+        Err(HeaderMapError::MaxSizeReached) => Err(PropagationError::Refused),
+        Err(HeaderMapError::OutOfMemory) => Err(PropagationError::Memory(AllocError)),
+    }
+}
+
+/// Puts the value in place of all those of the key in lower case.
+fn put(headers: &mut HeaderMap, key: &str, value: String) -> Result<(), PropagationError>
+    ensures ok { OnOk result (headers.new
+        ≡ insert headers.old (lower key.now) (plain_value (string_bytes value))) }
+    ensures readable { OnOk result
+        (text_of_value (plain_value (string_bytes value)) ≡ Some (string_bytes value)) }
+    ensures refused { IsTrue (is_refused result)
+        → Refuses headers.old key.now (string_bytes value) }
+    ensures refuses { Refuses headers.old key.now (string_bytes value) → IsErr result }
+    ensures err { OnErr result (headers.new ≡ headers.old) }
+{
+    let name = name_of(*value.allocator(), key)?;
+    let value = value_of(value)?;
+    replace(headers, name, value)
+}
+
+impl HeaderInjector {
+    /// Returns an injector into the headers. It has refused nothing.
+    pub fn new(headers: HeaderMap) -> HeaderInjector
+        ensures headers { result.headers ≡ headers }
+        ensures refusals { result.refusals ≡ 0 }
+    {
+        HeaderInjector {
+            headers,
+            refusals: 0,
+        }
+    }
+
+    /// Returns the headers.
+    pub fn into_headers(self) -> HeaderMap
+        ensures { result ≡ self.headers }
+    {
+        let HeaderInjector {
+            headers,
+            refusals: _,
+        } = self;
+        headers
+    }
+
+    /// Counts a refusal, and returns it.
+    fn refuse(&mut self) -> Result<(), PropagationError>
+        ensures err { IsErr result }
+        ensures headers { self.new.headers ≡ self.old.headers }
+        ensures count { self.new.refusals
+            ≡ self.old.refusals + (if is_refused result then 1 else 0) }
+    {
+        match self.refusals.checked_add(1) {
+            Some(refusals) => {
+                self.refusals = refusals;
+                Err(PropagationError::Refused)
+            }
+            None => Err(PropagationError::Memory(AllocError)),
+        }
+    }
+}
+
+impl Injector for HeaderInjector {
+    ghost use Rattle.otel_http.specs.Headers.{texts};
+
+    ghost state = { λ i. record { texts = texts i.headers; refusals = i.refusals } };
+
+    fn set(&mut self, key: &str, value: String) -> Result<(), PropagationError> {
+        match put(&mut self.headers, key, value) {
+            Ok(()) => Ok(()),
+            Err(PropagationError::Refused) => self.refuse(),
+            Err(error) => Err(error),
+        }
+    }
+}
