@@ -4,6 +4,7 @@
 
 mod extractor;
 mod injector;
+pub mod there_and_back;
 mod value;
 
 pub use extractor::HeaderExtractor;

@@ -24,7 +24,14 @@ fn lists_are_joined_in_order(rt: HostRuntime) -> Result<(), Fail> {
     let alloc = rt.alloc();
     let two = read(alloc, &[("tracestate", b"a=1"), ("TraceState", b"b=2")])?;
     assert!(rt; two.get(alloc, "tracestate")? == Some("a=1,b=2"));
-    let three = read(alloc, &[("tracestate", b"a=1"), ("tracestate", b""), ("tracestate", b"b=2")])?;
+    let three = read(
+        alloc,
+        &[
+            ("tracestate", b"a=1"),
+            ("tracestate", b""),
+            ("tracestate", b"b=2"),
+        ],
+    )?;
     assert!(rt; three.get(alloc, "tracestate")? == Some("a=1,,b=2"));
     let baggage = read(alloc, &[("baggage", b"a=1;m"), ("baggage", b"b=2")])?;
     assert!(rt; baggage.get(alloc, "BAGGAGE")? == Some("a=1;m,b=2"));
@@ -41,7 +48,10 @@ fn lists_are_joined_in_order(rt: HostRuntime) -> Result<(), Fail> {
 #[test]
 fn a_traceparent_that_stands_twice_is_not_there(rt: HostRuntime) -> Result<(), Fail> {
     let alloc = rt.alloc();
-    let twice = read(alloc, &[("traceparent", b"00"), ("x", b"1"), ("traceparent", b"00")])?;
+    let twice = read(
+        alloc,
+        &[("traceparent", b"00"), ("x", b"1"), ("traceparent", b"00")],
+    )?;
     assert!(rt; twice.get(alloc, "traceparent")? == None);
     let keys = twice.keys(alloc)?;
     assert_eq!(rt; keys.len(), 1);

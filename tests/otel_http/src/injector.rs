@@ -30,7 +30,10 @@ fn has_one(headers: &HeaderMap, name: &str, value: &str) -> bool {
 #[test]
 fn a_value_replaces_all_of_its_name(rt: HostRuntime) -> Result<(), Fail> {
     let alloc = rt.alloc();
-    let old = headers(alloc, &[("traceparent", b"1"), ("x-id", b"2"), ("traceparent", b"3")])?;
+    let old = headers(
+        alloc,
+        &[("traceparent", b"1"), ("x-id", b"2"), ("traceparent", b"3")],
+    )?;
     let (answer, new) = set(alloc, old, "Traceparent", "v")?;
     assert!(rt; answer == Ok(()));
     assert!(rt; has_one(&new, "traceparent", "v"));

@@ -37,6 +37,6 @@ fn both_lines_of_a_trace_state_go_on_as_one(rt: HostRuntime) -> Result<(), Fail>
     let sent = forward(alloc, &propagator, &received)?;
     assert_eq!(rt; sent.len(), 2);
     assert!(rt; sent["traceparent"].as_bytes() == parent.as_bytes());
-    assert!(rt; sent["tracestate"].as_bytes() == b"a=1,b=2");
+    assert!(rt; sent["tracestate"].as_bytes() == b"a=1,b=2".as_slice());
     Ok(())
 }
