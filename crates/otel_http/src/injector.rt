@@ -7,6 +7,7 @@ ghost use Rattle.http_header.specs.HeaderMap.{insert, RefusesInsert};
 ghost use Rattle.opentelemetry.specs.Carrier.{lower};
 ghost use Rattle.opentelemetry.specs.Refusal.{is_refused};
 ghost use Rattle.otel_http.specs.Headers.{Refuses, text as text_of_value};
+ghost use Rattle.otel_http.specs.Injector.{carrier, state};
 
 use crate::value::read;
 use http_header::{
@@ -96,7 +97,7 @@ impl HeaderInjector {
     /// Returns an injector into the headers. It has refused nothing.
     pub fn new(headers: HeaderMap) -> HeaderInjector
         ensures headers { result.headers ≡ headers }
-        ensures refusals { result.refusals ≡ 0 }
+        ensures carrier { state result ≡ carrier headers 0 }
     {
         HeaderInjector {
             headers,
@@ -133,9 +134,9 @@ impl HeaderInjector {
 }
 
 impl Injector for HeaderInjector {
-    ghost use Rattle.otel_http.specs.Headers.{texts};
+    ghost use Rattle.otel_http.specs.Injector.{state as carrier_state};
 
-    ghost state = { λ i. record { texts = texts i.headers; refusals = i.refusals } };
+    ghost state = { λ i. carrier_state i };
 
     fn set(&mut self, key: &str, value: String) -> Result<(), PropagationError> {
         match put(&mut self.headers, key, value) {
