@@ -1,7 +1,8 @@
 //! What no clause says of the carriers over HTTP headers: that calls succeed, and worked cases.
-// Depends on: otel_propagators
+// Depends on: otel_propagators bytes http1 http1_typed httparse
 #![tactic(auto)]
 
+mod bytes;
 mod extractor;
 mod injector;
 mod service;
