@@ -2,6 +2,7 @@
 mod carriers;
 mod composites;
 mod headers;
+mod http;
 
 use crate::lines::Lines;
 use std::alloc::Global;
@@ -10,4 +11,5 @@ pub fn play<R: Print>(alloc: Global, lines: &Lines<'_, R>) {
     carriers::play(alloc, lines);
     composites::play(alloc, lines);
     headers::play(alloc, lines);
+    http::play(alloc, lines);
 }
