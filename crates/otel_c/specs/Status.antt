@@ -1,0 +1,56 @@
+-- What C gets for the outcome of a call, and what each refusal says.
+use Rattle.std.specs.Prelude.{◌≡◌, ◌<◌, ℕ, List, length, Option, Some, Result, Ok, Err}
+use Rattle.std.specs.Prelude.{IsUtf8}
+use Rattle.otel_ids.specs.TraceStateError.{Fault, KeyFault, ValueFault, ListFault}
+use Rattle.otel_c.specs.declared.status.Status.{Status}
+use Rattle.otel_c.specs.declared.status.Status.TheVariants as status
+
+-- the number of `enum otel_status`
+abbrev pub number : Status → ℕ
+number status.NoMemory = 1
+number status.NotText = 2
+number status.NoRoom = 3
+number status.Absent = 4
+number status.Key = 5
+number status.Value = 6
+number status.List = 7
+
+-- the number for an outcome: 0 is success, and only success
+abbrev pub code_of : {A : Type 0} → Result A Status → ℕ
+code_of (Ok done) = 0
+code_of (Err status) = number status
+
+-- the status says that the bytes aren't UTF-8, and they aren't
+pub record IsNoText (bytes : List ℕ) (s : Status) : Type 0 where
+  pub status : s ≡ status.NotText
+  pub is : ¬ IsUtf8 bytes
+
+-- the status says that the room is shorter than the text, and it is
+pub record HasNoRoom (text room : List ℕ) (s : Status) : Type 0 where
+  pub status : s ≡ status.NoRoom
+  pub short : length room < length text
+
+-- the fault is that of a key
+pub record InKey (fault : Option Fault) : Type 0 where
+  pub text : List ℕ
+  pub is : fault ≡ Some (KeyFault text)
+
+-- the fault is that of a value
+pub record InValue (fault : Option Fault) : Type 0 where
+  pub text : List ℕ
+  pub is : fault ≡ Some (ValueFault text)
+
+-- the fault is that of a member without `=`
+pub record InList (fault : Option Fault) : Type 0 where
+  pub text : List ℕ
+  pub is : fault ≡ Some (ListFault text)
+
+-- the status names the fault, or says that memory ran out
+abbrev pub Blames : Option Fault → Status → Type 0
+Blames fault status.NoMemory = Unit {0}
+Blames fault status.NotText = ⊥
+Blames fault status.NoRoom = ⊥
+Blames fault status.Absent = ⊥
+Blames fault status.Key = InKey fault
+Blames fault status.Value = InValue fault
+Blames fault status.List = InList fault

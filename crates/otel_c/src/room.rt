@@ -1,0 +1,43 @@
+//! Texts that come from C, and the room that C gives for the answers.
+ghost use Rattle.std.specs.Prelude.{◌≡◌, ◌++◌, IfOk, IfErr, OnOk, OnErr, drop, length};
+ghost use Rattle.otel_c.specs.Status.{IsNoText, HasNoRoom};
+
+use crate::status::Status;
+use std::str;
+
+/// Returns the bytes as a text.
+///
+/// # Errors
+///
+/// `NotText` if they aren't UTF-8.
+pub fn text_of(bytes: &[u8]) -> Result<&str, Status>
+    ensures text { IfOk result (λ text. text.now ≡ bytes.now) }
+    ensures refused { IfErr result (λ status. IsNoText bytes.now status) }
+{
+    match str::from_utf8(bytes) {
+        Ok(text) => Ok(text),
+        Err(_) => Err(Status::NotText),
+    }
+}
+
+/// Writes the text to the front of the room, and its length to `written`.
+///
+/// # Errors
+///
+/// `NoRoom` if the room is shorter than the text. The room is unchanged, and `written` has the
+/// length that is needed.
+pub fn write(text: &str, room: &mut [u8], written: &mut usize) -> Result<(), Status>
+    ensures needed { written.new ≡ length text.now }
+    ensures text { OnOk result (room.new ≡ text.now ++ drop (length text.now) room.old) }
+    ensures unchanged { OnErr result (room.new ≡ room.old) }
+    ensures refused { IfErr result (λ status. HasNoRoom text.now room.old status) }
+{
+    let bytes = text.as_bytes();
+    *written = bytes.len();
+    if room.len() < bytes.len() {
+        return Err(Status::NoRoom);
+    }
+    let (front, _) = room.split_at_mut(bytes.len());
+    front.copy_from_slice(bytes);
+    Ok(())
+}
