@@ -4,6 +4,7 @@
 #   make run INPUT=F                on the file F; INPUT=- is standard input
 #   make try                        the same in seconds and unproved
 #   make example                    a service at work: the headers that it sends on, for those of examples/service and for none
+#   make example-c                  a C program over the static library of crates/otel_c
 #   make test                       every proof, wrong body, test, vector, misuse case and run out of memory
 #
 # Small loops, each a part of the above:
@@ -31,7 +32,7 @@ COUNT ?= 10000
 SEED ?= 1
 GIVEN := $(if $(filter -,$(INPUT)),,< "$(abspath $(INPUT))")
 
-.PHONY: run try example test check tests edit mutants vectors misuse memory long calls fuzz documents bench
+.PHONY: run try example example-c test check tests edit mutants vectors misuse memory long calls fuzz documents bench
 
 run:
 	@cd crates/otel_carry && rt run $(GIVEN)
@@ -42,6 +43,12 @@ try:
 
 example:
 	@cd crates/otel_service && rt run < ../../examples/service && rt run < /dev/null
+
+example-c:
+	@cd crates/otel_c && rt lib > /dev/null
+	@room=$$(mktemp -d) && trap 'rm -rf "$$room"' EXIT && cc -Icrates/otel_c/include examples/c/forward.c \
+		crates/otel_c/out/libotel_c.a "$$(dirname "$$(rt doc)")/c/liblibc_c.a" -o "$$room/forward" \
+		&& "$$room/forward" 'rojo=00f067aa0ba902b7,congo=t61rcWkgMzE'
 
 test:
 	@tests/all
