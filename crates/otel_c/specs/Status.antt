@@ -20,6 +20,12 @@ abbrev pub code_of : {A : Type 0} → Result A Status → ℕ
 code_of (Ok done) = 0
 code_of (Err status) = number status
 
+-- the number is that of a status for which this is the reason
+pub record Refuses (Why : Status → Type 0) (n : ℕ) : Type 0 where
+  pub status : Status
+  pub is : n ≡ number status
+  pub why : Why status
+
 -- the status says that the bytes aren't UTF-8, and they aren't
 pub record IsNoText (bytes : List ℕ) (s : Status) : Type 0 where
   pub status : s ≡ status.NotText

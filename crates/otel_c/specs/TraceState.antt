@@ -1,6 +1,7 @@
 -- What the calls on the text of a `tracestate` header write.
 use Rattle.std.specs.Prelude.{◌≡◌, ◌⊎◌, ℕ, List, ◌++◌, None, Some, drop, length}
-use Rattle.otel_ids.specs.TraceState.{Pair, get, insert, delete, header}
+use Rattle.otel_ids.specs.TraceState.{Pair, pair_with, get, insert, delete, header}
+use Rattle.otel_ids.specs.TraceStateError.{key_fault, pair_fault}
 use Rattle.otel_ids.specs.Reading.{Reads, fault_of}
 use Rattle.otel_c.specs.declared.status.Status.{Status}
 use Rattle.otel_c.specs.declared.status.Status.TheVariants as status
@@ -44,17 +45,46 @@ pub record IsAbsent (received key : List ℕ) (s : Status) : Type 0 where
   pub none : get pairs key ≡ None
   pub status : s ≡ status.Absent
 
--- the value of the key is longer than the room, and its length is written
-pub record IsShort (received key old : List ℕ) (written : ℕ) (s : Status) : Type 0 where
+-- the text is longer than the room, and its length is written
+pub record IsLong (text old : List ℕ) (written : ℕ) (s : Status) : Type 0 where
+  pub short : HasNoRoom text old s
+  pub length : written ≡ length text
+
+-- the value of the key is longer than the room
+pub record GetIsLong (received key old : List ℕ) (written : ℕ) (s : Status) : Type 0 where
   pub pairs : List Pair
   pub value : List ℕ
   pub reads : Reads received pairs
   pub found : get pairs key ≡ Some value
-  pub short : HasNoRoom value old s
-  pub length : written ≡ length value
+  pub long : IsLong value old written s
+
+-- the header with the pair in front is longer than the room
+pub record InsertIsLong (received key value old : List ℕ) (written : ℕ) (s : Status) : Type 0 where
+  pub pairs : List Pair
+  pub reads : Reads received pairs
+  pub long : IsLong (header (insert pairs key value)) old written s
+
+-- the header without the pair of the key is longer than the room
+pub record DeleteIsLong (received key old : List ℕ) (written : ℕ) (s : Status) : Type 0 where
+  pub pairs : List Pair
+  pub reads : Reads received pairs
+  pub long : IsLong (header (delete pairs key)) old written s
 
 -- why a value wasn't written
 abbrev pub GetRefused : List ℕ → List ℕ → List ℕ → ℕ → Status → Type 0
 GetRefused received key old written s =
     (ReadRefused received s ⊎ IsNoText key s)
-    ⊎ (IsAbsent received key s ⊎ IsShort received key old written s)
+    ⊎ (IsAbsent received key s ⊎ GetIsLong received key old written s)
+
+-- why a pair wasn't inserted
+abbrev pub InsertRefused : List ℕ → List ℕ → List ℕ → List ℕ → ℕ → Status → Type 0
+InsertRefused received key value old written s =
+    (ReadRefused received s ⊎ (IsNoText key s ⊎ IsNoText value s))
+    ⊎ (Blames (pair_fault (pair_with key value)) s
+    ⊎ InsertIsLong received key value old written s)
+
+-- why a pair wasn't deleted
+abbrev pub DeleteRefused : List ℕ → List ℕ → List ℕ → ℕ → Status → Type 0
+DeleteRefused received key old written s =
+    (ReadRefused received s ⊎ IsNoText key s)
+    ⊎ (Blames (key_fault key) s ⊎ DeleteIsLong received key old written s)

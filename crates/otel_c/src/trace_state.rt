@@ -2,7 +2,8 @@
 ghost use Rattle.std.specs.Prelude.{◌≡◌, IfOk, IfErr, OnOk, OnErr};
 ghost use Rattle.otel_ids.specs.Reading.{Reads};
 ghost use Rattle.otel_c.specs.TraceState.{Gets, Inserts, Deletes};
-ghost use Rattle.otel_c.specs.TraceState.{ReadRefused, GetRefused};
+ghost use Rattle.otel_c.specs.TraceState.{ReadRefused, GetRefused, InsertRefused, DeleteRefused};
+ghost use Rattle.otel_c.specs.Status.{Refuses};
 
 use crate::room::{text_of, write};
 use crate::status::{Status, code};
@@ -52,6 +53,8 @@ fn insert(
     ensures header { OnOk result (Inserts header.now key.now value.now
         room.old room.new written.new) }
     ensures unchanged { OnErr result (room.new ≡ room.old) }
+    ensures refused { IfErr result (λ status.
+        InsertRefused header.now key.now value.now room.old written.new status) }
 {
     let state = read(alloc, header)?;
     let state = state.insert(alloc, text_of(key)?, text_of(value)?)?;
@@ -68,6 +71,8 @@ fn delete(
 ) -> Result<(), Status>
     ensures header { OnOk result (Deletes header.now key.now room.old room.new written.new) }
     ensures unchanged { OnErr result (room.new ≡ room.old) }
+    ensures refused { IfErr result (λ status.
+        DeleteRefused header.now key.now room.old written.new status) }
 {
     let state = read(alloc, header)?;
     let state = state.delete(alloc, text_of(key)?)?;
@@ -86,6 +91,8 @@ pub extern "C" fn otel_trace_state_get(
 ) -> u32
     ensures value { result ≡ 0 → Gets header.now key.now room.old room.new written.new }
     ensures unchanged { (result ≡ 0 → ⊥) → room.new ≡ room.old }
+    ensures refused { (result ≡ 0 → ⊥)
+        → Refuses (GetRefused header.now key.now room.old written.new) result }
 {
     code(get(alloc, header, key, room, written))
 }
@@ -103,6 +110,8 @@ pub extern "C" fn otel_trace_state_insert(
     ensures header { result ≡ 0
         → Inserts header.now key.now value.now room.old room.new written.new }
     ensures unchanged { (result ≡ 0 → ⊥) → room.new ≡ room.old }
+    ensures refused { (result ≡ 0 → ⊥)
+        → Refuses (InsertRefused header.now key.now value.now room.old written.new) result }
 {
     code(insert(alloc, header, key, value, room, written))
 }
@@ -118,6 +127,8 @@ pub extern "C" fn otel_trace_state_delete(
 ) -> u32
     ensures header { result ≡ 0 → Deletes header.now key.now room.old room.new written.new }
     ensures unchanged { (result ≡ 0 → ⊥) → room.new ≡ room.old }
+    ensures refused { (result ≡ 0 → ⊥)
+        → Refuses (DeleteRefused header.now key.now room.old written.new) result }
 {
     code(delete(alloc, header, key, room, written))
 }
