@@ -1,4 +1,4 @@
-/* Calls each function of include/otel.h. Each request for memory is refused in turn, by the number
+/* Calls each function of include/otel.h. Each allocation is refused in turn, by the number
  * in `refused`, and the answer is then OTEL_NO_MEMORY or the answer that it is with memory. */
 #include <stdio.h>
 #include <stdlib.h>
@@ -110,7 +110,7 @@ int main(void) {
         failed += !good;
     }
     if (starved == 0)
-        failed++, puts("no request for memory was refused");
+        failed++, puts("no allocation was refused");
     printf("%d passed, %d failed\n", passed, failed);
     return failed != 0;
 }
