@@ -10,7 +10,7 @@ use Rattle.std.proofs.lemmas.List.Folds.{flat_map-map}
 use Rattle.opentelemetry.proofs.Setting.{flat_map-take_more}
 use Rattle.std.proofs.lemmas.Grind.{flat_map-append}
 use Rattle.std.specs.List.{flat_map}
-use Rattle.otel_sdk.specs.SpanData.{SpanRecord}
+use Rattle.otel_sdk_span.specs.SpanData.{SpanRecord}
 use Rattle.otel_sdk.specs.Export.{batches, spans_of, AreExported}
 use Rattle.otel_sdk.specs.Processor.{ProcessorState, IsFlushed, taken_of}
 

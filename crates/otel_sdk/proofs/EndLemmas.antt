@@ -17,8 +17,8 @@ use Rattle.otel_sdk.specs.Ended.{Collecting, Fate, NothingLost, after_end_of, af
 use Rattle.otel_sdk.specs.Ended.{AreListed, is_ended, kept, waiting, without_ended}
 use Rattle.otel_sdk.specs.Export.{spans_of}
 use Rattle.otel_sdk.specs.Processor.{ProcessorState, counted, is_sampled, one_more, queued, taken_of}
-use Rattle.otel_sdk.specs.Span.{SpanState}
-use Rattle.otel_sdk.specs.SpanData.{SpanRecord}
+use Rattle.otel_sdk_span.specs.Span.{SpanState}
+use Rattle.otel_sdk_span.specs.SpanData.{SpanRecord}
 
 -- ---- what waits after a span has left the table
 
@@ -33,7 +33,7 @@ same_bool false true f g = g refl
 same_bool false false f g = refl
 
 -- `==` tells numbers apart as their order does
-flipped : (k q : ℕ) → eq_by_cmp nat_cmp q k ≡ (k == q)
+pub flipped : (k q : ℕ) → eq_by_cmp nat_cmp q k ≡ (k == q)
 flipped k q = same_bool (eq_by_cmp nat_cmp q k) (q == k)
     (λ e. (unsigned_Decides q k).1 (map.nat_cmp-IsAntisymmetric q k (equal_of (nat_cmp q k) e)))
     (λ e. sym (ap (λ x. eq_by_cmp nat_cmp q x) ((unsigned_Decides q k).0 e)) ∙ (eq_by_cmp_equiv nat_cmp_total).refl q)

@@ -6,8 +6,8 @@ use Rattle.std.specs.List.{filter_map, AllByRecursion, IsDistinct}
 use Rattle.otel_context.specs.Spans as table
 use Rattle.otel_context.specs.Spans.{SpansState}
 use Rattle.otel_sdk.specs.Processor.{ProcessorState, after_end, is_sampled, taken_of}
-use Rattle.otel_sdk.specs.Span.{SpanState}
-use Rattle.otel_sdk.specs.SpanData.{SpanRecord}
+use Rattle.otel_sdk_span.specs.Span.{SpanState}
+use Rattle.otel_sdk_span.specs.SpanData.{SpanRecord}
 
 -- whether there is such a span and it has ended
 abbrev pub is_ended : Option SpanState → Bool

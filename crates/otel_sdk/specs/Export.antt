@@ -2,7 +2,7 @@
 use Rattle.std.specs.Prelude.{◌≡◌, ℕ, zero, suc, ◌*◌, ◌<◌, Bool, List, [], ◌∷◌, ◌++◌, take, drop}
 use Rattle.std.specs.Prelude.{length, refl}
 use Rattle.std.specs.List.{flat_map}
-use Rattle.otel_sdk.specs.SpanData.{SpanRecord}
+use Rattle.otel_sdk_span.specs.SpanData.{SpanRecord}
 
 -- the spans of the batches, in order
 abbrev pub spans_of : List (List SpanRecord) → List SpanRecord

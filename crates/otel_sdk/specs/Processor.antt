@@ -3,10 +3,10 @@ use Rattle.std.specs.Prelude.{◌≡◌, ◌⊎◌, ℕ, ◌+◌, ◌-◌, ◌^�
 use Rattle.std.specs.Prelude.{length, Result, IsErr, IsErrOf, IsTrue, not, MatchBool, nat_lt, min, max}
 use Rattle.std.specs.Prelude.{if◌then◌else◌, alloc_error, refl}
 use Rattle.otel_ids.specs.TraceFlags as flags
-use Rattle.otel_sdk.specs.SpanData.{SpanRecord}
+use Rattle.otel_sdk_span.specs.SpanData.{SpanRecord}
 use Rattle.otel_sdk.specs.Export.{AreExported, spans_of}
-use Rattle.otel_sdk.specs.declared.error.OTelSdkError.{OTelSdkError}
-use Rattle.otel_sdk.specs.declared.error.OTelSdkError.TheVariants.{AlreadyShutdown, Memory}
+use Rattle.otel_sdk_span.specs.declared.error.OTelSdkError.{OTelSdkError}
+use Rattle.otel_sdk_span.specs.declared.error.OTelSdkError.TheVariants.{AlreadyShutdown, Memory}
 
 -- whether the span is exported: its flag `sampled` is set (OpenTelemetry trace SDK, "Sampling")
 abbrev pub is_sampled : SpanRecord → Bool

@@ -1,10 +1,7 @@
-//! The beginning of a tracing SDK for the API of the crate `opentelemetry`, after the Rust crate
-//! `opentelemetry_sdk`: resources, samplers, generators of ids, spans that keep to limits, and the
-//! way of ended spans to an exporter.
+//! A tracing SDK after the Rust crate `opentelemetry_sdk`: providers whose tracers start spans,
+//! resources, and the way of ended spans to an exporter.
 #![tactic(auto)]
 
-mod attributes;
-mod cutting;
-pub mod error;
-pub mod resource;
 pub mod trace;
+
+pub use otel_sdk_span::{error, resource};

@@ -45,8 +45,8 @@ impl IdGenerator for Nines {
 
 /// Answers one decision with the attribute `s=1` and the empty trace state.
 #[derive(Drop)]
-struct Answers {
-    decision: SamplingDecision,
+pub struct Answers {
+    pub decision: SamplingDecision,
 }
 
 impl ShouldSample for Answers {

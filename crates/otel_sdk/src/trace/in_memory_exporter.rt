@@ -5,9 +5,8 @@ ghost use Rattle.otel_sdk.specs.Export.{spans_of};
 
 mod copies;
 
-use crate::error::{OTelSdkError, OTelSdkResult};
-use crate::trace::data::SpanData;
-use crate::trace::export::SpanExporter;
+use otel_sdk_span::error::{OTelSdkError, OTelSdkResult};
+use otel_sdk_span::{SpanData, SpanExporter};
 use std::alloc::{AllocError, Global};
 use std::marker::Model;
 

@@ -7,9 +7,9 @@ mod batches;
 pub(crate) mod config;
 pub(crate) mod simple;
 
-use crate::error::{OTelSdkError, OTelSdkResult};
-use crate::resource::Resource;
-use crate::trace::data::SpanData;
+use otel_sdk_span::SpanData;
+use otel_sdk_span::error::{OTelSdkError, OTelSdkResult};
+use otel_sdk_span::resource::Resource;
 use std::rc::Rc;
 
 /// Why the end of a span failed. Not in the Rust crate.

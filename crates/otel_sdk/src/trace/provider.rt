@@ -1,19 +1,17 @@
 //! What makes the tracers of the SDK.
 ghost use Rattle.std.specs.Prelude.{◌≡◌, IfOk, Some, None, map};
 ghost use Rattle.std.specs.Option.{option_map_or};
-ghost use Rattle.otel_sdk.specs.Resource.{merge, with_defaults};
-ghost use Rattle.otel_sdk.specs.SpanLimits.{default_limits};
+ghost use Rattle.otel_sdk_span.specs.Resource.{merge, with_defaults};
+ghost use Rattle.otel_sdk_span.specs.SpanLimits.{default_limits};
 ghost use Rattle.otel_sdk.specs.Tracer as spec;
 
-use crate::resource::Resource;
 use crate::trace::clock::{Clock, SystemClock};
-use crate::trace::id_generator::{IdGenerator, RandomIdGenerator};
-use crate::trace::limits::SpanLimits;
-use crate::trace::sampler::parent_based::ParentBased;
-use crate::trace::sampler::{Sampler, ShouldSample};
 use crate::trace::tracer::{SdkTracer, TracerPipeline};
 use opentelemetry::trace::TracerProvider;
 use opentelemetry::{InstrumentationScope, StringValue};
+use otel_sdk_sampling::{IdGenerator, ParentBased, RandomIdGenerator, Sampler, ShouldSample};
+use otel_sdk_span::SpanLimits;
+use otel_sdk_span::resource::Resource;
 use std::alloc::{AllocError, Global};
 use std::cell::Cell;
 use std::marker::Model;

@@ -6,14 +6,12 @@ ghost use Rattle.opentelemetry.specs.View.{builder_of};
 ghost use Rattle.otel_sdk.specs.Tracer as spec;
 
 use crate::trace::clock::Clock;
-use crate::trace::id_generator::IdGenerator;
-use crate::trace::limits::SpanLimits;
 use crate::trace::provider::TracerProviderInner;
-use crate::trace::sampler::ShouldSample;
-use crate::trace::span::SdkSpan;
 use crate::trace::start::{Ids, ask, given_data, new_ids, parent_of, records, span_context_of};
 use opentelemetry::trace::{SpanBuilder, SpanContext, Tracer};
 use opentelemetry::{Context, InstrumentationScope, KeyValue};
+use otel_sdk_sampling::{IdGenerator, ShouldSample};
+use otel_sdk_span::{SdkSpan, SpanLimits};
 use std::alloc::{AllocError, Global};
 use std::marker::Model;
 use std::rc::Rc;
@@ -26,7 +24,7 @@ use std::rc::Rc;
 pub trait Pipeline: Drop {
     ghost use Rattle.otel_context.specs.Context.{ContextRecord};
     ghost use Rattle.opentelemetry.specs.SpanBuilder.{BuilderRecord};
-    ghost use Rattle.otel_sdk.specs.Span.{SpanState};
+    ghost use Rattle.otel_sdk_span.specs.Span.{SpanState};
 
     ghost may_start: { Self → BuilderRecord → ContextRecord → SpanState → Type 0 };
 

@@ -3,9 +3,9 @@ ghost use Rattle.std.specs.Prelude.{◌≡◌, ◌++◌, OnOk, IfOk, map};
 ghost use Rattle.opentelemetry.specs.View.{event_of, link_of};
 ghost use Rattle.otel_base.specs.View.{attribute_of};
 
-use crate::trace::data::{SpanData, SpanEvents, SpanLinks};
 use opentelemetry::KeyValue;
 use opentelemetry::trace::{Event, Link};
+use otel_sdk_span::{SpanData, SpanEvents, SpanLinks};
 use std::alloc::AllocError;
 
 // The attributes are the same one by one, as that of a copy of each is.

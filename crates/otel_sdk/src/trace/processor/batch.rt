@@ -6,13 +6,12 @@ ghost use Rattle.otel_sdk.specs.Processor.{IsRefusedIfClosed, FailedIfOpen, Flus
 
 mod ended;
 
-use crate::error::{OTelSdkError, OTelSdkResult};
-use crate::resource::Resource;
-use crate::trace::data::SpanData;
-use crate::trace::export::SpanExporter;
 use crate::trace::processor::batches::export_batches;
 use crate::trace::processor::config::BatchConfig;
 use crate::trace::processor::{EndRefused, SpanProcessor};
+use otel_sdk_span::error::{OTelSdkError, OTelSdkResult};
+use otel_sdk_span::resource::Resource;
+use otel_sdk_span::{SpanData, SpanExporter};
 use std::alloc::Global;
 use std::marker::Model;
 use std::rc::Rc;

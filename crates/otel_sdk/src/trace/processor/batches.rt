@@ -2,9 +2,8 @@
 ghost use Rattle.std.specs.Prelude.{◌≡◌, ◌≤◌, ◌<◌, ◌-◌, ◌↔◌, IsOk, length, drop};
 ghost use Rattle.otel_sdk.specs.Export.{AreExported};
 
-use crate::error::OTelSdkResult;
-use crate::trace::data::SpanData;
-use crate::trace::export::SpanExporter;
+use otel_sdk_span::error::OTelSdkResult;
+use otel_sdk_span::{SpanData, SpanExporter};
 
 /// Exports the spans in batches of the size until one is refused. Returns how many spans are left,
 /// and the error if there are some.

@@ -4,13 +4,12 @@ ghost use Rattle.otel_sdk.specs.Processor as spec;
 ghost use Rattle.otel_sdk.specs.Processor.{IsFlushed, IsHandedIn, taken_of};
 ghost use Rattle.otel_sdk.specs.Processor.{IsRefusedIfClosed, FailedIfOpen, FlushedIfClosed};
 
-use crate::error::OTelSdkResult;
-use crate::resource::Resource;
-use crate::trace::data::SpanData;
-use crate::trace::export::SpanExporter;
 use crate::trace::processor::batch::BatchSpanProcessor;
 use crate::trace::processor::config::BatchConfigBuilder;
 use crate::trace::processor::{EndRefused, SpanProcessor};
+use otel_sdk_span::error::OTelSdkResult;
+use otel_sdk_span::resource::Resource;
+use otel_sdk_span::{SpanData, SpanExporter};
 use std::alloc::Global;
 use std::marker::Model;
 use std::rc::Rc;

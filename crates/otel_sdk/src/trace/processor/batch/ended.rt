@@ -1,15 +1,15 @@
 //! Taking ended spans out of a table, by number.
 ghost use Rattle.std.specs.Prelude.{◌≡◌, ◌≤◌, ◌==◌, false, [], length, take, fold, IfErr, OnOk, OnErr, IsTrue};
 ghost use Rattle.std.specs.List.{IsDistinct};
+ghost use Rattle.std.specs.Vec.{vec_capacity};
 ghost use Rattle.otel_sdk.specs.Processor.{cause};
 ghost use Rattle.otel_sdk.specs.Ended as spec;
 ghost use Rattle.otel_sdk.specs.Ended.{AreCollected, AreListed, LosesNothing};
 
 use super::BatchSpanProcessor;
-use crate::error::{OTelSdkError, OTelSdkResult};
-use crate::trace::export::SpanExporter;
-use crate::trace::span::SdkSpan;
 use opentelemetry::trace::Spans;
+use otel_sdk_span::error::{OTelSdkError, OTelSdkResult};
+use otel_sdk_span::{SdkSpan, SpanExporter};
 
 /// Returns whether the span is exported at its end: it recorded and is sampled.
 fn is_exported(span: &SdkSpan) -> bool
@@ -85,6 +85,7 @@ impl<E: SpanExporter> BatchSpanProcessor<E> {
         ensures open { OnOk result (self.old.is_shut_down ≡ false) }
         ensures refused { IfErr result (λ error. error ≡ cause self.new) }
         ensures closed { IsTrue self.old.is_shut_down → ended.new.items ≡ ended.old.items }
+        ensures room { vec_capacity ended.new ≡ vec_capacity ended.old }
     {
         if self.is_shut_down {
             return Err(OTelSdkError::AlreadyShutdown);

@@ -2,7 +2,7 @@ use Rattle.std.proofs.Common.{◌∙◌, ◌++◌, ap, List, map, arith}
 use Rattle.std.specs.declared.alloc.Global.{Global}
 use Rattle.std.specs.declared.vec.Vec.{Vec}
 use Rattle.otel_sdk.specs.Export.{InMemory}
-use Rattle.otel_sdk.specs.SpanData.{SpanRecord}
+use Rattle.otel_sdk_span.specs.SpanData.{SpanRecord}
 use Rattle.otel_sdk.proofs.BatchLemmas.{joined_more}
 use Rattle.otel_sdk.proofs.trace.in_memory_exporter.InMemorySpanExporter.get_finished_spans.Goals as goal
 

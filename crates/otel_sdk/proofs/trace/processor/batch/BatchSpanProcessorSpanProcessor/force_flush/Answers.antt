@@ -1,7 +1,7 @@
 use Rattle.std.proofs.Common.{◌∙◌, ◌++◌, ap, List}
 use Rattle.otel_sdk.specs.Export.{spans_of}
 use Rattle.otel_sdk.specs.Processor.{Taken, taken_of}
-use Rattle.otel_sdk.specs.SpanData.{SpanRecord}
+use Rattle.otel_sdk_span.specs.SpanData.{SpanRecord}
 use Rattle.otel_sdk.proofs.BatchLemmas.{keeps}
 use Rattle.otel_sdk.proofs.trace.processor.batch.BatchSpanProcessorSpanProcessor.force_flush.Goals as goal
 

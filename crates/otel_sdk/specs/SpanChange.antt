@@ -1,0 +1,16 @@
+-- What a change does to a span. Not in the Rust crate.
+use Rattle.otel_base.specs.View.{attribute_of}
+use Rattle.otel_context.specs.SpanEffects.{attributes_of}
+use Rattle.otel_sdk_span.specs.Span.{SpanState, after_attribute, after_event, after_link}
+use Rattle.otel_sdk_span.specs.Span.{after_name, after_status}
+use Rattle.otel_sdk.specs.declared.trace.change.SpanChange.{SpanChange}
+use Rattle.otel_sdk.specs.declared.trace.change.SpanChange.TheVariants.{SetAttribute, AddEvent}
+use Rattle.otel_sdk.specs.declared.trace.change.SpanChange.TheVariants.{AddLink, SetStatus, UpdateName}
+
+-- the span after the change
+abbrev pub change_of : SpanChange → SpanState → SpanState
+change_of (SetAttribute attribute) s = after_attribute s (attribute_of attribute)
+change_of (AddEvent name time attributes) s = after_event s name time (attributes_of attributes)
+change_of (AddLink context attributes) s = after_link s context (attributes_of attributes)
+change_of (SetStatus status) s = after_status s status
+change_of (UpdateName name) s = after_name s name

@@ -1,0 +1,151 @@
+//! The spans of a program until a processor takes them.
+ghost use Rattle.std.specs.Prelude.{◌≡◌, [], OnOk, OnErr, IfOk, IfErr, IsErr, None, Some, option_copied};
+ghost use Rattle.otel_context.specs.Spans.{get, used_up};
+ghost use Rattle.otel_context.specs.declared.span.spans.SpanCause.TheVariants.{NumbersUsedUp};
+ghost use Rattle.otel_sdk.specs.SpanChange.{change_of};
+ghost use Rattle.otel_sdk.specs.LiveState.{no_spans, with_started, with_changed, with_ended};
+ghost use Rattle.otel_sdk.specs.Processor.{cause};
+ghost use Rattle.otel_sdk.specs.Ended.{of, AreCollected};
+
+use crate::trace::change::{SpanChange, change_in, end_in};
+use crate::trace::processor::batch::BatchSpanProcessor;
+use opentelemetry::trace::{SpanCause, SpanRefused, Spans};
+use otel_sdk_span::error::OTelSdkResult;
+use otel_sdk_span::{SdkSpan, SpanExporter};
+use std::alloc::{AllocError, Global};
+use std::marker::Model;
+
+/// The spans of a program until a processor takes them, and the numbers of those that have ended, in
+/// the order of their ends. Not in the Rust crate, whose spans go to a processor when they end.
+///
+/// Room for the number of a span is taken when it starts, so its end takes no memory.
+///
+/// ```
+/// let mut live = LiveSpans::new(alloc);
+/// ```
+#[derive(Drop)]
+pub struct LiveSpans {
+    spans: Spans<SdkSpan>,
+    ended: Vec<u64>,
+}
+
+impl Model for LiveSpans {
+    ghost use Rattle.std.specs.Prelude.{◌≤◌};
+    ghost use Rattle.std.specs.Vec.{vec_capacity};
+    ghost use Rattle.otel_context.specs.Spans.{len};
+    ghost use Rattle.otel_sdk.specs.Ended.{AreListed};
+    ghost use Rattle.otel_sdk.specs.LiveState.{LiveState, live_code};
+    ghost use Rattle.otel_sdk_span.specs.contracts.span.SdkSpan as span;
+
+    ghost Value = { LiveState };
+
+    ghost coded = { live_code span.the_row.coded };
+
+    ghost view = { λ live. record { spans = live.spans; ended = live.ended.items } };
+
+    ghost invariant = { λ live. record {
+      listed : AreListed live.spans live.ended.items;
+      has_room : len live.spans ≤ vec_capacity live.ended;
+    } };
+}
+
+impl LiveSpans {
+    ghost use Rattle.otel_sdk.specs.Ended.{AreListed};
+
+    /// Returns no spans. The first one that starts gets the number 0. Takes no memory.
+    pub fn new(alloc: Global) -> LiveSpans
+        ensures { result ≡ no_spans }
+    {
+        LiveSpans {
+            spans: Spans::new(alloc),
+            ended: Vec::new(alloc),
+        }
+    }
+
+    /// Returns the spans that no processor has taken.
+    pub fn spans(&self) -> &Spans<SdkSpan>
+        ensures spans { result.now ≡ self.now.spans }
+    {
+        &self.spans
+    }
+
+    /// Returns the numbers of the spans that have ended and that no processor has taken, in the
+    /// order of their ends.
+    pub fn ended(&self) -> &[u64]
+        ensures numbers { result.now ≡ self.now.ended }
+        ensures listed { AreListed self.now.spans self.now.ended }
+    {
+        self.ended.as_slice()
+    }
+
+    /// Puts a span under the next number, and returns that number.
+    ///
+    /// # Errors
+    ///
+    /// `NumbersUsedUp` if the next number is 18446744073709551615, or `Memory` if out of memory.
+    /// Nothing changes, and the span comes back.
+    pub fn start(&mut self, span: SdkSpan) -> Result<u64, SpanRefused<SdkSpan>>
+        ensures number { IfOk result (λ number. number ≡ self.old.spans.next_number) }
+        ensures fresh { get self.old.spans self.old.spans.next_number ≡ None }
+        ensures ok { OnOk result (self.new ≡ with_started span self.old) }
+        ensures err { OnErr result (self.new ≡ self.old) }
+        ensures back { IfErr result (λ refused. refused.span ≡ span) }
+        ensures used_up { IfErr result (λ refused.
+            refused.cause ≡ NumbersUsedUp → self.old.spans.next_number ≡ used_up) }
+        ensures refused { self.old.spans.next_number ≡ used_up → IsErr result }
+    {
+        let _ = self.spans.next_number();
+        let more = (self.spans.len() + 1).saturating_sub(self.ended.len());
+        if let Err(error) = self.ended.reserve(more) {
+            let cause = SpanCause::Memory(error);
+            return Err(SpanRefused { span, cause });
+        }
+        self.spans.insert(span)
+    }
+
+    /// Changes the span with the number. Does nothing if there is no such span, if it has ended, or
+    /// if it doesn't record.
+    ///
+    /// # Errors
+    ///
+    /// Returns an error if memory runs out. Nothing changes.
+    pub fn change(
+        &mut self,
+        alloc: Global,
+        number: u64,
+        change: SpanChange,
+    ) -> Result<(), AllocError>
+        ensures ok { OnOk result (self.new ≡ with_changed (change_of change) number self.old) }
+        ensures err { OnErr result (self.new ≡ self.old) }
+    {
+        change_in(alloc, &mut self.spans, number, change)
+    }
+
+    /// Ends the span with the number at the given moment, in nanoseconds since 1970. Does nothing if
+    /// there is no such span or it has ended. Takes no memory.
+    pub fn end(&mut self, number: u64, timestamp: u64)
+        ensures { self.new ≡ with_ended number timestamp self.old }
+    {
+        if end_in(&mut self.spans, number, timestamp) {
+            self.ended.push_reserved(number);
+        }
+    }
+
+    /// Hands the ended spans to the processor, in the order of their ends.
+    ///
+    /// # Errors
+    ///
+    /// `AlreadyShutdown` if the processor was shut down: nothing changes. Else `Memory` if out of
+    /// memory: the span that wasn't taken, and those that ended after it, stay.
+    pub fn collect<E: SpanExporter>(
+        &mut self,
+        processor: &mut BatchSpanProcessor<E>,
+    ) -> OTelSdkResult
+        ensures collected { AreCollected self.old.ended self.new.ended
+            (of processor.old self.old.spans) (of processor.new self.new.spans) }
+        ensures ok { OnOk result (self.new.ended ≡ []) }
+        ensures refused { IfErr result (λ error. error ≡ cause processor.new) }
+    {
+        processor.collect(&mut self.spans, &mut self.ended)
+    }
+}

@@ -1,0 +1,4 @@
+pub mod DrawLemmas
+pub mod Outcomes
+pub mod Rising
+pub mod Scaling

@@ -1,0 +1,5 @@
+mod FirstChars
+pub mod Lists
+pub mod PieceTurns
+mod SetInTurn
+mod SpanContexts

@@ -1,0 +1,15 @@
+use Rattle.std.proofs.Common.{Some, false, ap, ◌∙◌}
+use Rattle.otel_sdk_span.specs.Span.{SpanState}
+use Rattle.otel_sdk_span.specs.SpanData.{SpanRecord}
+use Rattle.otel_sdk_span.proofs.SpanContexts.{of_within}
+use Rattle.otel_sdk_span.proofs.span.SdkSpan.new.Goals as goal
+
+pub returns : goal.returns
+returns c =
+    let is = c.in_ok-within.ensures in
+    λ i. let s : SpanState = record {
+      context = (ap (λ (d : SpanRecord). d.span_context) is ∙ of_within c.args.limits c.args.given) i;
+      recorded = Some (is i);
+      limits = c.args.limits;
+      has_ended = false;
+    } in s

@@ -1,0 +1,58 @@
+-- What a span keeps of what its calls give it.
+use Rattle.std.specs.Prelude.{◌≡◌, ℕ, ◌+◌, List, [], map, nat_lt, refl}
+use Rattle.std.specs.Prelude.{None, if◌then◌else◌}
+use Rattle.otel_base.specs.KeyValue.{Attribute}
+use Rattle.opentelemetry.specs.Event.{EventRecord, LinkRecord}
+use Rattle.otel_sdk_span.specs.Attributes.{cut, set_all, dropped}
+use Rattle.otel_sdk_span.specs.declared.limits.SpanLimits.{SpanLimits}
+
+-- 128 of each, and values of any length [OpenTelemetry trace SDK, "Span Limits"]
+abbrev pub default_limits : SpanLimits
+default_limits = record {
+  max_events_per_span = 128;
+  max_attributes_per_span = 128;
+  max_links_per_span = 128;
+  max_attributes_per_event = 128;
+  max_attributes_per_link = 128;
+  max_attribute_length = None;
+}
+
+-- a count that rises by some, and stops at the greatest `u32`
+abbrev pub up_by : ℕ → ℕ → ℕ
+up_by count more = if nat_lt (count + more) 4294967296 then count + more else 4294967295
+
+-- the attributes with their values cut
+abbrev pub cut_all : SpanLimits → List Attribute → List Attribute
+cut_all limits xs = map (cut limits.max_attribute_length) xs
+
+-- the event with its attributes cut and then set in turn up to the limit, and with those that were
+-- dropped counted
+abbrev pub limited_event : SpanLimits → EventRecord → EventRecord
+limited_event limits e =
+    let given = cut_all limits e.attributes in
+    record e {
+      attributes = set_all limits.max_attributes_per_event [] given;
+      dropped_attributes_count =
+          up_by e.dropped_attributes_count (dropped limits.max_attributes_per_event [] given);
+    }
+
+-- the link with its attributes cut and then set in turn up to the limit, and with those that were
+-- dropped counted
+abbrev pub limited_link : SpanLimits → LinkRecord → LinkRecord
+limited_link limits l =
+    let given = cut_all limits l.attributes in
+    record l {
+      attributes = set_all limits.max_attributes_per_link [] given;
+      dropped_attributes_count =
+          up_by l.dropped_attributes_count (dropped limits.max_attributes_per_link [] given);
+    }
+
+-- ---- worked rows
+counted_example : up_by 4 1 ≡ 5
+counted_example = refl
+
+greatest_example : up_by 4294967294 1 ≡ 4294967295
+greatest_example = refl
+
+stopped_example : up_by 4294967295 1 ≡ 4294967295
+stopped_example = refl

@@ -1,0 +1,17 @@
+//! Spans that record within limits, what they have recorded, resources, and the exporters that take
+//! ended spans. `otel_sdk` exports all of it again.
+#![tactic(auto)]
+
+mod attributes;
+mod cutting;
+mod data;
+pub mod error;
+mod export;
+mod limits;
+pub mod resource;
+mod span;
+
+pub use data::{SpanData, SpanEvents, SpanLinks};
+pub use export::SpanExporter;
+pub use limits::SpanLimits;
+pub use span::SdkSpan;

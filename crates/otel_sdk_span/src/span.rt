@@ -1,0 +1,277 @@
+//! The span of the SDK.
+ghost use Rattle.std.specs.Prelude.{◌≡◌, false, true, IsOk, IfOk, OnOk, OnErr, option_copied, refl};
+ghost use Rattle.otel_base.specs.View.{attribute_of};
+ghost use Rattle.otel_context.specs.SpanEffects.{attributes_of};
+ghost use Rattle.otel_sdk_span.specs.Span as spec;
+
+use crate::data::SpanData;
+use crate::limits::SpanLimits;
+use opentelemetry::trace::{Event, Link, Span, SpanContext, Status};
+use opentelemetry::{KeyValue, StringValue};
+use std::alloc::{AllocError, Global};
+use std::marker::Model;
+
+// What a span keeps: what it records in, or else its span context and nothing more.
+#[derive(Debug, Drop)]
+enum Kept {
+    Recorded(SpanData),
+    Context(SpanContext),
+}
+
+/// A span that records up to limits, until it ends (the Rust crate's `Span`).
+///
+/// What is over a limit is dropped and counted, and the first ones stay. After the end nothing
+/// changes, and a second end does nothing. A span that doesn't record keeps its span context and
+/// whether it has ended; its calls take no memory.
+///
+/// ```
+/// let mut span = SdkSpan::new(alloc, given, SpanLimits::default())?;
+/// span.set_attribute(alloc, KeyValue::new(Key::from("k"), Value::I64(1)))?;
+/// span.end(now);
+/// ```
+#[derive(Debug, Drop)]
+pub struct SdkSpan {
+    kept: Kept,
+    limits: SpanLimits,
+    has_ended: bool,
+}
+
+impl Model for SdkSpan {
+    ghost use Rattle.otel_sdk_span.specs.Span.{SpanState};
+
+    ghost Value = { SpanState };
+
+    ghost use Rattle.otel_sdk_span.specs.View.{context_in, recorded_in};
+
+    ghost view = { λ s. record {
+      context = context_in s.kept;
+      recorded = recorded_in s.kept;
+      limits = s.limits;
+      has_ended = s.has_ended;
+    } };
+}
+
+impl SdkSpan {
+    /// Returns a span that starts with the given data and records on, up to the limits. The given
+    /// attributes, events and links are set and added in turn, as later calls do.
+    ///
+    /// # Errors
+    ///
+    /// Returns an error if memory runs out. The data is dropped.
+    pub fn new(alloc: Global, given: SpanData, limits: SpanLimits) -> Result<SdkSpan, AllocError>
+        ensures { IfOk result (λ span. span ≡ spec.started limits given) }
+    {
+        Ok(SdkSpan {
+            kept: Kept::Recorded(given.within(alloc, limits)?),
+            limits,
+            has_ended: false,
+        })
+    }
+
+    /// Returns a span that doesn't record. It keeps its span context only, and takes no memory.
+    pub fn without_data(span_context: SpanContext) -> SdkSpan
+        ensures { result ≡ spec.unrecorded span_context }
+    {
+        SdkSpan {
+            kept: Kept::Context(span_context),
+            limits: SpanLimits::default(),
+            has_ended: false,
+        }
+    }
+
+    /// Returns `true` if the span has ended.
+    pub fn has_ended(&self) -> bool
+        ensures { result ≡ self.now.has_ended }
+    {
+        self.has_ended
+    }
+
+    /// Returns what the span has recorded, or `None` if it has never recorded.
+    pub fn data(&self) -> Option<&SpanData>
+        ensures { option_copied result ≡ self.now.recorded }
+    {
+        match &self.kept {
+            Kept::Recorded(recorded) => Some(recorded),
+            Kept::Context(_) => None,
+        }
+    }
+
+    /// Returns what the span has recorded, or `None` if it has never recorded. Takes no memory.
+    pub fn into_data(self) -> Option<SpanData>
+        ensures { result ≡ self.recorded }
+    {
+        match self.kept {
+            Kept::Recorded(recorded) => Some(recorded),
+            Kept::Context(_) => None,
+        }
+    }
+}
+
+impl Span for SdkSpan {
+    ghost use Rattle.otel_sdk_span.specs.Span.{after_event, after_attribute, after_link, after_status};
+    ghost use Rattle.otel_sdk_span.specs.Span.{after_name, after_end, is_recording};
+
+    ghost context_of = { λ span. span.context };
+
+    ghost records = { is_recording };
+
+    ghost after_event = { after_event };
+
+    ghost after_attribute = { after_attribute };
+
+    ghost after_link = { after_link };
+
+    ghost after_status = { after_status };
+
+    ghost after_name = { after_name };
+
+    ghost after_end = { after_end };
+
+    /// Adds the event, with its attributes cut and up to the limit, if fewer events than the limit
+    /// are there; else counts it. Does nothing if the span doesn't record.
+    ///
+    /// # Errors
+    ///
+    /// Returns an error if memory runs out. The span is then unchanged.
+    fn add_event_with_timestamp(
+        &mut self,
+        alloc: Global,
+        name: StringValue,
+        timestamp: u64,
+        attributes: Vec<KeyValue>,
+    ) -> Result<(), AllocError>
+        ensures ok { OnOk result
+            (self.new ≡ after_event self.old name timestamp (attributes_of attributes)) }
+        ensures err { OnErr result (self.new ≡ self.old) }
+        ensures idle { is_recording self.old ≡ false → IsOk result × (self.new ≡ self.old) }
+    {
+        let event = Event::new(name, timestamp, attributes, 0);
+        if self.has_ended {
+            return Ok(());
+        }
+        match &mut self.kept {
+            Kept::Recorded(recorded) => recorded.add_event(alloc, self.limits, event),
+            Kept::Context(_) => Ok(()),
+        }
+    }
+
+    /// Sets the attribute, cut, if its key is there or fewer attributes than the limit are; else
+    /// counts it. Does nothing if the span doesn't record.
+    ///
+    /// # Errors
+    ///
+    /// Returns an error if memory runs out. The span is then unchanged.
+    fn set_attribute(&mut self, alloc: Global, attribute: KeyValue) -> Result<(), AllocError>
+        ensures ok { OnOk result (self.new ≡ after_attribute self.old (attribute_of attribute)) }
+        ensures err { OnErr result (self.new ≡ self.old) }
+        ensures idle { is_recording self.old ≡ false → IsOk result × (self.new ≡ self.old) }
+    {
+        if self.has_ended {
+            return Ok(());
+        }
+        match &mut self.kept {
+            Kept::Recorded(recorded) => recorded.set_attribute(alloc, self.limits, attribute),
+            Kept::Context(_) => Ok(()),
+        }
+    }
+
+    /// Adds the link, with its attributes cut and up to the limit, if fewer links than the limit
+    /// are there; else counts it. Does nothing if the span context is not valid and there are
+    /// neither attributes nor a trace state, or if the span doesn't record.
+    ///
+    /// # Errors
+    ///
+    /// Returns an error if memory runs out. The span is then unchanged.
+    fn add_link(
+        &mut self,
+        alloc: Global,
+        span_context: SpanContext,
+        attributes: Vec<KeyValue>,
+    ) -> Result<(), AllocError>
+        ensures ok { OnOk result
+            (self.new ≡ after_link self.old span_context (attributes_of attributes)) }
+        ensures err { OnErr result (self.new ≡ self.old) }
+        ensures idle { is_recording self.old ≡ false → IsOk result × (self.new ≡ self.old) }
+    {
+        if self.has_ended {
+            return Ok(());
+        }
+        match &mut self.kept {
+            Kept::Recorded(recorded) => {
+                recorded.add_link(alloc, self.limits, Link::new(span_context, attributes, 0))
+            }
+            Kept::Context(_) => Ok(()),
+        }
+    }
+
+    /// Sets the status if it is greater than the one that is there and the span records.
+    fn set_status(&mut self, status: Status)
+        ensures effect { self.new ≡ after_status self.old status }
+        ensures idle { is_recording self.old ≡ false → self.new ≡ self.old }
+    {
+        if self.has_ended {
+            return;
+        }
+        match &mut self.kept {
+            Kept::Recorded(recorded) => recorded.set_status(status),
+            Kept::Context(_) => (),
+        }
+    }
+
+    /// Replaces the name if the span records.
+    fn update_name(&mut self, name: StringValue)
+        ensures effect { self.new ≡ after_name self.old name }
+        ensures idle { is_recording self.old ≡ false → self.new ≡ self.old }
+    {
+        if self.has_ended {
+            return;
+        }
+        match &mut self.kept {
+            Kept::Recorded(recorded) => recorded.name = name,
+            Kept::Context(_) => (),
+        }
+    }
+
+    /// Ends the span. The moment is kept as it is given, also if it is before the start. Does
+    /// nothing if the span has ended.
+    fn end_with_timestamp(&mut self, timestamp: u64)
+        ensures effect { self.new ≡ after_end self.old timestamp }
+        ensures stopped { is_recording self.new ≡ false }
+        ensures again { self.old.has_ended ≡ true → self.new ≡ self.old }
+    {
+        if self.has_ended {
+            return;
+        }
+        self.has_ended = true;
+        match &mut self.kept {
+            Kept::Recorded(recorded) => recorded.end_time = timestamp,
+            Kept::Context(_) => (),
+        }
+    }
+
+    fn span_context(&self) -> &SpanContext {
+        match &self.kept {
+            Kept::Recorded(recorded) => &recorded.span_context,
+            Kept::Context(span_context) => span_context,
+        }
+    }
+
+    fn is_recording(&self) -> bool {
+        match &self.kept {
+            Kept::Recorded(_) => !self.has_ended,
+            Kept::Context(_) => false,
+        }
+    }
+
+    ghost event_keeps = { λ span name time attributes. refl };
+
+    ghost attribute_keeps = { λ span attribute. refl };
+
+    ghost link_keeps = { λ span linked attributes. refl };
+
+    ghost status_keeps = { λ span status. refl };
+
+    ghost name_keeps = { λ span name. refl };
+
+    ghost end_keeps = { λ span time. refl };
+}
