@@ -1,0 +1,17 @@
+-- How drawing goes on.
+use Rattle.std.proofs.Common.{◌<◌, Bool, List, length, refl, ◌∙◌, arith}
+use Rattle.otel_drawing.specs.Rows.{Draws}
+use Rattle.otel_drawing.specs.declared.rows.Row.{Row}
+
+-- nothing is drawn
+pub draws_nothing : (p : List Bool) (rows : List Row) → Draws p rows p rows
+draws_nothing p rows = record { same_length = refl; each = λ place h. refl; none_anew = λ place h. h }
+
+-- one after another
+pub draws_more : (p : List Bool) (a : List Row) (q : List Bool) (b : List Row) (r : List Bool) (c : List Row)
+    → Draws p a q b → Draws q b r c → Draws p a r c
+draws_more p a q b r c first then = record {
+  same_length = then.same_length ∙ first.same_length;
+  each = λ place h. then.each place (let k : place < length q = omega (arith, first.same_length) in k) ∙ first.each place h;
+  none_anew = λ place h. then.none_anew place (first.none_anew place h);
+}

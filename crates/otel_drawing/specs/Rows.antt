@@ -1,0 +1,36 @@
+-- Which spans the rows of a trace draw. Not in the Rust crates.
+use Rattle.std.specs.Prelude.{◌≡◌, ℕ, ◌+◌, ◌<◌, ◌==◌, refl, Bool, true, false, List, [], ◌∷◌, length}
+use Rattle.std.specs.Prelude.{count_by, slice_index_or, if◌then◌else◌}
+use Rattle.otel_drawing.specs.declared.rows.Row.{Row}
+use Rattle.otel_drawing.specs.declared.rows.Row.TheVariants.{Span, Absent}
+
+-- whether the row is that of the span at this place of the batch
+abbrev pub is_row_of : ℕ → Row → Bool
+is_row_of place (Span at depth follows) = at == place
+is_row_of place (Absent child) = false
+
+-- how many rows the span at this place has
+abbrev pub row_count : ℕ → List Row → ℕ
+row_count place rows = count_by (is_row_of place) rows
+
+-- 1 if this is said of the place, and else 0
+abbrev pub one_if : List Bool → ℕ → ℕ
+one_if said place = if slice_index_or said place false then 1 else 0
+
+-- each span of which this is said has one row, and every other span of the batch none
+abbrev pub AreDrawnOnce : List Bool → List Row → Type 0
+AreDrawnOnce said rows = (place : ℕ) → place < length said → row_count place rows ≡ one_if said place
+
+-- from the spans that waited to be drawn, and the rows, to those later: each span that no longer waits
+-- has one row more, and none waits anew
+pub record Draws (pending : List Bool) (rows : List Row) (left : List Bool) (drawn : List Row)
+    : Type 0 where
+  pub same_length : length left ≡ length pending
+  pub each : (place : ℕ) → place < length pending
+      → row_count place drawn + one_if left place ≡ row_count place rows + one_if pending place
+  pub none_anew : (place : ℕ) → slice_index_or pending place false ≡ false
+      → slice_index_or left place false ≡ false
+
+-- ---- worked rows
+one_of_two : row_count 1 (Absent 0 ∷ Span 1 1 false ∷ Span 0 1 true ∷ []) ≡ 1
+one_of_two = refl

@@ -1,0 +1,108 @@
+//! The lines of a picture.
+use crate::bar::Scale;
+use crate::columns::Style;
+use crate::duration::duration_text;
+use crate::name::{fit, shown_name};
+use crate::prefix::push_prefix;
+use crate::span::{Outcome, Span};
+use std::alloc::{AllocError, Global};
+
+/// The columns of a duration.
+const DURATION_WIDTH: usize = 9;
+
+/// Appends spaces, so many.
+fn push_spaces(line: &mut Vec<char>, count: usize) -> Result<(), AllocError> {
+    for _ in 0..count {
+        line.push(' ')?;
+    }
+    Ok(())
+}
+
+/// Appends the characters of a text.
+fn push_text(line: &mut Vec<char>, text: &str) -> Result<(), AllocError> {
+    for c in text.chars() {
+        line.push(c)?;
+    }
+    Ok(())
+}
+
+/// Appends the name of a span with the branches in front of it, and spaces to the end of its column.
+fn push_name(
+    line: &mut Vec<char>,
+    style: Style,
+    name: &Vec<char>,
+    follows: &[bool],
+) -> Result<(), AllocError> {
+    push_prefix(line, style.is_ascii, style.group_limit(), follows)?;
+    let columns = style.name_width().saturating_sub(line.len()).max(1);
+    let mut name = name.clone()?;
+    fit(style.is_ascii, columns, &mut name)?;
+    line.extend_from_slice(name.as_slice())?;
+    push_spaces(line, columns.saturating_sub(name.len()))
+}
+
+/// Returns the text of a status.
+fn outcome_text(outcome: Outcome) -> &'static str {
+    match outcome {
+        Outcome::Unset => "",
+        Outcome::Ok => "ok",
+        Outcome::Error => "error",
+    }
+}
+
+/// Removes the spaces at the end.
+fn trim_end(line: &mut Vec<char>) {
+    while line.last() == Some(&' ') {
+        line.pop();
+    }
+}
+
+/// Returns the line of a span.
+///
+/// # Errors
+///
+/// Returns an error if memory runs out.
+pub(crate) fn span_line(
+    alloc: Global,
+    style: Style,
+    scale: Scale,
+    span: &Span,
+    follows: &[bool],
+) -> Result<Vec<char>, AllocError> {
+    let mut line = Vec::new(alloc);
+    push_name(&mut line, style, &span.name, follows)?;
+    let duration = duration_text(alloc, span.start, span.end)?;
+    push_spaces(&mut line, 1 + DURATION_WIDTH.saturating_sub(duration.len()))?;
+    push_text(&mut line, duration.as_str())?;
+    line.push(' ')?;
+    let start = span.start.max(scale.from).min(scale.to);
+    let end = span.end.min(scale.to);
+    let bar = scale.bar(alloc, style.is_ascii, start, end, span.moments.as_slice())?;
+    line.extend_from_slice(bar.as_slice())?;
+    line.push(' ')?;
+    push_text(&mut line, outcome_text(span.outcome))?;
+    trim_end(&mut line);
+    Ok(line)
+}
+
+/// Returns the line of a parent that isn't in the batch: its id, and whether it is in another process,
+/// by what its first child says.
+///
+/// # Errors
+///
+/// Returns an error if memory runs out.
+pub(crate) fn absent_line(
+    alloc: Global,
+    style: Style,
+    child: &Span,
+) -> Result<Vec<char>, AllocError> {
+    let id = child.parent_span_id;
+    let text = if child.is_parent_remote {
+        format!(in alloc; "[remote {id}]")?
+    } else {
+        format!(in alloc; "[missing {id}]")?
+    };
+    let mut line = shown_name(alloc, style.is_ascii, text.as_str())?;
+    fit(style.is_ascii, style.name_width(), &mut line)?;
+    Ok(line)
+}

@@ -1,0 +1,48 @@
+//! What a name becomes on a terminal.
+ghost use Rattle.std.specs.Prelude.{◌≡◌, ◌<◌, IfOk, OnOk};
+ghost use Rattle.otel_drawing.specs.Name as spec;
+
+use std::alloc::{AllocError, Global};
+
+/// Returns the character as it is shown: `?` for one that can steer a terminal, and in ASCII for each
+/// above U+007E.
+pub fn shown(is_ascii: bool, c: char) -> char
+    ensures { result ≡ spec.shown is_ascii c }
+{
+    match c {
+        '\0'..='\x1f' | '\x7f'..='\u{9f}' => '?',
+        '\u{a0}'.. if is_ascii => '?',
+        _ => c,
+    }
+}
+
+/// Returns the characters that show a name.
+///
+/// # Errors
+///
+/// Returns an error if memory runs out.
+pub fn shown_name(alloc: Global, is_ascii: bool, name: &str) -> Result<Vec<char>, AllocError>
+    ensures { IfOk result (λ chars. chars.items ≡ spec.shown_name is_ascii name.now) }
+{
+    let mut chars = Vec::new(alloc);
+    for c in name.chars() {
+        chars.push(shown(is_ascii, c))?;
+    }
+    Ok(chars)
+}
+
+/// Cuts a name to so many columns: if it is longer, `…` or `~` stands in the last.
+///
+/// # Errors
+///
+/// Returns an error if memory runs out.
+pub(crate) fn fit(is_ascii: bool, columns: usize, name: &mut Vec<char>) -> Result<(), AllocError>
+    requires { 0 < columns }
+    ensures { OnOk result (name.new.items ≡ spec.fitted is_ascii columns name.old.items) }
+{
+    if name.len() > columns {
+        name.truncate(columns - 1);
+        name.push(if is_ascii { '~' } else { '…' })?;
+    }
+    Ok(())
+}

@@ -1,0 +1,9 @@
+-- What is gone from the rest was appended.
+use Rattle.std.proofs.Common.{◌≡◌, ℕ, List, ◌++◌}
+use Rattle.std.specs.Io.KnownBytes.{Appends}
+use Rattle.otel_waterfall.proofs.exporter.write_all.Given as goal
+
+abbrev pub invariant-loop : goal.invariant-loop
+invariant-loop g l =
+    (done : List ℕ) × (l.bytes ≡ done ++ l.rest)
+    × Appends (g.W.Write.contents l.initial.output) (g.W.Write.contents l.output) done

@@ -1,0 +1,50 @@
+//! Spans as they are drawn.
+ghost use Rattle.std.specs.Prelude.{◌≡◌, length, vec_len, IfOk};
+
+use opentelemetry::trace::{Event, Status};
+use otel_drawing::{Outcome, Span, shown_name};
+use otel_sdk_span::SpanData;
+use std::alloc::{AllocError, Global};
+
+/// Returns the moments of events.
+fn moments_of(alloc: Global, events: &[Event]) -> Result<Vec<u64>, AllocError> {
+    events.iter().map(|event| event.timestamp).collect(alloc)
+}
+
+/// Returns what the row of a span says of its status.
+fn outcome_of(status: &Status) -> Outcome {
+    match status {
+        Status::Unset => Outcome::Unset,
+        Status::Error { .. } => Outcome::Error,
+        Status::Ok => Outcome::Ok,
+    }
+}
+
+/// Returns the spans of a batch as they are drawn.
+///
+/// # Errors
+///
+/// Returns an error if memory runs out.
+pub(crate) fn drawn(
+    alloc: Global,
+    is_ascii: bool,
+    batch: &[SpanData],
+) -> Result<Vec<Span>, AllocError>
+    ensures { IfOk result (λ spans. vec_len spans ≡ length batch.now) }
+{
+    let mut spans = Vec::new(alloc);
+    for span in batch {
+        spans.push(Span {
+            trace_id: span.span_context.trace_id(),
+            span_id: span.span_context.span_id(),
+            parent_span_id: span.parent_span_id,
+            is_parent_remote: span.parent_span_is_remote,
+            name: shown_name(alloc, is_ascii, span.name.as_str())?,
+            start: span.start_time,
+            end: span.end_time,
+            moments: moments_of(alloc, span.events.events.as_slice())?,
+            outcome: outcome_of(&span.status),
+        })?;
+    }
+    Ok(spans)
+}

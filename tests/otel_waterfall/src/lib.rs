@@ -1,0 +1,8 @@
+//! What no clause says of pictures of spans: the order of the rows, whole pictures, and writers that fail.
+#![tactic(auto)]
+
+// Depends on: otel_sdk
+
+mod durations;
+mod pictures;
+mod refusals;
