@@ -1,0 +1,4 @@
+pub mod Members
+pub mod Scopes
+mod Walks
+pub mod Writing

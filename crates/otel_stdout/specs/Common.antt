@@ -1,0 +1,89 @@
+-- The messages that traces and logs share: attributes, resources, instrumentation scopes
+-- [opentelemetry/proto/common/v1/common.proto, resource/v1/resource.proto].
+use Rattle.std.specs.Prelude.{◌≡◌, ℕ, ℤ, List, [], ◌∷◌, ◌++◌, map, Bool, false, codes}
+use Rattle.std.specs.Prelude.{Some, None, refl}
+use Rattle.std.specs.Fmt.{signed_decimal}
+use Rattle.otel_base.specs.Array.{ArrayValue, booleans, integers, texts}
+use Rattle.otel_base.specs.Value as value
+use Rattle.otel_base.specs.Value.{AttributeValue}
+use Rattle.otel_base.specs.KeyValue.{Attribute}
+use Rattle.otel_base.specs.InstrumentationScope.{Scope}
+use Rattle.otel_sdk_span.specs.Attributes as attributes
+use Rattle.otel_sdk_span.specs.Resource.{Parts}
+use Rattle.serde_json.specs.Data.{Data, boolean, string}
+use Rattle.serde_json.specs.Written.{compact_text}
+use Rattle.serde_json.proofs.OnLiterals.{serde_json_on_literals}
+use Rattle.otel_stdout.specs.Json.{Member, object_of, text_member, object_member, list_member}
+use Rattle.otel_stdout.specs.Json.{list_unless_empty, text_if_given}
+
+-- ---- AnyValue
+abbrev pub boolean_value : Bool → Data
+boolean_value b = object_of ((codes "boolValue", boolean b) ∷ [])
+
+-- a number of 64 bits is a text
+abbrev pub integer_value : ℤ → Data
+integer_value z = object_of (text_member (codes "intValue") (signed_decimal z))
+
+abbrev pub text_value : List ℕ → Data
+text_value s = object_of (text_member (codes "stringValue") s)
+
+abbrev pub list_value : List Data → Data
+list_value values =
+    object_of (object_member (codes "arrayValue") (list_member (codes "values") values))
+
+-- the items of an array, each as a value of its own; the protocol has no type of an array's items
+abbrev pub array_values : ArrayValue → List Data
+array_values (booleans bs) = map boolean_value bs
+array_values (integers zs) = map integer_value zs
+array_values (texts ss) = map text_value ss
+
+-- the value of an attribute
+abbrev pub any_value : AttributeValue → Data
+any_value (value.boolean b) = boolean_value b
+any_value (value.integer z) = integer_value z
+any_value (value.text s) = text_value s
+any_value (value.array xs) = list_value (array_values xs)
+
+-- ---- KeyValue
+abbrev pub key_value : Attribute → Data
+key_value a = object_of (text_member (codes "key") a.0 ++ (codes "value", any_value a.1) ∷ [])
+
+-- the member `attributes`, left out if there are none
+abbrev pub attributes_member : List Attribute → List Member
+attributes_member xs = list_unless_empty (codes "attributes") (map key_value xs)
+
+-- ---- Resource
+abbrev pub resource : Parts → Data
+resource r = object_of (attributes_member r.attributes)
+
+-- ---- InstrumentationScope
+-- each key once, with its last value in its first place
+abbrev pub unique : List Attribute → List Attribute
+unique xs = attributes.put_all [] xs
+
+abbrev pub instrumentation_scope : Scope → Data
+instrumentation_scope s =
+    object_of (text_member (codes "name") s.name ++ text_if_given (codes "version") s.version
+    ++ attributes_member (unique s.attributes))
+
+-- ---- worked rows
+false_example :
+    compact_text (any_value (value.boolean false)) ≡ codes "{\"boolValue\":false}"
+unfolding serde_json_on_literals
+false_example = refl
+
+empty_text_example : compact_text (any_value (value.text [])) ≡ codes "{\"stringValue\":\"\"}"
+unfolding serde_json_on_literals
+empty_text_example = refl
+
+empty_array_example :
+    compact_text (any_value (value.array (texts []))) ≡ codes "{\"arrayValue\":{\"values\":[]}}"
+unfolding serde_json_on_literals
+empty_array_example = refl
+
+empty_scope_example :
+    compact_text (instrumentation_scope
+    (record { name = []; version = Some []; schema_url = None; attributes = [] }))
+    ≡ codes "{\"name\":\"\",\"version\":\"\"}"
+unfolding serde_json_on_literals
+empty_scope_example = refl

@@ -1,0 +1,4 @@
+pub mod Json
+pub mod Common
+pub mod Traces
+pub mod View

@@ -1,0 +1,12 @@
+//! Telemetry as JSON, in the form of the OpenTelemetry protocol (OTLP).
+#![tactic(auto)]
+
+mod accepted;
+mod common;
+mod exporter;
+mod object;
+mod traces;
+mod written;
+
+pub use exporter::OtlpJsonSpanExporter;
+pub use traces::{traces_data, traces_text};

@@ -1,0 +1,8 @@
+//! What no clause says of the lines of JSON: their text, byte by byte, and what a writer that fails
+//! leaves.
+// Depends on: otel_sdk
+#![tactic(auto)]
+
+mod batches;
+mod files;
+mod lines;
