@@ -1,0 +1,63 @@
+-- What a logger is handed for a record of the crate `log`.
+use Rattle.std.specs.Prelude.{◌≡◌, ℕ, List, Option, Some, IfSome}
+use Rattle.log.specs.declared.record.Metadata.{Metadata}
+use Rattle.log.specs.Kv.{Pair}
+use Rattle.log.specs.Record.{metadata_level, metadata_target}
+use Rattle.otel_ids.specs.SpanContext.{SpanContextRecord, IsValidSpanContext}
+use Rattle.otel_base.specs.AnyValue.{Tree, text}
+use Rattle.otel_base.specs.Severity.{name}
+use Rattle.otel_base.specs.declared.severity.Severity.{Severity}
+use Rattle.otel_appender_log.specs.declared.attributes.SourceLocation.{SourceLocation}
+use Rattle.otel_appender_log.specs.Attributes.{Attribute}
+use Rattle.otel_appender_log.specs.Location.{IsLocated}
+use Rattle.otel_appender_log.specs.Severity.{severity_of}
+
+-- what the setters of a log record do to it
+pub record Setters (R : Type 0) : Type 0 where
+  pub number : R → Severity → R
+  pub name : R → List ℕ → R
+  pub body : R → Tree → R
+  pub target : R → List ℕ → R
+  pub attributes : R → List Attribute → R
+
+-- what is known of a record of the crate `log`: its level and target, what `{}` writes for its
+-- message, its pairs, and its place in the source
+pub record Source : Type 0 where
+  pub metadata : Metadata
+  pub message : Option (List ℕ)
+  pub pairs : Option (List Pair)
+  pub location : SourceLocation
+
+-- the record with this severity, as a number and by its name, this body, target and attributes
+abbrev pub with_content : {R : Type 0} → Setters R → R → Severity → List ℕ → List ℕ
+    → List Attribute → R
+with_content set blank severity body target attributes =
+    let named = set.name (set.number blank severity) (name severity) in
+    set.attributes (set.target (set.body named (text body)) target) attributes
+
+-- `filled` is `blank` with the content of the source
+pub record IsFilled {R : Type 0} (set : Setters R) (source : Source) (blank filled : R) : Type 0 where
+  pub body : List ℕ
+  pub attributes : List Attribute
+  pub is_message : IfSome source.message (λ message. body ≡ message)
+  pub located : IsLocated source.pairs source.location attributes
+  pub is : filled ≡ with_content set blank (severity_of (metadata_level source.metadata)) body
+      (metadata_target source.metadata) attributes
+
+-- `stamped` is the record with the ids and flags of the span context, if that is valid, otherwise
+-- the record itself
+pub record IsStamped {R : Type 0} (MayBeTraced : R → ℕ → ℕ → Option ℕ → R → Type 0)
+    (span : SpanContextRecord) (plain stamped : R) : Type 0 where
+  pub traced : IsValidSpanContext span
+      → MayBeTraced plain span.trace_id span.span_id (Some span.trace_flags) stamped
+  pub untraced : (IsValidSpanContext span → ⊥) → stamped ≡ plain
+
+-- a record that the logger made, filled from the source and then stamped with the span context
+pub record IsBridged {R : Type 0} (MayCreate : R → Type 0) (set : Setters R)
+    (MayBeTraced : R → ℕ → ℕ → Option ℕ → R → Type 0) (source : Source)
+    (span : SpanContextRecord) (bridged : R) : Type 0 where
+  pub blank : R
+  pub filled : R
+  pub may_create : MayCreate blank
+  pub is_filled : IsFilled set source blank filled
+  pub is_stamped : IsStamped MayBeTraced span filled bridged

@@ -1,0 +1,5 @@
+pub mod Severity
+pub mod Value
+pub mod Attributes
+pub mod Location
+pub mod Bridge

@@ -1,0 +1,135 @@
+//! The log record that a logger is handed for a record of the crate `log`.
+ghost use Rattle.std.specs.Prelude.{◌≡◌, true, is_some, None, IfOk, IfSome, OnOk, OnErr};
+ghost use Rattle.log.specs.Record.{metadata_level, metadata_target, record_metadata, record_args, record_key_values};
+ghost use Rattle.otel_appender_log.specs.Bridge.{IsFilled, IsStamped, IsBridged};
+ghost use Rattle.otel_appender_log.specs.Severity.{severity_of};
+
+use crate::attributes::{SourceLocation, located_attributes};
+use crate::severity::severity_of_level;
+use log::Record;
+use log::kv::Source;
+use opentelemetry::StringValue;
+use opentelemetry::logs::{AnyValue, LogRecord, Logger};
+use opentelemetry::trace::SpanContext;
+use std::alloc::{AllocError, Global};
+use std::fmt::Display;
+
+// Sets the severity, body, target and attributes.
+fn fill<R: LogRecord, D: Display, K: Source, S>(
+    alloc: Global,
+    filled: &mut R,
+    source: &Record<'_, D, K, S>,
+    location: &SourceLocation<'_>,
+) -> Result<(), AllocError>
+    ensures { OnOk result (IsFilled
+        (record {
+          number = R.after_severity_number;
+          name = R.after_severity_text;
+          body = R.after_body;
+          target = R.after_target;
+          attributes = R.after_attributes;
+        })
+        (record {
+          metadata = record_metadata source.now;
+          message = D.output (record_args source.now);
+          pairs = K.pairs (record_key_values source.now);
+          location = location.now;
+        }) filled.old filled.new) }
+{
+    let attributes = located_attributes(alloc, source.key_values(), location)?;
+    let body = String::format(alloc, source.args())?;
+    let target = String::from_str(alloc, source.target())?;
+    let severity = severity_of_level(source.level());
+    filled.set_severity_number(severity);
+    filled.set_severity_text(severity.name());
+    filled.set_body(AnyValue::from(body));
+    filled.set_target(StringValue::from(target));
+    filled.add_attributes(alloc, attributes)
+}
+
+// Sets the ids and flags of a valid span context.
+fn stamp<R: LogRecord>(stamped: &mut R, span: &SpanContext)
+    ensures { IsStamped R.may_be_traced span.now stamped.old stamped.new }
+{
+    if span.is_valid() {
+        let flags = Some(span.trace_flags());
+        stamped.set_trace_context(span.trace_id(), span.span_id(), flags);
+    }
+}
+
+// Returns a record of the logger with the content of the source, whether it is enabled or not.
+fn made_record<L: Logger, D: Display, K: Source, S>(
+    alloc: Global,
+    logger: &L,
+    source: &Record<'_, D, K, S>,
+    location: &SourceLocation<'_>,
+    span: &SpanContext,
+) -> Result<L::LogRecord, AllocError>
+    ensures { IfOk result (IsBridged (L.may_create logger.now)
+        (record {
+          number = L.LogRecord.after_severity_number;
+          name = L.LogRecord.after_severity_text;
+          body = L.LogRecord.after_body;
+          target = L.LogRecord.after_target;
+          attributes = L.LogRecord.after_attributes;
+        }) L.LogRecord.may_be_traced
+        (record {
+          metadata = record_metadata source.now;
+          message = D.output (record_args source.now);
+          pairs = K.pairs (record_key_values source.now);
+          location = location.now;
+        }) span.now) }
+{
+    let mut made = logger.create_log_record(alloc)?;
+    fill(alloc, &mut made, source, location)?;
+    stamp(&mut made, span);
+    Ok(made)
+}
+
+/// Returns the log record for a record of the crate `log`, or `None` if the logger doesn't want
+/// records with its severity and target.
+///
+/// It has the severity of the level with its name, the message's text as its body, the target, and
+/// as attributes the key-value pairs in order and then what is known of the place, unless the keys
+/// are there. It names the span if the span context is valid. It has no timestamp and no event
+/// name. The spans of the crate `log` are left out.
+///
+/// # Errors
+///
+/// `AllocError` if out of memory, or if the message's or a value's own `fmt` fails. Only a record
+/// that the logger wants can fail.
+pub fn bridged_record<L: Logger, D: Display, K: Source, S>(
+    alloc: Global,
+    logger: &L,
+    source: &Record<'_, D, K, S>,
+    location: &SourceLocation<'_>,
+    span: &SpanContext,
+) -> Result<Option<L::LogRecord>, AllocError>
+    ensures asked { IfOk result (λ made. L.may_enable logger.now
+        (severity_of (metadata_level (record_metadata source.now)))
+        (metadata_target (record_metadata source.now)) None (is_some made)) }
+    ensures err { OnErr result (L.may_enable logger.now
+        (severity_of (metadata_level (record_metadata source.now)))
+        (metadata_target (record_metadata source.now)) None true) }
+    ensures bridged { IfOk result (λ made. IfSome made (IsBridged (L.may_create logger.now)
+        (record {
+          number = L.LogRecord.after_severity_number;
+          name = L.LogRecord.after_severity_text;
+          body = L.LogRecord.after_body;
+          target = L.LogRecord.after_target;
+          attributes = L.LogRecord.after_attributes;
+        }) L.LogRecord.may_be_traced
+        (record {
+          metadata = record_metadata source.now;
+          message = D.output (record_args source.now);
+          pairs = K.pairs (record_key_values source.now);
+          location = location.now;
+        }) span.now)) }
+{
+    let severity = severity_of_level(source.level());
+    if !logger.event_enabled(severity, source.target(), None) {
+        return Ok(None);
+    }
+    let made = made_record(alloc, logger, source, location, span)?;
+    Ok(Some(made))
+}

@@ -1,0 +1,102 @@
+-- Batches of a queue, one after another.
+use Rattle.std.proofs.Common.{◌≡◌, ℕ, zero, suc, ◌+◌, ◌-◌, ◌*◌, ◌<◌, ◌≤◌, min, inl, inr}
+use Rattle.std.proofs.Common.{List, [], ◌∷◌, ◌++◌, length, take, drop}
+use Rattle.std.proofs.Common.{sym, ap, subst, ◌∙◌, arith, append_assoc}
+use Rattle.std.proofs.Math.Nat.{suc-mul, le_of_lt, le_of_eq, min-eq_left, min-eq_right}
+use Rattle.std.proofs.Math.ListN.{drop_of_length-le}
+use Rattle.std.proofs.lemmas.Bool.{cases_lt}
+use Rattle.std.proofs.lemmas.List.{drop-drop, length-drop, take-append-drop, take_min}
+use Rattle.std.proofs.lemmas.Grind.{flat_map-append}
+use Rattle.std.specs.List.{flat_map}
+use Rattle.otel_sdk_logs.specs.declared.export.LogData.{LogData}
+use Rattle.otel_sdk_logs.specs.Export.{batches, records_of, AreExported}
+use Rattle.otel_sdk_logs.specs.Processor.{ProcessorState, IsFlushed, taken_of}
+
+none : (size : ℕ) → 0 ≡ zero * size
+none size = omega arith
+
+one_more : (count size : ℕ) → size + count * size ≡ suc count * size
+one_more count size = grind arith
+
+-- one batch more
+last_batch : {X : Type 0} (size count : ℕ) (xs : List X)
+    → batches size (suc count) xs ≡ batches size count xs ++ take size (drop (count * size) xs) ∷ []
+last_batch size zero xs = ap (λ (n : ℕ). take size (drop n xs) ∷ []) (none size)
+last_batch {X} size (suc count) xs =
+    ap (λ (ys : List (List X)). take size xs ∷ ys) (last_batch size count (drop size xs))
+    ∙ ap (λ (ys : List X). (take size xs ∷ batches size count (drop size xs)) ++ take size ys ∷ [])
+    (drop-drop (count * size) size xs ∙ ap (λ (n : ℕ). drop n xs) (one_more count size))
+
+-- the batches and what is left are the whole
+whole : {X : Type 0} (size count : ℕ) (xs : List X)
+    → flat_map (λ batch. batch) (batches size count xs) ++ drop (count * size) xs ≡ xs
+whole size zero xs = ap (λ (n : ℕ). drop n xs) (sym (none size))
+whole {X} size (suc count) xs =
+    ap (λ (n : ℕ). (take size xs ++ flat_map (λ batch. batch) (batches size count (drop size xs))) ++ drop n xs)
+    (sym (one_more count size))
+    ∙ append_assoc (take size xs) _ _
+    ∙ ap (λ (ys : List X). take size xs ++ (flat_map (λ batch. batch) (batches size count (drop size xs)) ++ ys))
+    (sym (drop-drop (count * size) size xs))
+    ∙ ap (λ (ys : List X). take size xs ++ ys) (whole size count (drop size xs))
+    ∙ take-append-drop size xs
+
+drop_min : {X : Type 0} (n : ℕ) (xs : List X) → drop (min n (length xs)) xs ≡ drop n xs
+drop_min {X} n xs = elim (cases_lt n (length xs)) [
+  | inl low ↦ ap (λ (m : ℕ). drop m xs) (min-eq_left (le_of_lt low))
+  | inr high ↦ drop_of_length-le xs (le_of_eq (sym (min-eq_right high))) ∙ sym (drop_of_length-le xs high)
+]
+
+module _ (size : ℕ) (queue : List LogData) (old : List (List LogData)) where
+  -- one more batch is exported
+  pub goes_on : (new after : List (List LogData)) (left batch rest : List LogData) (n : ℕ)
+      → AreExported size queue old new left → 0 < length left → after ≡ new ++ batch ∷ []
+      → n ≡ min size (length left) → batch ≡ take n left → rest ≡ drop n left
+      → AreExported size queue old after rest
+  goes_on new after left batch rest n e h a m b r =
+      let some : 0 < length queue - e.count * size =
+      subst (λ (n : ℕ). 0 < n) (ap length e.rest ∙ length-drop (e.count * size) queue) h in
+      let count : suc e.count * size ≡ e.count * size + size = suc-mul e.count size in
+      record {
+        count = suc e.count;
+        filled = λ k lt. elim (cases_lt k e.count) [
+          | inl low ↦ e.filled k low
+          | inr high ↦ let same : e.count ≡ k = omega arith in
+              subst (λ (n : ℕ). n * size < length queue) same (omega arith)
+        ];
+        accepted = a ∙ ap (λ (ys : List LogData). new ++ ys ∷ []) (b ∙ ap (λ (k : ℕ). take k left) m ∙ take_min size left)
+            ∙ ap (λ (bs : List (List LogData)). bs ++ take size left ∷ []) e.accepted
+            ∙ append_assoc old (batches size e.count queue) (take size left ∷ [])
+            ∙ ap (λ (ys : List LogData). old ++ (batches size e.count queue ++ take size ys ∷ [])) e.rest
+            ∙ ap (λ (bs : List (List LogData)). old ++ bs) (sym (last_batch size e.count queue));
+        rest = r ∙ ap (λ (k : ℕ). drop k left) m ∙ drop_min size left ∙ ap (drop size) e.rest ∙ drop-drop size (e.count * size) queue
+            ∙ ap (λ (n : ℕ). drop n queue) (sym count);
+      }
+
+-- what is left of a list after a part of what is left
+pub left_of : {X : Type 0} (xs left rest : List X) (n : ℕ) → length left ≤ length xs → n ≤ length left
+    → left ≡ drop (length xs - length left) xs → rest ≡ drop n left
+    → rest ≡ drop (length xs - length rest) xs
+left_of xs left rest n h k e r =
+    let short : length rest ≡ length left - n = ap length r ∙ length-drop n left in
+    r ∙ ap (drop n) e ∙ drop-drop n (length xs - length left) xs
+    ∙ ap (λ (m : ℕ). drop m xs) (omega arith)
+
+-- nothing is lost or added: what is accepted, followed by what is left
+pub together : (size : ℕ) (queue : List LogData) (old new : List (List LogData)) (left : List LogData)
+    → AreExported size queue old new left → records_of new ++ left ≡ records_of old ++ queue
+together size queue old new left e =
+    ap (λ (bs : List (List LogData)). records_of bs ++ left) e.accepted
+    ∙ ap (λ (xs : List LogData). xs ++ left)
+    (flat_map-append (λ (batch : List LogData). batch) old (batches size e.count queue))
+    ∙ append_assoc (records_of old) (records_of (batches size e.count queue)) left
+    ∙ ap (λ (xs : List LogData). records_of old ++ (records_of (batches size e.count queue) ++ xs)) e.rest
+    ∙ ap (λ (xs : List LogData). records_of old ++ xs) (whole size e.count queue)
+
+-- a flush keeps what a processor took
+pub keeps : {E : Type 0} (accepted : E → List (List LogData)) (old new : ProcessorState E)
+    → IsFlushed accepted old new → taken_of accepted new ≡ taken_of accepted old
+keeps {E} accepted old new f =
+    ap (taken_of accepted) f.same
+    ∙ ap (λ (xs : List LogData). record { records = xs; dropped = old.dropped_records })
+    (together old.config.max_export_batch_size old.queue (accepted old.exporter) (accepted new.exporter) new.queue
+    f.exported)

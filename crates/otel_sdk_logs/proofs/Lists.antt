@@ -1,0 +1,42 @@
+-- Places in lists of attributes.
+use Rattle.std.proofs.Common.{◌≡◌, ℕ, ◌+◌, Bool, List, [], ◌∷◌, ◌++◌, length, map}
+use Rattle.std.proofs.Common.{Some, None, refl, ap, ◌∙◌, slice_set}
+use Rattle.std.specs.Prelude.{position, not, cond, nat_lt}
+use Rattle.std.specs.List.{prefix_len}
+use Rattle.std.specs.Option.{option_map_or}
+use Rattle.std.proofs.lemmas.List.{length-map, map-set}
+use Rattle.std.proofs.lemmas.List.{map-append}
+use Rattle.otel_base.specs.View.{tree, pairs_view}
+use Rattle.otel_base.specs.declared.any_value.AnyValue.{AnyValue}
+use Rattle.otel_sdk_logs.specs.Attributes as spec
+
+prefix_len_map : {X Y : Type 0} (p : Y → Bool) (f : X → Y) (xs : List X) → prefix_len p (map f xs) ≡ prefix_len (λ x. p (f x)) xs
+prefix_len_map p f [] = refl
+prefix_len_map p f (x ∷ xs) = ap (λ n. cond (p (f x)) (1 + n) 0) (prefix_len_map p f xs)
+
+-- the first place that passes is that of the first element whose image passes
+pub position_map : {X Y : Type 0} (p : Y → Bool) (f : X → Y) (xs : List X) → position p (map f xs) ≡ position (λ x. p (f x)) xs
+position_map p f xs =
+    rw (length-map xs f) (ap (λ n. cond (nat_lt n (length xs)) (Some n) None) (prefix_len_map (λ y. not (p y)) f xs))
+
+-- a list written at the place of the key
+pub put_at : (xs : List (List ℕ × AnyValue)) (key : List ℕ) (v : AnyValue) (i : ℕ) → Some i ≡ spec.place key (pairs_view xs)
+    → pairs_view (slice_set xs i (key, v)) ≡ spec.put (pairs_view xs) (key, tree v)
+put_at xs key v i h =
+    map-set (λ e. (e.0, tree e.1)) xs i (key, v)
+    ∙ ap (λ r. option_map_or (λ j. slice_set (pairs_view xs) j (key, tree v)) r (pairs_view xs ++ (key, tree v) ∷ [])) h
+
+-- a list with one more at its end, if the key isn't there
+pub put_last : (xs : List (List ℕ × AnyValue)) (key : List ℕ) (v : AnyValue) → None ≡ spec.place key (pairs_view xs)
+    → pairs_view (xs ++ (key, v) ∷ []) ≡ spec.put (pairs_view xs) (key, tree v)
+put_last xs key v h =
+    map-append (λ e. (e.0, tree e.1)) xs ((key, v) ∷ [])
+    ∙ ap (λ r. option_map_or (λ j. slice_set (pairs_view xs) j (key, tree v)) r (pairs_view xs ++ (key, tree v) ∷ [])) h
+
+-- the same where the list and the key go by other names
+pub put_found : (xs ys : List (List ℕ × AnyValue)) (key k : List ℕ) (v : AnyValue) (i : ℕ) → ys ≡ xs → k ≡ key
+    → Some i ≡ spec.place k (pairs_view ys)
+    → pairs_view (slice_set xs i (key, v)) ≡ spec.put (pairs_view xs) (key, tree v)
+put_found xs ys key k v i e f h =
+    put_at xs key v i (h ∙ ap (λ (q : List ℕ). spec.place q (pairs_view ys)) f
+    ∙ ap (λ (zs : List (List ℕ × AnyValue)). spec.place key (pairs_view zs)) e)

@@ -1,0 +1,36 @@
+-- How a queue of log records is handed to an exporter in batches.
+use Rattle.std.specs.Prelude.{◌≡◌, ℕ, zero, suc, ◌*◌, ◌<◌, Bool, List, [], ◌∷◌, ◌++◌, take, drop}
+use Rattle.std.specs.Prelude.{length, refl}
+use Rattle.std.specs.List.{flat_map}
+use Rattle.otel_sdk_logs.specs.declared.export.LogData.{LogData}
+
+-- the records of the batches, in order
+abbrev pub records_of : List (List LogData) → List LogData
+records_of batches = flat_map (λ batch. batch) batches
+
+-- the first batches of a list, so many: each has this size, and the last one of the list what is
+-- left; a, b, c in batches of 2 are [a, b] and [c]
+abbrev pub batches : {X : Type 0} → ℕ → ℕ → List X → List (List X)
+batches size zero xs = []
+batches size (suc count) xs = take size xs ∷ batches size count (drop size xs)
+
+-- The first batches of a queue were accepted, in order and each once, and what is left of the queue
+-- comes after them.
+pub record AreExported (size : ℕ) (queue : List LogData) (old new : List (List LogData))
+    (left : List LogData) : Type 0 where
+  -- how many batches
+  pub count : ℕ
+  -- none of them is empty
+  pub filled : (k : ℕ) → k < count → k * size < length queue
+  pub accepted : new ≡ old ++ batches size count queue
+  pub rest : left ≡ drop (count * size) queue
+
+-- What an exporter that keeps log records in memory has: the batches that it accepted since it was last
+-- emptied, and whether it was shut down (the Rust crate's `InMemoryLogExporter`).
+pub record InMemory : Type 0 where
+  pub accepted : List (List LogData)
+  pub is_shut_down : Bool
+
+-- ---- worked rows
+batches_example : batches {X = ℕ} 2 2 (1 ∷ 2 ∷ 3 ∷ []) ≡ (1 ∷ 2 ∷ []) ∷ (3 ∷ []) ∷ []
+batches_example = refl

@@ -1,0 +1,111 @@
+//! Attributes with unique keys, under a limit.
+ghost use Rattle.std.specs.Prelude.{◌≡◌, ◌<◌, ◌≤◌, ◌+◌, OnOk, OnErr, length, vec_len, vec_capacity};
+ghost use Rattle.otel_base.specs.View.{tree, pairs_view};
+ghost use Rattle.otel_sdk_logs.specs.Attributes as spec;
+
+use opentelemetry::Key;
+use opentelemetry::logs::AnyValue;
+use std::alloc::AllocError;
+
+// How many attributes a record has at most (OpenTelemetry specification, "Attribute Limits").
+const MAX_ATTRIBUTES: usize = 128;
+
+type Pairs = Vec<(Key, AnyValue)>;
+
+// The place of the attribute with the key, if there is one.
+fn place(held: &[(Key, AnyValue)], key: &str) -> Option<usize>
+    ensures { result ≡ spec.place key.now (pairs_view held.now) }
+{
+    held.iter().position(|pair| pair.0.as_str() == key)
+}
+
+// Puts the attribute in the place of the one with its key, or else last.
+fn put(held: &mut Pairs, key: Key, value: AnyValue)
+    requires { vec_len held.old < vec_capacity held.old }
+    ensures put { pairs_view held.new.items
+        ≡ spec.put (pairs_view held.old.items) (key, tree value) }
+    ensures len { vec_len held.new ≤ vec_len held.old + 1 }
+    ensures capacity { vec_capacity held.new ≡ vec_capacity held.old }
+{
+    match place(held, key.as_str()) {
+        Some(place) => held[place] = (key, value),
+        None => held.push_reserved((key, value)),
+    }
+}
+
+// Sets the attribute, and returns whether it was kept.
+fn set(held: &mut Pairs, key: Key, value: AnyValue) -> bool
+    requires { vec_len held.old < vec_capacity held.old }
+    ensures kept { result ≡ spec.keeps (pairs_view held.old.items) (key, tree value) }
+    ensures set { pairs_view held.new.items
+        ≡ spec.set (pairs_view held.old.items) (key, tree value) }
+    ensures len { vec_len held.new ≤ vec_len held.old + 1 }
+    ensures capacity { vec_capacity held.new ≡ vec_capacity held.old }
+{
+    let is_held = place(held, key.as_str()).is_some();
+    if !is_held && held.len() >= MAX_ATTRIBUTES {
+        return false;
+    }
+    put(held, key, value);
+    true
+}
+
+// Sets the attribute, or counts it if it isn't kept.
+fn set_counted(held: &mut Pairs, dropped: &mut u32, key: Key, value: AnyValue)
+    requires { vec_len held.old < vec_capacity held.old }
+    ensures set { (record { attributes = pairs_view held.new.items; dropped = dropped.new })
+        ≡ spec.with_one
+        (record { attributes = pairs_view held.old.items; dropped = dropped.old })
+        (key, tree value) }
+    ensures len { vec_len held.new ≤ vec_len held.old + 1 }
+    ensures capacity { vec_capacity held.new ≡ vec_capacity held.old }
+{
+    if !set(held, key, value) {
+        *dropped = dropped.saturating_add(1);
+    }
+}
+
+/// Sets the attribute, or counts it if it isn't kept.
+///
+/// # Errors
+///
+/// `AllocError` if out of memory. Nothing changes; the attribute is dropped.
+pub(crate) fn set_one(
+    held: &mut Pairs,
+    dropped: &mut u32,
+    key: Key,
+    value: AnyValue,
+) -> Result<(), AllocError>
+    ensures ok { OnOk result
+        ((record { attributes = pairs_view held.new.items; dropped = dropped.new })
+        ≡ spec.with_one
+        (record { attributes = pairs_view held.old.items; dropped = dropped.old })
+        (key, tree value)) }
+    ensures err { OnErr result (held.new.items ≡ held.old.items) }
+    ensures uncounted { OnErr result (dropped.new ≡ dropped.old) }
+{
+    held.reserve(1)?;
+    set_counted(held, dropped, key, value);
+    Ok(())
+}
+
+/// Sets each of the attributes in turn, and counts those that aren't kept.
+///
+/// # Errors
+///
+/// `AllocError` if out of memory. Nothing changes; the attributes are dropped.
+pub(crate) fn set_all(held: &mut Pairs, dropped: &mut u32, given: Pairs) -> Result<(), AllocError>
+    ensures ok { OnOk result
+        ((record { attributes = pairs_view held.new.items; dropped = dropped.new })
+        ≡ spec.with_all
+        (record { attributes = pairs_view held.old.items; dropped = dropped.old })
+        (pairs_view given.items)) }
+    ensures err { OnErr result (held.new.items ≡ held.old.items) }
+    ensures uncounted { OnErr result (dropped.new ≡ dropped.old) }
+{
+    held.reserve(given.len())?;
+    for (key, value) in given {
+        set_counted(held, dropped, key, value);
+    }
+    Ok(())
+}

@@ -1,0 +1,57 @@
+//! Processors of log records, which hand them to an exporter.
+ghost use Rattle.std.specs.Prelude.{◌≡◌};
+ghost use Rattle.otel_sdk_logs.specs.Processor.{IsHandedIn};
+
+pub(crate) mod batch;
+mod batches;
+pub(crate) mod config;
+pub(crate) mod simple;
+
+use crate::export::LogData;
+use otel_sdk::error::OTelSdkResult;
+use otel_sdk::resource::Resource;
+use std::rc::Rc;
+
+/// Takes log records, and hands them to an exporter (the Rust crate's `LogProcessor`). There are no
+/// threads: records are exported in the calls only.
+///
+/// A processor names, by the ghost member `taken`, the records that it took, in order, and how many
+/// it dropped.
+///
+/// See [`crate::BatchLogProcessor`].
+pub trait LogProcessor: Drop {
+    ghost use Rattle.otel_sdk_logs.specs.Processor.{Taken};
+
+    ghost taken: { Self → Taken };
+
+    /// Takes a record, or drops and counts it.
+    fn on_emit(&mut self, given: LogData)
+        ensures { IsHandedIn given (taken self.old) (taken self.new) };
+
+    /// Hands the records that are queued to the exporter, and flushes it.
+    ///
+    /// # Errors
+    ///
+    /// `AlreadyShutdown` after [`LogProcessor::shutdown`], or the exporter's. What it didn't accept
+    /// stays queued, in order.
+    fn force_flush(&mut self) -> OTelSdkResult
+        ensures { taken self.new ≡ taken self.old };
+
+    /// Flushes the processor, and shuts it and its exporter down. From then on each record is
+    /// dropped and counted.
+    ///
+    /// # Errors
+    ///
+    /// `AlreadyShutdown` after an earlier call, or the exporter's. If the flush failed, the
+    /// processor stays open for another try.
+    fn shutdown(&mut self) -> OTelSdkResult;
+
+    /// Returns whether it takes records: it is open.
+    fn is_open(&self) -> bool;
+
+    /// Tells the exporter the resource of the records to come. Does nothing unless a processor says
+    /// otherwise.
+    fn set_resource(&mut self, _resource: Rc<Resource>)
+        ensures { taken self.new ≡ taken self.old }
+    {}
+}

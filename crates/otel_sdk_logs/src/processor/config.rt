@@ -1,0 +1,105 @@
+//! The limits of a processor's queue.
+ghost use Rattle.std.specs.Prelude.{◌≡◌};
+ghost use Rattle.otel_sdk_logs.specs.Processor.{effective, default_limits};
+
+use std::default::Default;
+use std::marker::Model;
+
+/// How many records a [`crate::BatchLogProcessor`] queues and exports at once (the Rust
+/// crate's `BatchConfig`, without its delays, as there is no clock to wait on).
+///
+/// See [`BatchConfigBuilder`].
+#[derive(Debug, Drop)]
+pub struct BatchConfig {
+    pub(crate) max_queue_size: usize,
+    pub(crate) max_export_batch_size: usize,
+}
+
+impl Model for BatchConfig {
+    ghost use Rattle.std.specs.Prelude.{◌≤◌, ◌<◌};
+    ghost use Rattle.otel_sdk_logs.specs.Processor.{Limits};
+
+    ghost Value = { Limits };
+
+    ghost view = { λ c. record {
+      max_queue_size = c.max_queue_size;
+      max_export_batch_size = c.max_export_batch_size;
+    } };
+
+    ghost invariant = { λ c. (0 < c.max_export_batch_size)
+        × (c.max_export_batch_size ≤ c.max_queue_size) };
+}
+
+impl Default for BatchConfig {
+    ghost is_default = { λ c. c ≡ default_limits };
+
+    /// Returns the limits of 2,048 records in a queue and 512 in a batch.
+    fn default() -> BatchConfig {
+        BatchConfigBuilder::default().build()
+    }
+}
+
+/// The limits while they are given (the Rust crate's `BatchConfigBuilder`).
+///
+/// ```
+/// let config = BatchConfigBuilder::default().with_max_queue_size(4096).build();
+/// ```
+#[derive(Debug, Drop)]
+pub struct BatchConfigBuilder {
+    max_queue_size: usize,
+    max_export_batch_size: usize,
+}
+
+impl Model for BatchConfigBuilder {
+    ghost use Rattle.otel_sdk_logs.specs.Processor.{Limits};
+
+    ghost Value = { Limits };
+
+    ghost view = { λ b. record {
+      max_queue_size = b.max_queue_size;
+      max_export_batch_size = b.max_export_batch_size;
+    } };
+}
+
+impl Default for BatchConfigBuilder {
+    ghost is_default = { λ b. b ≡ default_limits };
+
+    /// Returns the limits of 2,048 records in a queue and 512 in a batch (OpenTelemetry logs SDK,
+    /// "Batching processor").
+    fn default() -> BatchConfigBuilder {
+        BatchConfigBuilder {
+            max_queue_size: 2048,
+            max_export_batch_size: 512,
+        }
+    }
+}
+
+impl BatchConfigBuilder {
+    /// Sets how many records are queued at most; 0 counts as 1.
+    pub fn with_max_queue_size(mut self, max_queue_size: usize) -> BatchConfigBuilder
+        ensures { result ≡ record self { max_queue_size = max_queue_size } }
+    {
+        self.max_queue_size = max_queue_size;
+        self
+    }
+
+    /// Sets how many records a batch has at most; 0 counts as 1, and what is greater than the queue's
+    /// limit counts as that limit.
+    pub fn with_max_export_batch_size(mut self, max_export_batch_size: usize) -> BatchConfigBuilder
+        ensures { result ≡ record self { max_export_batch_size = max_export_batch_size } }
+    {
+        self.max_export_batch_size = max_export_batch_size;
+        self
+    }
+
+    /// Returns the limits that count.
+    pub fn build(self) -> BatchConfig
+        ensures { result ≡ effective self }
+    {
+        let max_queue_size = self.max_queue_size.max(1);
+        BatchConfig {
+            max_queue_size,
+            max_export_batch_size: self.max_export_batch_size.max(1).min(max_queue_size),
+        }
+    }
+}

@@ -1,0 +1,126 @@
+//! The processor that exports each log record when it is emitted.
+ghost use Rattle.std.specs.Prelude.{◌≡◌, [], not, length, IfOk, OnOk};
+ghost use Rattle.otel_sdk_logs.specs.Processor as spec;
+ghost use Rattle.otel_sdk_logs.specs.Processor.{IsFlushed, IsHandedIn, taken_of};
+ghost use Rattle.otel_sdk_logs.specs.Processor.{IsRefusedIfClosed, FailedIfOpen, FlushedIfClosed};
+ghost use Rattle.otel_sdk_logs.specs.Batch.{simple_state};
+
+use crate::export::{LogData, LogExporter};
+use crate::processor::LogProcessor;
+use crate::processor::batch::BatchLogProcessor;
+use crate::processor::config::BatchConfigBuilder;
+use otel_sdk::error::OTelSdkResult;
+use otel_sdk::resource::Resource;
+use std::alloc::{AllocError, Global};
+use std::rc::Rc;
+
+/// Exports each log record when it is emitted, in a batch of its own (the Rust crate's
+/// `SimpleLogProcessor`).
+///
+/// A record that the exporter refuses is queued, up to 2,048 of them, and is handed in again,
+/// before others, at the next record or flush.
+///
+/// ```
+/// let mut processor = SimpleLogProcessor::new(alloc, exporter)?;
+/// ```
+#[derive(Drop)]
+pub struct SimpleLogProcessor<E> {
+    inner: BatchLogProcessor<E>,
+}
+
+impl<E: LogExporter> SimpleLogProcessor<E> {
+    /// Returns a processor without records, with room for those that are refused.
+    ///
+    /// # Errors
+    ///
+    /// `AllocError` if out of memory. The exporter is let go.
+    pub fn new(alloc: Global, exporter: E) -> Result<SimpleLogProcessor<E>, AllocError>
+        ensures { IfOk result (λ p. simple_state p ≡ spec.new exporter spec.single_limits) }
+    {
+        let config = BatchConfigBuilder::default()
+            .with_max_export_batch_size(1)
+            .build();
+        Ok(SimpleLogProcessor {
+            inner: BatchLogProcessor::new(alloc, exporter, config)?,
+        })
+    }
+
+    /// Returns the exporter.
+    pub fn exporter(&self) -> &E
+        ensures { result.now ≡ (simple_state self.now).exporter }
+    {
+        self.inner.exporter()
+    }
+
+    /// Returns how many records were dropped. Stops at the greatest `u64`.
+    pub fn dropped_records(&self) -> u64
+        ensures { result ≡ (simple_state self.now).dropped_records }
+    {
+        self.inner.dropped_records()
+    }
+
+    /// Returns the number of records that are queued, as the exporter refused them.
+    pub fn queued_records(&self) -> usize
+        ensures { result ≡ length (simple_state self.now).queue }
+    {
+        self.inner.queued_records()
+    }
+}
+
+impl<E: LogExporter> LogProcessor for SimpleLogProcessor<E> {
+    ghost use Rattle.otel_sdk_logs.specs.Processor.{taken_of};
+    ghost use Rattle.otel_sdk_logs.specs.Batch.{simple_state};
+
+    ghost taken = { λ p. taken_of E.accepted (simple_state p) };
+
+    /// Queues the record, or drops and counts it if the processor is closed or the queue is full.
+    /// Then flushes the processor; what the exporter didn't accept stays queued, in order.
+    fn on_emit(&mut self, given: LogData)
+        ensures flushed { IsFlushed E.accepted (spec.after_emit given (simple_state self.old))
+            (simple_state self.new) }
+        ensures handed_in { IsHandedIn given (taken_of E.accepted (simple_state self.old))
+            (taken_of E.accepted (simple_state self.new)) }
+    {
+        self.inner.on_emit(given);
+        let _ = self.inner.force_flush();
+    }
+
+    fn force_flush(&mut self) -> OTelSdkResult
+        ensures flushed { IsFlushed E.accepted (simple_state self.old) (simple_state self.new) }
+        ensures taken { taken_of E.accepted (simple_state self.new)
+            ≡ taken_of E.accepted (simple_state self.old) }
+        ensures ok { OnOk result ((simple_state self.new).queue ≡ []) }
+        ensures closed { IsRefusedIfClosed result (simple_state self.old) (simple_state self.new) }
+    {
+        self.inner.force_flush()
+    }
+
+    fn shutdown(&mut self) -> OTelSdkResult
+        ensures closed { IsRefusedIfClosed result (simple_state self.old) (simple_state self.new) }
+        ensures open { FailedIfOpen E.accepted result
+            (simple_state self.old) (simple_state self.new) }
+        ensures shut_down { FlushedIfClosed E.accepted E.shuts_down
+            (simple_state self.old) (simple_state self.new) }
+    {
+        self.inner.shutdown()
+    }
+
+    /// Returns whether it wasn't shut down.
+    fn is_open(&self) -> bool
+        ensures { result ≡ not (simple_state self.now).is_shut_down }
+    {
+        self.inner.is_open()
+    }
+
+    /// Tells the exporter the resource of the records to come.
+    fn set_resource(&mut self, resource: Rc<Resource>)
+        ensures exporter { E.accepted (simple_state self.new).exporter
+            ≡ E.accepted (simple_state self.old).exporter }
+        ensures same { simple_state self.new
+            ≡ record (simple_state self.old) { exporter = (simple_state self.new).exporter } }
+        ensures taken { taken_of E.accepted (simple_state self.new)
+            ≡ taken_of E.accepted (simple_state self.old) }
+    {
+        self.inner.set_resource(resource);
+    }
+}

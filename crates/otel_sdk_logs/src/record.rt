@@ -1,0 +1,206 @@
+//! A log record of the SDK.
+ghost use Rattle.std.specs.Prelude.{◌≡◌, OnOk, OnErr};
+ghost use Rattle.otel_base.specs.View.{tree, pairs_view};
+ghost use Rattle.otel_sdk_logs.specs.LogRecord as spec;
+
+use crate::attributes::{set_all, set_one};
+use opentelemetry::logs::{AnyValue, LogRecord, Severity};
+use opentelemetry::trace::{SpanId, TraceFlags, TraceId};
+use opentelemetry::{Key, StringValue};
+use std::alloc::{AllocError, Global};
+use std::marker::Model;
+
+/// The span that was active when a log record's event happened (the Rust crate's `TraceContext`).
+///
+/// See [`SdkLogRecord::trace_context`].
+#[derive(Clone, Copy, Debug)]
+pub struct TraceContext {
+    /// The span's trace.
+    pub trace_id: TraceId,
+    /// The span.
+    pub span_id: SpanId,
+    /// The flags of the trace, if they were given.
+    pub trace_flags: Option<TraceFlags>,
+}
+
+/// A log record, as processors and exporters get it (the Rust crate's `SdkLogRecord`).
+///
+/// Its attributes have unique keys: an attribute whose key is there gets its value in its place,
+/// and one whose key is new is dropped and counted if there are 128.
+///
+/// ```
+/// let mut record = SdkLogRecord::new(alloc);
+/// ```
+#[derive(Debug, Drop)]
+pub struct SdkLogRecord {
+    /// The name of the event, if it describes one.
+    pub event_name: Option<StringValue>,
+    /// The part of the program that it comes from.
+    pub target: Option<StringValue>,
+    /// When the event happened, in nanoseconds since 1970-01-01T00:00:00Z.
+    pub timestamp: Option<u64>,
+    /// When the event was observed, in nanoseconds since 1970-01-01T00:00:00Z.
+    pub observed_timestamp: Option<u64>,
+    /// The severity in the words of the record's source.
+    pub severity_text: Option<StringValue>,
+    /// The severity.
+    pub severity_number: Option<Severity>,
+    /// What the record says.
+    pub body: Option<AnyValue>,
+    /// Its attributes in order.
+    pub attributes: Vec<(Key, AnyValue)>,
+    /// How many attributes were dropped because of the limit.
+    pub dropped_attributes_count: u32,
+    /// The span that was active.
+    pub trace_context: Option<TraceContext>,
+}
+
+impl Model for SdkLogRecord {
+    ghost use Rattle.std.specs.Option.{option_map};
+    ghost use Rattle.otel_base.specs.Severity.{number};
+    ghost use Rattle.otel_base.specs.View.{tree, pairs_view};
+    ghost use Rattle.otel_sdk_logs.specs.LogRecord.{LogState, log_state_code};
+
+    ghost Value = { LogState };
+
+    ghost coded = { log_state_code };
+
+    ghost view = { λ r. record {
+      event_name = r.event_name;
+      target = r.target;
+      timestamp = r.timestamp;
+      observed_timestamp = r.observed_timestamp;
+      severity_text = r.severity_text;
+      severity_number = option_map number r.severity_number;
+      body = option_map tree r.body;
+      attributes = pairs_view r.attributes.items;
+      dropped_attributes = r.dropped_attributes_count;
+      trace_context = r.trace_context;
+    } };
+}
+
+impl SdkLogRecord {
+    /// Returns a record with nothing set. Takes no memory.
+    pub fn new(alloc: Global) -> SdkLogRecord
+        ensures { result ≡ spec.empty }
+    {
+        SdkLogRecord {
+            event_name: None,
+            target: None,
+            timestamp: None,
+            observed_timestamp: None,
+            severity_text: None,
+            severity_number: None,
+            body: None,
+            attributes: Vec::new(alloc),
+            dropped_attributes_count: 0,
+            trace_context: None,
+        }
+    }
+}
+
+impl LogRecord for SdkLogRecord {
+    ghost use Rattle.std.specs.Prelude.{◌≡◌, ◌⊎◌, Some, refl};
+    ghost use Rattle.std.proofs.Common.{inl};
+    ghost use Rattle.otel_base.specs.Severity.{number};
+    ghost use Rattle.otel_sdk_logs.specs.LogRecord.{with_attributes, with_attribute};
+    ghost use Rattle.otel_sdk_logs.specs.LogRecord.{with_trace_context};
+
+    ghost after_event_name = { λ log name. record log { event_name = Some name } };
+
+    ghost after_target = { λ log target. record log { target = Some target } };
+
+    ghost after_timestamp = { λ log timestamp. record log { timestamp = Some timestamp } };
+
+    ghost after_observed_timestamp = { λ log timestamp.
+        record log { observed_timestamp = Some timestamp } };
+
+    ghost after_severity_text = { λ log text. record log { severity_text = Some text } };
+
+    ghost after_severity_number = { λ log severity.
+        record log { severity_number = Some (number severity) } };
+
+    ghost after_body = { λ log body. record log { body = Some body } };
+
+    ghost after_attributes = { with_attributes };
+
+    ghost after_attribute = { with_attribute };
+
+    ghost may_be_traced = { λ old trace_id span_id trace_flags new.
+        (new ≡ old) ⊎ (new ≡ with_trace_context old trace_id span_id trace_flags) };
+
+    fn set_event_name(&mut self, name: &'static str) {
+        self.event_name = Some(StringValue::from(name));
+    }
+
+    fn set_target(&mut self, target: StringValue) {
+        self.target = Some(target);
+    }
+
+    fn set_timestamp(&mut self, timestamp: u64) {
+        self.timestamp = Some(timestamp);
+    }
+
+    fn set_observed_timestamp(&mut self, timestamp: u64) {
+        self.observed_timestamp = Some(timestamp);
+    }
+
+    fn set_severity_text(&mut self, text: &'static str) {
+        self.severity_text = Some(StringValue::from(text));
+    }
+
+    fn set_severity_number(&mut self, number: Severity) {
+        self.severity_number = Some(number);
+    }
+
+    fn set_body(&mut self, body: AnyValue) {
+        self.body = Some(body);
+    }
+
+    /// Sets each attribute in turn, in the place of the one with its key, or else last, up to 128.
+    ///
+    /// # Errors
+    ///
+    /// `AllocError` if out of memory. The record is unchanged; the attributes are dropped.
+    fn add_attributes(
+        &mut self,
+        _alloc: Global,
+        attributes: Vec<(Key, AnyValue)>,
+    ) -> Result<(), AllocError> {
+        let dropped = &mut self.dropped_attributes_count;
+        set_all(&mut self.attributes, dropped, attributes)
+    }
+
+    /// Sets the attribute in the place of the one with its key, or else last, up to 128.
+    ///
+    /// # Errors
+    ///
+    /// `AllocError` if out of memory. The record is unchanged; the attribute is dropped.
+    fn add_attribute(
+        &mut self,
+        _alloc: Global,
+        key: Key,
+        value: AnyValue,
+    ) -> Result<(), AllocError> {
+        let dropped = &mut self.dropped_attributes_count;
+        set_one(&mut self.attributes, dropped, key, value)
+    }
+
+    /// Sets the span, in place of the one before.
+    fn set_trace_context(
+        &mut self,
+        trace_id: TraceId,
+        span_id: SpanId,
+        trace_flags: Option<TraceFlags>,
+    )
+        ensures { self.new ≡ with_trace_context self.old trace_id span_id trace_flags }
+    {
+        self.trace_context = Some(TraceContext {
+            trace_id,
+            span_id,
+            trace_flags,
+        });
+    }
+
+    ghost may_be_untraced = { λ log trace_id span_id trace_flags. inl refl };
+}

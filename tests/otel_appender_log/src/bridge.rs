@@ -1,0 +1,218 @@
+//! Records that go through the sink.
+use log::{Level, Log, Logged, Metadata, debug, error, info, trace, warn};
+use opentelemetry::logs::{AnyValue, Severity};
+use opentelemetry::trace::{SpanContext, SpanId, TraceFlags, TraceId, TraceState};
+use opentelemetry::{Context, InstrumentationScope, StringValue};
+use otel_appender_log::{
+    OpenTelemetryLogBridge, SourceLocation, bridged_record, severity_of_level,
+};
+use otel_recording::{RecordingLogRecord, RecordingLogger};
+use std::alloc::{AllocError, Global};
+use std::process::Abort;
+use std::test::Fail;
+
+type Bridge = OpenTelemetryLogBridge<RecordingLogger>;
+
+/// Returns a bridge to a logger that wants records of at least this severity.
+fn bridge(alloc: Global, least: Severity) -> Result<Bridge, AllocError> {
+    let scope = InstrumentationScope::builder(StringValue::from("app")).build(alloc)?;
+    Ok(OpenTelemetryLogBridge::new(alloc, RecordingLogger::new(alloc, scope, least)))
+}
+
+/// Returns a context whose active span has these ids and the flags 03.
+fn context(alloc: Global, trace: u128, span: u64) -> Result<Context, AllocError> {
+    let span_context = SpanContext::new(
+        TraceId::from(trace),
+        SpanId::from(span),
+        TraceFlags::new(3),
+        false,
+        TraceState::NONE,
+    );
+    Context::new().with_remote_span_context(alloc, span_context)
+}
+
+/// Returns the only record that the bridge handed on.
+fn only_record(rt: &impl Abort, bridge: Bridge) -> RecordingLogRecord {
+    assert_eq!(rt; bridge.dropped_records(), 0);
+    let mut emitted = bridge.into_logger().into_emitted();
+    assert_eq!(rt; emitted.len(), 1);
+    emitted.pop().expect(rt, "a record")
+}
+
+/// Asserts that the record has these attributes, in order.
+fn assert_attributes(rt: &impl Abort, record: &RecordingLogRecord, wanted: &[(&str, AnyValue)]) {
+    assert_eq!(rt; record.attributes().len(), wanted.len());
+    for (is, wanted) in record.attributes().iter().zip(wanted.iter()) {
+        assert_eq!(rt; is.0.as_str(), wanted.0);
+        assert!(rt; is.1 == wanted.1);
+    }
+}
+
+#[test]
+fn a_record_has_all_that_is_known(rt: HostRuntime) -> Result<(), Fail> {
+    let alloc = rt.alloc();
+    let bridge = bridge(alloc, Severity::Trace)?;
+    let context = context(alloc, 1, 1)?;
+    let logger = Logged::new(rt, Level::Trace, bridge.sink(&context));
+    error!(logger; target: "cart::price", item = 7, ok = false; "no price for {}", 7);
+    let record = only_record(&rt, bridge);
+    assert_eq!(rt; record.severity_number(), Some(Severity::Error));
+    assert_eq!(rt; record.severity_text(), Some("ERROR"));
+    assert_eq!(rt; record.target(), Some("cart::price"));
+    assert!(rt; record.body() == Some(&AnyValue::from("no price for 7")));
+    assert_attributes(
+        &rt,
+        &record,
+        &[("item", AnyValue::Int(7)), ("ok", AnyValue::Boolean(false))],
+    );
+    assert_eq!(rt; record.timestamp(), None);
+    assert_eq!(rt; record.observed_timestamp(), None);
+    assert_eq!(rt; record.event_name(), None);
+    let span = record.trace_context().expect(&rt, "a span");
+    assert_eq!(rt; span.trace_id, TraceId::from(1));
+    assert_eq!(rt; span.span_id, SpanId::from(1));
+    assert_eq!(rt; span.trace_flags, Some(TraceFlags::new(3)));
+    Ok(())
+}
+
+#[test]
+fn a_warning_is_handed_on(host: HostRuntime) -> Result<(), Fail> {
+    let (alloc, rt) = (host.alloc(), host);
+    let scope = InstrumentationScope::builder(StringValue::from("app")).build(alloc)?;
+    let logger = RecordingLogger::new(alloc, scope, Severity::Info);
+    let context = Context::new();
+    let bridge = OpenTelemetryLogBridge::new(alloc, logger);
+    let rt = Logged::new(rt, Level::Info, bridge.sink(&context));
+    warn!(rt; target: "cart", item = 7; "no price");
+    let record = only_record(&host, bridge);
+    assert_eq!(host; record.target(), Some("cart"));
+    Ok(())
+}
+
+#[test]
+fn an_invalid_span_is_not_named(rt: HostRuntime) -> Result<(), Fail> {
+    let alloc = rt.alloc();
+    let without = Context::new();
+    for context in [context(alloc, 1, 0)?, context(alloc, 0, 1)?, without] {
+        let bridge = bridge(alloc, Severity::Trace)?;
+        let logger = Logged::new(rt, Level::Trace, bridge.sink(&context));
+        info!(logger; "started");
+        assert!(rt; only_record(&rt, bridge).trace_context().is_none());
+    }
+    Ok(())
+}
+
+#[test]
+fn levels_are_severities(rt: HostRuntime) -> Result<(), Fail> {
+    let rows = [
+        (Level::Error, 17, "ERROR"),
+        (Level::Warn, 13, "WARN"),
+        (Level::Info, 9, "INFO"),
+        (Level::Debug, 5, "DEBUG"),
+        (Level::Trace, 1, "TRACE"),
+    ];
+    for (level, number, name) in rows {
+        assert_eq!(rt; severity_of_level(level).number(), number);
+        assert_eq!(rt; severity_of_level(level).name(), name);
+    }
+    Ok(())
+}
+
+#[test]
+fn only_records_that_the_logger_wants(rt: HostRuntime) -> Result<(), Fail> {
+    let alloc = rt.alloc();
+    let bridge = bridge(alloc, Severity::Warn)?;
+    let context = Context::new();
+    let logger = Logged::new(rt, Level::Trace, bridge.sink(&context));
+    assert!(rt; !logger.enabled(&Metadata::new(Level::Info, "t")));
+    assert!(rt; logger.enabled(&Metadata::new(Level::Warn, "t")));
+    trace!(logger; "1");
+    debug!(logger; "2");
+    info!(logger; "3");
+    warn!(logger; "4");
+    error!(logger; "5");
+    let emitted = bridge.into_logger().into_emitted();
+    assert_eq!(rt; emitted.len(), 2);
+    assert!(rt; emitted[0].body() == Some(&AnyValue::from("4")));
+    assert!(rt; emitted[1].body() == Some(&AnyValue::from("5")));
+    Ok(())
+}
+
+#[test]
+fn the_fields_of_spans_are_left_out(rt: HostRuntime) -> Result<(), Fail> {
+    let alloc = rt.alloc();
+    let bridge = bridge(alloc, Severity::Trace)?;
+    let context = Context::new();
+    let logger = Logged::new(rt, Level::Trace, bridge.sink(&context));
+    let inner = logger.span("request").with("id", 7);
+    info!(inner; "started");
+    let record = only_record(&rt, bridge);
+    assert_attributes(&rt, &record, &[]);
+    Ok(())
+}
+
+/// Returns a place in the file, at the line, in the module `cart::price`.
+fn place(file: Option<&str>, line: Option<u32>) -> SourceLocation<'_> {
+    SourceLocation {
+        file,
+        line,
+        module: Some("cart::price"),
+    }
+}
+
+#[test]
+fn a_known_place_comes_last(rt: HostRuntime) -> Result<(), Fail> {
+    let alloc = rt.alloc();
+    let bridge = bridge(alloc, Severity::Trace)?;
+    let context = Context::new();
+    let mut sink = bridge.sink(&context);
+    sink.location = place(Some("src/price.rs"), Some(41));
+    let logger = Logged::new(rt, Level::Trace, sink);
+    info!(logger; item = 7; "m");
+    let record = only_record(&rt, bridge);
+    assert_attributes(
+        &rt,
+        &record,
+        &[
+            ("item", AnyValue::Int(7)),
+            ("code.file.path", AnyValue::from("src/price.rs")),
+            ("code.line.number", AnyValue::Int(41)),
+            ("code.namespace", AnyValue::from("cart::price")),
+        ],
+    );
+    Ok(())
+}
+
+#[test]
+fn a_key_that_is_there_stays(rt: HostRuntime) -> Result<(), Fail> {
+    let alloc = rt.alloc();
+    let bridge = bridge(alloc, Severity::Trace)?;
+    let context = Context::new();
+    let mut sink = bridge.sink(&context);
+    sink.location = place(None, Some(41));
+    let logger = Logged::new(rt, Level::Trace, sink);
+    info!(logger; "code.line.number" = 1; "m");
+    let record = only_record(&rt, bridge);
+    assert_attributes(
+        &rt,
+        &record,
+        &[
+            ("code.line.number", AnyValue::Int(1)),
+            ("code.namespace", AnyValue::from("cart::price")),
+        ],
+    );
+    Ok(())
+}
+
+#[test]
+fn a_record_is_made_by_hand(rt: HostRuntime) -> Result<(), Fail> {
+    let alloc = rt.alloc();
+    let bridge = bridge(alloc, Severity::Info)?;
+    let source = log::Record::new(Metadata::new(Level::Info, "t"), "m", ("k", "v"), ());
+    let nowhere = SourceLocation::UNKNOWN;
+    let made = bridged_record(alloc, &bridge.logger, &source, &nowhere, &SpanContext::NONE)?;
+    let record = made.expect(&rt, "a record");
+    assert!(rt; record.body() == Some(&AnyValue::from("m")));
+    assert_attributes(&rt, &record, &[("k", AnyValue::from("v"))]);
+    Ok(())
+}

@@ -1,0 +1,7 @@
+//! What no clause says of log records and their processors.
+#![tactic(auto)]
+
+// Depends on: test_support
+
+mod processor;
+mod record;

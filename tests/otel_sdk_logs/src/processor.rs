@@ -1,0 +1,131 @@
+//! What processors hand to an exporter: worked runs.
+use opentelemetry::logs::LogRecord;
+use opentelemetry::{InstrumentationScope, StringValue};
+use otel_sdk::error::{OTelSdkError, OTelSdkResult};
+use otel_sdk_logs::{
+    BatchConfig, BatchConfigBuilder, BatchLogProcessor, LogData, LogExporter, LogProcessor,
+    SdkLogRecord, SimpleLogProcessor,
+};
+use std::alloc::{AllocError, Global};
+use std::rc::Rc;
+use std::test::Fail;
+
+/// A record with this number for its timestamp.
+fn data(alloc: Global, number: u64) -> Result<LogData, AllocError> {
+    let scope = InstrumentationScope::builder(StringValue::from("tests")).build(alloc)?;
+    let mut record = SdkLogRecord::new(alloc);
+    record.set_timestamp(number);
+    Ok(LogData {
+        record,
+        instrumentation_scope: Rc::new(alloc, scope)?,
+    })
+}
+
+/// An exporter with a plan: at `+` it accepts a batch, and else refuses it. It writes down each
+/// batch as the records' numbers in brackets, with a `!` if it refuses it.
+#[derive(Drop)]
+struct Planned {
+    plan: &'static [u8],
+    log: String,
+}
+
+impl LogExporter for Planned {
+    ghost accepted = { λ _. [] };
+
+    ghost shuts_down = { λ _ _. Unit {0} };
+
+    fn export(&mut self, batch: &[LogData]) -> OTelSdkResult {
+        let mut gap = '[';
+        for given in batch {
+            self.log.push(gap)?;
+            let number = given.record.timestamp.unwrap_or(0);
+            self.log.push((b'0' + (number % 10) as u8) as char)?;
+            gap = ' ';
+        }
+        self.log.push(']')?;
+        let [first, rest @ ..] = self.plan else {
+            return Err(OTelSdkError::AlreadyShutdown);
+        };
+        let accepts = *first == b'+';
+        self.plan = rest;
+        if accepts {
+            return Ok(());
+        }
+        self.log.push('!')?;
+        Err(OTelSdkError::InternalFailure(String::new(*self.log.allocator())))
+    }
+
+    fn force_flush(&mut self) -> OTelSdkResult {
+        Ok(())
+    }
+
+    fn shutdown(&mut self) -> OTelSdkResult {
+        Ok(())
+    }
+}
+
+fn planned(alloc: Global, plan: &'static str) -> Planned {
+    Planned {
+        plan: plan.as_bytes(),
+        log: String::new(alloc),
+    }
+}
+
+/// A queue of two, in batches of two.
+fn two() -> BatchConfig {
+    BatchConfigBuilder::default()
+        .with_max_queue_size(2)
+        .with_max_export_batch_size(4)
+        .build()
+}
+
+#[test]
+fn a_full_queue_keeps_the_first_records(rt: HostRuntime) -> Result<(), Fail> {
+    let alloc = rt.alloc();
+    let (exporter, config) = (planned(alloc, "-+"), two());
+    let mut processor = BatchLogProcessor::new(alloc, exporter, config)?;
+    for number in 1..4 {
+        processor.on_emit(data(alloc, number)?);
+    }
+    assert_eq!(rt; processor.queued_records(), 2);
+    assert_eq!(rt; processor.dropped_records(), 1);
+    assert!(rt; processor.force_flush().is_err());
+    assert_eq!(rt; processor.queued_records(), 2);
+    assert!(rt; processor.force_flush().is_ok());
+    assert_eq!(rt; processor.exporter().log.as_str(), "[1 2]![1 2]");
+    assert_eq!(rt; processor.dropped_records(), 1);
+    Ok(())
+}
+
+#[test]
+fn a_closed_processor_drops_and_counts(rt: HostRuntime) -> Result<(), Fail> {
+    let alloc = rt.alloc();
+    let (exporter, config) = (planned(alloc, "-++"), two());
+    let mut processor = BatchLogProcessor::new(alloc, exporter, config)?;
+    processor.on_emit(data(alloc, 1)?);
+    assert!(rt; processor.shutdown().is_err());
+    assert!(rt; processor.is_open());
+    processor.on_emit(data(alloc, 2)?);
+    assert!(rt; processor.shutdown().is_ok());
+    assert!(rt; !processor.is_open());
+    processor.on_emit(data(alloc, 3)?);
+    assert_eq!(rt; processor.dropped_records(), 1);
+    assert!(rt; matches!(processor.force_flush(), Err(OTelSdkError::AlreadyShutdown)));
+    assert!(rt; matches!(processor.shutdown(), Err(OTelSdkError::AlreadyShutdown)));
+    assert_eq!(rt; processor.exporter().log.as_str(), "[1]![1 2]");
+    Ok(())
+}
+
+#[test]
+fn a_simple_processor_exports_at_once(rt: HostRuntime) -> Result<(), Fail> {
+    let alloc = rt.alloc();
+    let exporter = planned(alloc, "-++");
+    let mut processor = SimpleLogProcessor::new(alloc, exporter)?;
+    processor.on_emit(data(alloc, 1)?);
+    assert_eq!(rt; processor.queued_records(), 1);
+    processor.on_emit(data(alloc, 2)?);
+    assert_eq!(rt; processor.queued_records(), 0);
+    assert_eq!(rt; processor.dropped_records(), 0);
+    assert_eq!(rt; processor.exporter().log.as_str(), "[1]![1][2]");
+    Ok(())
+}
