@@ -3,7 +3,8 @@
 #   make run                        proves and builds the program, and runs it on examples/first-run
 #   make run INPUT=F                on the file F; INPUT=- is standard input
 #   make try                        the same in seconds and unproved
-#   make example                    a service at work: the headers that it sends on, for those of examples/service and for none
+#   make example                    a service at work: the headers that it sends on for those of examples/service and for none,
+#                                   a picture of its traces, and its spans as lines of JSON
 #   make example-c                  a C program over the static library of crates/otel_c
 #   make test                       every proof, wrong body, test, vector, misuse case and run out of memory
 #
@@ -14,6 +15,7 @@
 #   make edit CRATE=C EDIT=E        sees that the prover refuses one wrong body, in seconds after a check of the crate
 #   make mutants                    the wrong bodies of tests/mutants; CRATE=C those of one crate
 #   make vectors                    the answers of the Rust crate
+#   make otlp                       lines of JSON, read by another implementation
 #   make misuse                     what must not compile; CASE=NAME one case
 #   make memory                     the runs out of memory: each allocation fails in turn
 #   make long                       the proved programs on long inputs
@@ -32,7 +34,7 @@ COUNT ?= 10000
 SEED ?= 1
 GIVEN := $(if $(filter -,$(INPUT)),,< "$(abspath $(INPUT))")
 
-.PHONY: run try example example-c test check tests edit mutants vectors misuse memory long calls fuzz documents bench
+.PHONY: run try example example-c test check tests edit mutants vectors otlp misuse memory long calls fuzz documents bench
 
 run:
 	@cd crates/otel_carry && rt run $(GIVEN)
@@ -42,7 +44,11 @@ try:
 	@cd crates/otel_carry && rt try $(GIVEN)
 
 example:
-	@cd crates/otel_service && rt run < ../../examples/service && rt run < /dev/null
+	@cd crates/otel_service && rt run < /dev/null > /dev/null
+	@cd crates/otel_service && for input in ../../examples/service /dev/null; do \
+		out/otel_service --fixed --waterfall < $$input || exit; done
+	@cd crates/otel_service && rm -f out/spans.jsonl && out/otel_service out/spans.jsonl < ../../examples/service > /dev/null \
+		&& echo 'the spans as lines of JSON: crates/otel_service/out/spans.jsonl' >&2
 
 example-c:
 	@cd crates/otel_c && rt lib > /dev/null
@@ -67,6 +73,9 @@ mutants:
 
 vectors:
 	@tests/vectors/run
+
+otlp:
+	@tests/otlp/run
 
 misuse:
 	@tests/misuse/run $(CASE)

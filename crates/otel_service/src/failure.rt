@@ -1,12 +1,15 @@
 //! Why a request isn't served. Bad headers are not a reason: the service then starts a new trace.
 use opentelemetry::propagation::PropagationError;
-use opentelemetry::trace::SpanRefused;
+use opentelemetry::trace::StartError;
+use otel_sdk::error::OTelSdkError;
 use std::alloc::{AllocError, AllocFailed};
 use std::io;
 
 /// The reason why a request isn't served.
 #[derive(Clone, Copy, Debug, PartialEq, Eq)]
 pub enum Failure {
+    /// The arguments aren't those of the program.
+    Usage,
     /// The input can't be read, or the output can't be written.
     Io,
     /// Out of memory.
@@ -41,9 +44,18 @@ impl From<PropagationError> for Failure {
     }
 }
 
-impl<S: Drop> From<SpanRefused<S>> for Failure {
+impl<S: Drop> From<StartError<S>> for Failure {
     // A new table always has a number left.
-    fn from(_refused: SpanRefused<S>) -> Failure {
+    fn from(_error: StartError<S>) -> Failure {
         Failure::NoMemory
+    }
+}
+
+impl From<OTelSdkError> for Failure {
+    fn from(error: OTelSdkError) -> Failure {
+        match error {
+            OTelSdkError::Memory(_) => Failure::NoMemory,
+            _ => Failure::Io,
+        }
     }
 }

@@ -1,35 +1,151 @@
-//! A service at work: it reads the headers of a request from standard input, starts a span under
-//! the one that they name, adds an entry to their baggage, and prints the headers of the request
-//! that it sends on, then the span.
+//! A service at work: it reads the headers of requests from standard input, does the work of each in
+//! a span with two child spans, under the span that the headers name, and prints the headers of
+//! the request that it sends on.
 #![tactic(auto)]
 
+mod clock;
 mod failure;
 mod headers;
+mod options;
+mod requests;
 mod service;
+mod work;
 
+use clock::CountedClock;
 use failure::Failure;
+use opentelemetry::StringValue;
+use opentelemetry::propagation::{TextMapCompositePropagator, TextMapPropagator};
+use opentelemetry::trace::TracerProvider;
+use options::Options;
 use otel_propagators::{BaggagePropagator, TraceContextPropagator};
-use std::alloc::Global;
-use std::io::{BufWriter, Read, Stderr, Stdin, Stdout, Write};
+use otel_sdk::resource::Resource;
+use otel_sdk::trace::{
+    BatchConfigBuilder, BatchSpanProcessor, Clock, CountedIdGenerator, InMemorySpanExporter,
+    Pipeline, SdkTracerProvider, SpanExporter, SpanProcessor, SystemClock,
+};
+use otel_stdout::OtlpJsonSpanExporter;
+use otel_waterfall::WaterfallExporter;
+use requests::serve_all;
+use service::Service;
+use std::alloc::{AllocError, Global};
+use std::env;
+use std::fs::OpenOptions;
+use std::io::{BufWriter, Read, Write};
 use std::process::ExitCode;
+use std::rc::Rc;
 
-/// Serves one request. Writes what is sent on to `output`, and which headers are left out to
-/// `errors`.
-fn run(alloc: Global, mut input: Stdin, output: Stdout, mut errors: Stderr) -> Result<(), Failure> {
+/// Returns the resource of the service.
+fn resource(alloc: Global) -> Result<Resource, AllocError> {
+    let builder = Resource::builder(alloc)?.with_service_name(StringValue::from("cart"))?;
+    Ok(builder.build())
+}
+
+/// Serves all requests, and hands their spans to the exporter.
+fn serve<P: Pipeline, C: Clock, X: SpanExporter>(
+    rt: HostRuntime,
+    service: &Service<'_, P, C>,
+    exporter: X,
+) -> Result<(), Failure> {
+    let alloc = rt.alloc();
     let mut bytes = Vec::new(alloc);
-    input.read_to_end(&mut bytes)?;
-    let received = headers::parse(alloc, &bytes)?;
-    let trace = TraceContextPropagator::new(alloc)?;
-    let baggage = BaggagePropagator::new(alloc)?;
-    let sent = service::serve(alloc, &trace, &baggage, &received)?;
-    let mut lines = BufWriter::new(alloc, output)?;
-    sent.write(alloc, &mut lines, &mut errors)?;
+    rt.stdin().read_to_end(&mut bytes)?;
+    let config = BatchConfigBuilder::default().build();
+    let mut processor = BatchSpanProcessor::new(alloc, exporter, config);
+    processor.set_resource(Rc::new(alloc, resource(alloc)?)?);
+    let mut lines = BufWriter::new(alloc, rt.stdout())?;
+    serve_all(
+        service,
+        &mut processor,
+        &bytes,
+        &mut lines,
+        &mut rt.stderr(),
+    )?;
     lines.flush()?;
+    processor.shutdown()?;
     Ok(())
 }
 
+/// Serves all requests, and hands their spans to what the options name. Lines of JSON go to the end
+/// of the file.
+fn export<P: Pipeline, C: Clock>(
+    rt: HostRuntime,
+    service: &Service<'_, P, C>,
+    options: &Options,
+) -> Result<(), Failure> {
+    let alloc = rt.alloc();
+    if options.has_waterfall {
+        let exporter = WaterfallExporter::new(alloc, rt.stderr());
+        return serve(rt, service, exporter);
+    }
+    match &options.file {
+        Some(path) => {
+            let file = OpenOptions::new()
+                .append(true)
+                .create(true)
+                .open(&rt, path.as_str())?;
+            serve(rt, service, OtlpJsonSpanExporter::new(alloc, file)?)
+        }
+        None => serve(rt, service, InMemorySpanExporter::new(alloc)),
+    }
+}
+
+/// Serves all requests with counted ids and a counted clock.
+fn run_fixed(
+    rt: HostRuntime,
+    propagator: &TextMapCompositePropagator,
+    options: &Options,
+) -> Result<(), Failure> {
+    let alloc = rt.alloc();
+    let clock = CountedClock::new(alloc)?;
+    let provider = SdkTracerProvider::builder(rt)
+        .with_id_generator(CountedIdGenerator::new())
+        .with_clock(clock.share()?)
+        .build(alloc)?;
+    let tracer = provider.tracer(alloc, StringValue::from("otel_service"))?;
+    let service = Service {
+        alloc,
+        tracer,
+        clock,
+        propagator,
+    };
+    export(rt, &service, options)
+}
+
+/// Serves all requests with random ids and the system's clock.
+fn run_random(
+    rt: HostRuntime,
+    propagator: &TextMapCompositePropagator,
+    options: &Options,
+) -> Result<(), Failure> {
+    let alloc = rt.alloc();
+    let clock = SystemClock::new(rt);
+    let provider = SdkTracerProvider::builder(rt).build(alloc)?;
+    let tracer = provider.tracer(alloc, StringValue::from("otel_service"))?;
+    let service = Service {
+        alloc,
+        tracer,
+        clock,
+        propagator,
+    };
+    export(rt, &service, options)
+}
+
+fn run(rt: HostRuntime) -> Result<(), Failure> {
+    let alloc = rt.alloc();
+    let options = Options::read(env::args(&rt)?)?;
+    let mut members: Vec<Box<dyn TextMapPropagator>> = Vec::new(alloc);
+    members.push(Box::new(alloc, TraceContextPropagator::new(alloc)?)?)?;
+    members.push(Box::new(alloc, BaggagePropagator::new(alloc)?)?)?;
+    let propagator = TextMapCompositePropagator::new(alloc, members)?;
+    if options.is_fixed {
+        run_fixed(rt, &propagator, &options)
+    } else {
+        run_random(rt, &propagator, &options)
+    }
+}
+
 fn main(rt: HostRuntime) -> ExitCode {
-    match run(rt.alloc(), rt.stdin(), rt.stdout(), rt.stderr()) {
+    match run(rt) {
         Ok(()) => ExitCode::SUCCESS,
         Err(_) => ExitCode::FAILURE,
     }

@@ -1,74 +1,168 @@
 //! What the service does with a request.
 use crate::failure::Failure;
 use crate::headers;
+use crate::work::{LoadCart, Price};
 use opentelemetry::baggage::Baggage;
-use opentelemetry::propagation::{PropagationError, TextMapPropagator};
-use opentelemetry::trace::{SpanContext, SpanId, Spans, TraceFlags, TraceId};
+use opentelemetry::context::ContextStack;
+use opentelemetry::propagation::{PropagationError, TextMapCompositePropagator};
+use opentelemetry::trace::{Span, SpanBody, SpanKind, Spans, Tracer};
 use opentelemetry::{Context, Key, StringValue};
-use otel_propagators::{BaggagePropagator, TraceContextPropagator};
-use otel_recording::RecordingSpan;
+use otel_sdk::trace::{
+    BatchSpanProcessor, Clock, Pipeline, SdkSpan, SdkTracer, SpanExporter, SpanProcessor,
+};
 use std::alloc::{AllocError, Global};
 use std::collections::HashMap;
 use std::io::{self, Write};
 
-/// What the service sends on, and the span of its work.
+/// What a service serves requests by.
+#[derive(Drop)]
+pub struct Service<'a, P, C> {
+    /// The allocator.
+    pub alloc: Global,
+    /// Starts the spans.
+    pub tracer: SdkTracer<P>,
+    /// Reads the moments at which spans end.
+    pub clock: C,
+    /// Reads and writes the headers.
+    pub propagator: &'a TextMapCompositePropagator,
+}
+
+/// The headers that the service sends on.
 #[derive(Drop)]
 pub struct Sent {
     headers: HashMap<String, String>,
-    span: SpanContext,
 }
 
-/// Serves a request: starts a span under the one that its headers name, or in a trace of its own if
-/// they name none, adds the service's name to their baggage, and sets the headers to be sent on.
-///
-/// # Errors
-///
-/// `NoMemory` if out of memory.
-pub fn serve(
-    alloc: Global,
-    trace: &TraceContextPropagator,
-    baggage: &BaggagePropagator,
-    received: &HashMap<String, String>,
-) -> Result<Sent, Failure> {
-    let given = extract(alloc, trace, baggage, received)?;
-    let context = start_span(alloc, &given)?;
-    let span = context.span_context().clone()?;
-    let headers = inject(alloc, trace, baggage, &context)?;
-    Ok(Sent { headers, span })
+/// What is made in the span of a request: the headers to send on, and the numbers of the child
+/// spans, in the order of their ends.
+#[derive(Drop)]
+pub struct Answer {
+    sent: Sent,
+    children: Vec<u64>,
 }
 
-/// Returns the context that the headers name.
-fn extract(
-    alloc: Global,
-    trace: &TraceContextPropagator,
-    baggage: &BaggagePropagator,
-    received: &HashMap<String, String>,
-) -> Result<Context, PropagationError> {
-    let given = trace.extract_with_context(alloc, &Context::new(), received)?;
-    baggage.extract_with_context(alloc, &given, received)
+/// The work of a request, in its span.
+#[derive(Drop)]
+struct Request<'a, P, C> {
+    service: &'a Service<'a, P, C>,
 }
 
-/// Starts the service's span. Returns the context of its work, which has the span and, in the
-/// baggage, the service's name.
-fn start_span(alloc: Global, given: &Context) -> Result<Context, Failure> {
-    let span = child_of(given.span_context())?;
-    let span = RecordingSpan::new(alloc, span, StringValue::from("serve"));
-    let mut spans = Spans::new(alloc);
-    let context = given.with_span(alloc, &mut spans, span)?;
-    Ok(with_service_name(alloc, &context)?)
+impl<P: Pipeline, C: Clock> SpanBody<SdkSpan> for Request<'_, P, C> {
+    type Out = Result<Answer, Failure>;
+
+    ghost may_leave = { λ _ _ _ _ _ _ _. Unit {0} };
+
+    fn call(
+        self,
+        stack: &mut ContextStack,
+        spans: &mut Spans<SdkSpan>,
+        context: Context,
+    ) -> Result<Answer, Failure> {
+        let children = self.service.run_steps(stack, spans, &context)?;
+        let sent = self.service.send(&context)?;
+        Ok(Answer { sent, children })
+    }
 }
 
-/// Returns the headers that carry the context.
-fn inject(
-    alloc: Global,
-    trace: &TraceContextPropagator,
-    baggage: &BaggagePropagator,
-    context: &Context,
-) -> Result<HashMap<String, String>, PropagationError> {
-    let mut headers = HashMap::new(alloc);
-    trace.inject_context(context, &mut headers)?;
-    baggage.inject_context(context, &mut headers)?;
-    Ok(headers)
+impl<P: Pipeline, C: Clock> Service<'_, P, C> {
+    /// Serves a request: in a span under the one that its headers name, or in a trace of its own if
+    /// they name none, it does the work, and sets the headers to be sent on. Then it hands the spans
+    /// to the exporter.
+    ///
+    /// # Errors
+    ///
+    /// `NoMemory` if out of memory, `Io` if the spans can't be written: they stay queued.
+    pub fn serve<E: SpanExporter>(
+        &self,
+        received: &HashMap<String, String>,
+        processor: &mut BatchSpanProcessor<E>,
+    ) -> Result<Sent, Failure> {
+        let parent = self
+            .propagator
+            .extract_with_context(self.alloc, &Context::new(), received)?;
+        let mut spans = Spans::new(self.alloc);
+        let Answer { sent, mut children } = self.work(&parent, &mut spans)?;
+        processor.collect(&mut spans, &mut children)?;
+        processor.force_flush()?;
+        Ok(sent)
+    }
+
+    /// Does the work of a request in a span under the parent. Ends the span, whose number goes last.
+    fn work(&self, parent: &Context, spans: &mut Spans<SdkSpan>) -> Result<Answer, Failure> {
+        let mut stack = ContextStack::new(self.alloc)?;
+        let builder = self
+            .tracer
+            .span_builder(StringValue::from("serve"))
+            .with_kind(SpanKind::Server);
+        let request = Request { service: self };
+        let (answer, number) = self
+            .tracer
+            .in_span_with_builder_and_context(
+                self.alloc, &mut stack, spans, builder, parent, request,
+            )?;
+        let Answer { sent, mut children } = answer?;
+        self.end(spans, number);
+        children.push(number)?;
+        Ok(Answer { sent, children })
+    }
+
+    /// Runs the steps of a request, each in a span under the request's. Returns their numbers.
+    fn run_steps(
+        &self,
+        stack: &mut ContextStack,
+        spans: &mut Spans<SdkSpan>,
+        context: &Context,
+    ) -> Result<Vec<u64>, Failure> {
+        let mut numbers = Vec::new(self.alloc);
+        let alloc = self.alloc;
+        let step = LoadCart {
+            alloc,
+            clock: &self.clock,
+        };
+        numbers.push(self.run_step(stack, spans, context, "load cart", step)?)?;
+        let step = Price {
+            alloc,
+            clock: &self.clock,
+        };
+        numbers.push(self.run_step(stack, spans, context, "price", step)?)?;
+        Ok(numbers)
+    }
+
+    /// Runs a step in a span under the request's, and ends the span. Returns its number.
+    fn run_step<B: SpanBody<SdkSpan, Out = Result<(), AllocError>>>(
+        &self,
+        stack: &mut ContextStack,
+        spans: &mut Spans<SdkSpan>,
+        context: &Context,
+        name: &'static str,
+        step: B,
+    ) -> Result<u64, Failure>
+        requires { B.can_call step }
+    {
+        let name = StringValue::from(name);
+        let (done, number) = self
+            .tracer
+            .in_span_with_context(self.alloc, stack, spans, name, context, step)?;
+        done?;
+        self.end(spans, number);
+        Ok(number)
+    }
+
+    /// Ends the span with the number.
+    fn end(&self, spans: &mut Spans<SdkSpan>, number: u64) {
+        let now = self.clock.now();
+        if let Some(span) = spans.get_mut(number) {
+            span.end(now);
+        }
+    }
+
+    /// Returns the headers that carry the context, with the service's name in its baggage.
+    fn send(&self, context: &Context) -> Result<Sent, PropagationError> {
+        let context = with_service_name(self.alloc, context)?;
+        let mut headers = HashMap::new(self.alloc);
+        self.propagator.inject_context(&context, &mut headers)?;
+        Ok(Sent { headers })
+    }
 }
 
 /// Returns the context with the service's name in its baggage. A full baggage is unchanged.
@@ -83,24 +177,9 @@ fn with_service_name(alloc: Global, context: &Context) -> Result<Context, AllocE
     context.with_baggage(alloc, baggage)
 }
 
-/// Returns the span context of the service's span: in the parent's trace and with its trace state,
-/// or in the trace 1 if there is no parent. Its id is the one after the parent's; a tracer would
-/// draw both ids at random.
-fn child_of(parent: &SpanContext) -> Result<SpanContext, AllocError> {
-    let (trace_id, trace_flags) = if parent.is_valid() {
-        (parent.trace_id(), parent.trace_flags())
-    } else {
-        (TraceId::from(1), TraceFlags::SAMPLED)
-    };
-    let parent_id = u64::from_be_bytes(parent.span_id().to_bytes());
-    let span_id = SpanId::from(parent_id.checked_add(1).unwrap_or(1));
-    let trace_state = parent.trace_state().clone()?;
-    Ok(SpanContext::new(trace_id, span_id, trace_flags, false, trace_state))
-}
-
 impl Sent {
-    /// Writes the headers in ascending order of their names, then the span. A header that isn't one
-    /// line is left out, and `errors` says so (see [`headers::write`]).
+    /// Writes the headers in ascending order of their names. A header that isn't one line is left
+    /// out, and `errors` says so (see [`headers::write`]).
     ///
     /// # Errors
     ///
@@ -117,8 +196,6 @@ impl Sent {
             lines.push((name.as_str(), value.as_str()))?;
         }
         lines.sort()?;
-        headers::write(output, errors, &lines)?;
-        let (trace_id, span_id) = (self.span.trace_id(), self.span.span_id());
-        writeln!(output, "span: serve {trace_id} {span_id}")
+        headers::write(output, errors, &lines)
     }
 }

@@ -1,55 +1,123 @@
 //! What the service sends on, for headers good and bad. A header that can't be read is no failure: the
 //! service starts a trace of its own (W3C trace-context-2, section 4.3), or keeps what it can read.
+use crate::clock::CountedClock;
 use crate::failure::Failure;
 use crate::headers::parse;
-use crate::service::serve;
+use crate::requests::serve_all;
+use crate::service::Service;
+use opentelemetry::propagation::{TextMapCompositePropagator, TextMapPropagator};
+use opentelemetry::trace::{SpanId, Status, TracerProvider};
+use opentelemetry::{StringValue, Value};
 use otel_propagators::{BaggagePropagator, TraceContextPropagator};
+use otel_sdk::trace::{
+    BatchConfigBuilder, BatchSpanProcessor, CountedIdGenerator, InMemorySpanExporter,
+    SdkTracerProvider, SpanData,
+};
 use std::alloc::{AllocError, Global};
 use std::collections::HashMap;
 use std::process::Abort;
+use std::random::RandomSource;
 use std::test::Fail;
+use std::time::Clock;
 
-/// What is written for these headers to standard output, and to standard error.
-fn written(alloc: Global, received: &HashMap<String, String>) -> Result<(String, String), Failure> {
-    let trace = TraceContextPropagator::new(alloc)?;
-    let baggage = BaggagePropagator::new(alloc)?;
+/// What is served: the headers of one request, or lines of bytes.
+#[derive(Clone, Copy)]
+enum Given<'a> {
+    Headers(&'a HashMap<String, String>),
+    Lines(&'a [u8]),
+}
+
+/// What is written, and the spans that are exported.
+#[derive(Drop)]
+struct Outcome {
+    lines: String,
+    errors: String,
+    spans: Vec<SpanData>,
+}
+
+/// Serves what is given with counted ids and a counted clock.
+fn served<R: RandomSource + Clock + Copy + Drop>(
+    rt: R,
+    alloc: Global,
+    given: Given<'_>,
+) -> Result<Outcome, Failure> {
+    let clock = CountedClock::new(alloc)?;
+    let provider = SdkTracerProvider::builder(rt)
+        .with_id_generator(CountedIdGenerator::new())
+        .with_clock(clock.share()?)
+        .build(alloc)?;
+    let mut members: Vec<Box<dyn TextMapPropagator>> = Vec::new(alloc);
+    members.push(Box::new(alloc, TraceContextPropagator::new(alloc)?)?)?;
+    members.push(Box::new(alloc, BaggagePropagator::new(alloc)?)?)?;
+    let propagator = TextMapCompositePropagator::new(alloc, members)?;
+    let tracer = provider.tracer(alloc, StringValue::from("test"))?;
+    let service = Service {
+        alloc,
+        tracer,
+        clock,
+        propagator: &propagator,
+    };
+    let exporter = InMemorySpanExporter::new(alloc);
+    let mut processor = BatchSpanProcessor::new(
+        alloc,
+        exporter,
+        BatchConfigBuilder::default().build(),
+    );
     let mut lines = Vec::new(alloc);
     let mut errors = Vec::new(alloc);
-    serve(alloc, &trace, &baggage, received)?.write(alloc, &mut lines, &mut errors)?;
-    let lines = String::from_str(alloc, str::from_utf8(&lines).unwrap_or(""))?;
-    let errors = String::from_str(alloc, str::from_utf8(&errors).unwrap_or(""))?;
-    Ok((lines, errors))
+    match given {
+        Given::Headers(received) => service
+            .serve(received, &mut processor)?
+            .write(alloc, &mut lines, &mut errors)?,
+        Given::Lines(bytes) => serve_all(&service, &mut processor, bytes, &mut lines, &mut errors)?,
+    }
+    Ok(Outcome {
+        lines: String::from_str(alloc, str::from_utf8(&lines).unwrap_or(""))?,
+        errors: String::from_str(alloc, str::from_utf8(&errors).unwrap_or(""))?,
+        spans: processor.exporter().get_finished_spans()?,
+    })
 }
 
 /// Asserts what is written for these headers to standard output, and to standard error.
-fn writes(
-    rt: &impl Abort,
+fn writes<R: Abort + RandomSource + Clock + Copy + Drop>(
+    rt: R,
     alloc: Global,
     received: &HashMap<String, String>,
     wanted: &str,
     errors: &str,
 ) {
-    match written(alloc, received) {
-        Ok((lines, complaints)) => {
-            assert_eq!(rt; lines.as_str(), wanted, "{received:?}");
-            assert_eq!(rt; complaints.as_str(), errors, "{received:?}");
+    match served(rt, alloc, Given::Headers(received)) {
+        Ok(found) => {
+            assert_eq!(rt; found.lines.as_str(), wanted, "{received:?}");
+            assert_eq!(rt; found.errors.as_str(), errors, "{received:?}");
         }
         Err(_) => assert!(rt; false, "{received:?} is not served"),
     }
 }
 
-/// Asserts what is written for the headers that are read of these bytes, of which none is left out.
-fn sends_bytes(
-    rt: &impl Abort,
+/// Asserts what is written for these lines, of which no header is left out.
+fn sends_bytes<R: Abort + RandomSource + Clock + Copy + Drop>(
+    rt: R,
     alloc: Global,
     received: &[u8],
     wanted: &str,
 ) -> Result<(), AllocError> {
-    writes(rt, alloc, &parse(alloc, received)?, wanted, "");
+    match served(rt, alloc, Given::Lines(received)) {
+        Ok(found) => {
+            assert_eq!(rt; found.lines.as_str(), wanted);
+            assert_eq!(rt; found.errors.as_str(), "");
+        }
+        Err(_) => assert!(rt; false, "the request is not served"),
+    }
     Ok(())
 }
 
-fn sends(rt: &impl Abort, alloc: Global, received: &str, wanted: &str) -> Result<(), AllocError> {
+fn sends<R: Abort + RandomSource + Clock + Copy + Drop>(
+    rt: R,
+    alloc: Global,
+    received: &str,
+    wanted: &str,
+) -> Result<(), AllocError> {
     sends_bytes(rt, alloc, received.as_bytes(), wanted)
 }
 
@@ -61,11 +129,10 @@ tracestate: rojo=00f067aa0ba902b7,congo=t61rcWkgMzE
 baggage: userId=alice,serverNode=DF%2028,isProduction=false
 ";
     let wanted = "baggage: userId=alice,serverNode=DF%2028,isProduction=false,service=otel%20service
-traceparent: 00-0af7651916cd43dd8448eb211c80319c-00f067aa0ba902b8-01
+traceparent: 00-0af7651916cd43dd8448eb211c80319c-0000000000000001-01
 tracestate: rojo=00f067aa0ba902b7,congo=t61rcWkgMzE
-span: serve 0af7651916cd43dd8448eb211c80319c 00f067aa0ba902b8
 ";
-    sends(&rt, rt.alloc(), received, wanted)?;
+    sends(rt, rt.alloc(), received, wanted)?;
     Ok(())
 }
 
@@ -73,7 +140,6 @@ span: serve 0af7651916cd43dd8448eb211c80319c 00f067aa0ba902b8
 const ANEW: &str = "baggage: service=otel%20service
 traceparent: 00-00000000000000000000000000000001-0000000000000001-01
 tracestate: 
-span: serve 00000000000000000000000000000001 0000000000000001
 ";
 
 /// Headers that name no span.
@@ -97,7 +163,7 @@ traceparent: 00-0af7651916cd43dd8448eb211c80319c-00f067aa0ba902b7-01
 #[test]
 fn a_trace_starts_anew_where_the_headers_name_no_span(rt: HostRuntime) -> Result<(), Fail> {
     for received in NAMELESS {
-        sends(&rt, rt.alloc(), received, ANEW)?;
+        sends(rt, rt.alloc(), received, ANEW)?;
     }
     Ok(())
 }
@@ -106,9 +172,8 @@ fn a_trace_starts_anew_where_the_headers_name_no_span(rt: HostRuntime) -> Result
 fn under_example(alloc: Global, trace_state: &str, baggage: &str) -> Result<String, AllocError> {
     format!(in alloc;
         "baggage: {baggage}service=otel%20service
-traceparent: 00-0af7651916cd43dd8448eb211c80319c-00f067aa0ba902b8-00
+traceparent: 00-0af7651916cd43dd8448eb211c80319c-0000000000000001-00
 tracestate: {trace_state}
-span: serve 0af7651916cd43dd8448eb211c80319c 00f067aa0ba902b8
 "
     )
 }
@@ -150,7 +215,7 @@ fn what_can_be_read_beside_a_span_is_carried_on(rt: HostRuntime) -> Result<(), F
             "TraceParent: 00-0af7651916cd43dd8448eb211c80319c-00f067aa0ba902b7-00 \n{beside}"
         )?;
         let wanted = under_example(alloc, trace_state, baggage)?;
-        sends(&rt, alloc, received.as_str(), wanted.as_str())?;
+        sends(rt, alloc, received.as_str(), wanted.as_str())?;
     }
     Ok(())
 }
@@ -165,7 +230,7 @@ baggage: c=2
 x-\xff: 1
 ";
     let wanted = under_example(alloc, "", "c=2,")?;
-    sends_bytes(&rt, alloc, received, wanted.as_str())?;
+    sends_bytes(rt, alloc, received, wanted.as_str())?;
     Ok(())
 }
 
@@ -177,13 +242,13 @@ const NOT_IN_A_LINE: &[(&str, &str, &str)] = &[
         "tracestate",
         "a=1\r\nx: y",
         "baggage: service=otel%20service
-traceparent: 00-0af7651916cd43dd8448eb211c80319c-00f067aa0ba902b8-00
+traceparent: 00-0af7651916cd43dd8448eb211c80319c-0000000000000001-00
 ",
     ),
     (
         "baggage",
         "a=1;p\r\nx: y",
-        "traceparent: 00-0af7651916cd43dd8448eb211c80319c-00f067aa0ba902b8-00
+        "traceparent: 00-0af7651916cd43dd8448eb211c80319c-0000000000000001-00
 tracestate: 
 ",
     ),
@@ -191,13 +256,13 @@ tracestate:
         "tracestate",
         "a=1\rb",
         "baggage: service=otel%20service
-traceparent: 00-0af7651916cd43dd8448eb211c80319c-00f067aa0ba902b8-00
+traceparent: 00-0af7651916cd43dd8448eb211c80319c-0000000000000001-00
 ",
     ),
     (
         "baggage",
         "a=1;p\0",
-        "traceparent: 00-0af7651916cd43dd8448eb211c80319c-00f067aa0ba902b8-00
+        "traceparent: 00-0af7651916cd43dd8448eb211c80319c-0000000000000001-00
 tracestate: 
 ",
     ),
@@ -213,10 +278,93 @@ fn a_header_that_is_not_one_line_is_left_out(rt: HostRuntime) -> Result<(), Fail
         let mut received = parse(alloc, parent)?;
         let key = String::from_str(alloc, name)?;
         received.insert(key, String::from_str(alloc, value)?)?;
-        let span = "span: serve 0af7651916cd43dd8448eb211c80319c 00f067aa0ba902b8\n";
-        let wanted = format!(in alloc; "{lines}{span}")?;
         let errors = format!(in alloc; "left out, as it has a CR, LF or NUL: header {name:?}\n")?;
-        writes(&rt, alloc, &received, wanted.as_str(), errors.as_str());
+        writes(rt, alloc, &received, lines, errors.as_str());
     }
+    Ok(())
+}
+
+/// The request of the standards' example: three spans, the children first, as they end first.
+#[test]
+fn a_request_has_a_span_with_two_children(rt: HostRuntime) -> Result<(), Fail> {
+    let received = b"traceparent: 00-0af7651916cd43dd8448eb211c80319c-00f067aa0ba902b7-01
+baggage: userId=alice
+";
+    let Ok(found) = served(rt, rt.alloc(), Given::Lines(received)) else {
+        assert!(rt; false, "other spans");
+        return Ok(());
+    };
+    let [load, price, serve] = found.spans.as_slice() else {
+        assert!(rt; false, "other spans");
+        return Ok(());
+    };
+    assert_eq!(rt; load.name.as_str(), "load cart");
+    assert_eq!(rt; price.name.as_str(), "price");
+    assert_eq!(rt; serve.name.as_str(), "serve");
+    assert!(rt; serve.parent_span_is_remote);
+    assert_eq!(rt; serve.parent_span_id, SpanId::from(0x00f0_67aa_0ba9_02b7));
+    for child in [load, price] {
+        assert_eq!(rt; child.parent_span_id, serve.span_context.span_id());
+        assert_eq!(rt;
+            child.span_context.trace_id(),
+            serve.span_context.trace_id()
+        );
+        assert!(rt; !child.parent_span_is_remote);
+        assert!(rt; child.start_time < child.end_time && child.end_time < serve.end_time);
+    }
+    assert_eq!(rt; load.events.events.len(), 1);
+    assert_eq!(rt; load.attributes.len(), 1);
+    assert!(rt; load.attributes[0].value == Value::from("alice"));
+    assert!(rt; price.status == Status::Unset);
+    Ok(())
+}
+
+/// Without a user the price fails: its span has an error, and the request is served all the same.
+#[test]
+fn a_failed_step_has_an_error(rt: HostRuntime) -> Result<(), Fail> {
+    let Ok(found) = served(rt, rt.alloc(), Given::Lines(b"")) else {
+        assert!(rt; false, "other spans");
+        return Ok(());
+    };
+    let [_, price, serve] = found.spans.as_slice() else {
+        assert!(rt; false, "other spans");
+        return Ok(());
+    };
+    assert!(rt; price.status == Status::error(StringValue::from("no user")));
+    assert_eq!(rt; price.events.events.len(), 1);
+    assert_eq!(rt; price.events.events[0].name.as_str(), "exception");
+    assert_eq!(rt; serve.parent_span_id, SpanId::INVALID);
+    Ok(())
+}
+
+/// A caller whose trace isn't sampled has no spans exported.
+#[test]
+fn a_trace_that_is_not_sampled_is_not_exported(rt: HostRuntime) -> Result<(), Fail> {
+    let received = b"traceparent: 00-0af7651916cd43dd8448eb211c80319c-00f067aa0ba902b7-00\n";
+    let Ok(found) = served(rt, rt.alloc(), Given::Lines(received)) else {
+        assert!(rt; false, "other spans");
+        return Ok(());
+    };
+    assert!(rt; found.spans.is_empty());
+    Ok(())
+}
+
+/// Requests are parted by empty lines, and so is what is sent on for them.
+#[test]
+fn each_request_is_served(rt: HostRuntime) -> Result<(), Fail> {
+    let received = "traceparent: 00-0af7651916cd43dd8448eb211c80319c-00f067aa0ba902b7-00
+
+\r
+tracestate: a=1
+traceparent: 00-0af7651916cd43dd8448eb211c80319c-00f067aa0ba902b7-00\r
+";
+    let wanted = "baggage: service=otel%20service
+traceparent: 00-0af7651916cd43dd8448eb211c80319c-0000000000000001-00
+tracestate: \n
+baggage: service=otel%20service
+traceparent: 00-0af7651916cd43dd8448eb211c80319c-0000000000000004-00
+tracestate: a=1
+";
+    sends(rt, rt.alloc(), received, wanted)?;
     Ok(())
 }
