@@ -22,7 +22,10 @@ HERE = os.path.dirname(os.path.abspath(__file__))
 TOP = os.path.dirname(os.path.dirname(HERE))
 NAME = "memory_scenarios"
 # The crates that the scenarios call.
-CALLED = "otel_http", "otel_propagators", "otel_recording", "otel_sdk"
+CALLED = (
+    "otel_appender_log", "otel_http", "otel_propagators", "otel_recording", "otel_sdk", "otel_sdk_logs", "otel_stdout",
+    "otel_waterfall",
+)
 # So long takes no build.
 SECONDS = 900
 CLANG = """#!{python}

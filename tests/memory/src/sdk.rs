@@ -1,5 +1,8 @@
 //! Resources, samplers, tracers, spans, and their way to an exporter.
 mod export;
+mod json;
+mod live;
+mod logs;
 mod spans;
 mod tracer;
 
@@ -27,6 +30,9 @@ pub fn play<R: Print>(rt: HostRuntime, lines: &Lines<'_, R>) {
     tracer::play(rt, lines);
     spans::play(alloc, lines);
     export::play(alloc, lines);
+    json::play(alloc, lines);
+    live::play(rt, lines);
+    logs::play(alloc, lines);
 }
 
 fn resources<R: Print>(alloc: Global, lines: &Lines<'_, R>) {

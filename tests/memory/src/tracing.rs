@@ -1,5 +1,6 @@
 //! Spans, tracers and logs.
 mod active;
+mod bridge;
 mod in_span;
 mod logs;
 mod noop;
@@ -20,4 +21,5 @@ pub fn play<R: Print>(alloc: Global, lines: &Lines<'_, R>) {
     in_span::play(alloc, lines);
     logs::play(alloc, lines);
     noop::play(alloc, lines);
+    bridge::play(alloc, lines);
 }

@@ -9,7 +9,9 @@ use otel_sdk::trace::{
     BatchSpanProcessor, EndRefused, InMemorySpanExporter, SdkSpan, SimpleSpanProcessor, SpanData,
     SpanEvents, SpanExporter, SpanLimits, SpanLinks, SpanProcessor,
 };
+use otel_waterfall::WaterfallExporter;
 use std::alloc::{AllocError, Global};
+use std::io;
 use std::rc::Rc;
 
 pub fn play<R: Print>(alloc: Global, lines: &Lines<'_, R>) {
@@ -43,10 +45,13 @@ pub fn play<R: Print>(alloc: Global, lines: &Lines<'_, R>) {
     if lines.begin("finished-spans") {
         lines.end(finished(alloc, lines));
     }
+    if lines.begin("waterfall-export") {
+        lines.end(drawn(alloc, lines));
+    }
 }
 
 /// A sampled span that ended.
-fn span(alloc: Global) -> Result<SpanData, AllocError> {
+pub fn span(alloc: Global) -> Result<SpanData, AllocError> {
     let scope = InstrumentationScope::builder(StringValue::from("s")).build(alloc)?;
     let (trace_id, span_id) = (TraceId::from(1), SpanId::from(2));
     let state = TraceState::NONE;
@@ -210,5 +215,14 @@ fn finished<R: Print>(alloc: Global, lines: &Lines<'_, R>) -> Result<(), AllocEr
         return Err(AllocError);
     }
     lines.answer_of(exporter.get_finished_spans().map(|spans| spans.len()));
+    Ok(())
+}
+
+fn drawn<R: Print>(alloc: Global, lines: &Lines<'_, R>) -> Result<(), AllocError> {
+    let batch = [span(alloc)?];
+    let mut exporter = WaterfallExporter::new(alloc, io::sink());
+    lines.answer_named("drawn", exporter.export(&batch));
+    lines.free_ok("WaterfallExporter::force_flush", exporter.force_flush());
+    lines.free_ok("WaterfallExporter::shutdown", exporter.shutdown());
     Ok(())
 }

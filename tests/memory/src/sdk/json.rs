@@ -1,0 +1,118 @@
+//! Spans as lines of JSON.
+use crate::lines::Lines;
+use crate::sdk::export::span;
+use opentelemetry::trace::{
+    Event, Link, SpanContext, SpanId, Status, TraceFlags, TraceId, TraceState,
+};
+use opentelemetry::{Array, Key, KeyValue, StringValue, Value};
+use otel_sdk::resource::Resource;
+use otel_sdk::trace::{SpanData, SpanExporter};
+use otel_stdout::{OtlpJsonSpanExporter, traces_data, traces_text};
+use std::alloc::{AllocError, Global};
+use std::io::{self, ErrorKind, Write};
+
+pub fn play<R: Print>(alloc: Global, lines: &Lines<'_, R>) {
+    if lines.begin("json-exporter-new") {
+        lines.answer_named("made", OtlpJsonSpanExporter::new(alloc, io::sink()));
+    }
+    if lines.begin("json-exporter-export") {
+        lines.end(export(alloc, lines));
+    }
+    if lines.begin("json-exporter-refusals") {
+        lines.end(refusals(alloc, lines));
+    }
+    if lines.begin("json-traces-data") {
+        lines.end(data(alloc, lines));
+    }
+    if lines.begin("json-traces-text") {
+        lines.end(text(alloc, lines));
+    }
+}
+
+/// A writer that fails.
+#[derive(Drop)]
+struct Closed {
+    error: ErrorKind,
+}
+
+impl Write for Closed {
+    fn write(&mut self, _bytes: &[u8]) -> io::Result<usize> {
+        Err(self.error.into())
+    }
+
+    fn flush(&mut self) -> io::Result<()> {
+        Err(self.error.into())
+    }
+}
+
+fn attribute(value: Value) -> KeyValue {
+    KeyValue::new(Key::from("k"), value)
+}
+
+fn resource(alloc: Global) -> Result<Resource, AllocError> {
+    Ok(
+        Resource::builder_empty(alloc)
+            .with_attribute(attribute(Value::from("v")))?
+            .build(),
+    )
+}
+
+/// A link to a span with a trace state.
+fn link(alloc: Global) -> Result<Link, AllocError> {
+    let Ok(state) = TraceState::from_str(alloc, "a=1") else {
+        return Err(AllocError);
+    };
+    let (trace_id, span_id) = (TraceId::from(1), SpanId::from(3));
+    let other = SpanContext::new(trace_id, span_id, TraceFlags::SAMPLED, false, state);
+    Ok(Link::new(other, Vec::new(alloc), 0))
+}
+
+/// A span that failed, with an attribute, an event and a link.
+fn full(alloc: Global) -> Result<SpanData, AllocError> {
+    let mut span = span(alloc)?;
+    let numbers = Array::from(vec![in alloc; 1]?);
+    span.attributes.push(attribute(Value::Array(numbers)))?;
+    let given = vec![in alloc; attribute(Value::from("v"))]?;
+    let event = Event::new(StringValue::from("e"), 3, given, 0);
+    span.events.events.push(event)?;
+    span.links.links.push(link(alloc)?)?;
+    span.status = Status::error(StringValue::from("x"));
+    Ok(span)
+}
+
+fn export<R: Print>(alloc: Global, lines: &Lines<'_, R>) -> Result<(), AllocError> {
+    let batch = [full(alloc)?];
+    let mut exporter = OtlpJsonSpanExporter::new(alloc, io::sink())?;
+    lines.answer_named("written", exporter.export(&batch));
+    lines.free_ok("OtlpJsonSpanExporter::force_flush", exporter.force_flush());
+    lines.free_ok("OtlpJsonSpanExporter::shutdown", exporter.shutdown());
+    Ok(())
+}
+
+/// Calls whose writer fails: the text of the error takes memory.
+fn refusals<R: Print>(alloc: Global, lines: &Lines<'_, R>) -> Result<(), AllocError> {
+    let writer = Closed {
+        error: ErrorKind::BrokenPipe,
+    };
+    let batch = [span(alloc)?];
+    let mut exporter = OtlpJsonSpanExporter::new(alloc, writer)?;
+    lines.answer_named("written", exporter.export(&batch));
+    lines.answer_named("flushed", exporter.force_flush());
+    lines.answer_named("shut down", exporter.shutdown());
+    Ok(())
+}
+
+fn data<R: Print>(alloc: Global, lines: &Lines<'_, R>) -> Result<(), AllocError> {
+    let resource = resource(alloc)?;
+    let batch = [full(alloc)?];
+    let data = traces_data(alloc, &resource, &batch);
+    lines.answer_of(data.map(|value| value.is_object()));
+    Ok(())
+}
+
+fn text<R: Print>(alloc: Global, lines: &Lines<'_, R>) -> Result<(), AllocError> {
+    let resource = resource(alloc)?;
+    let batch = [full(alloc)?];
+    lines.answer_of(traces_text(alloc, &resource, &batch));
+    Ok(())
+}

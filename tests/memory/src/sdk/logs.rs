@@ -1,0 +1,137 @@
+//! Log records of the SDK, and their processors.
+use crate::lines::Lines;
+use opentelemetry::logs::{AnyValue, LogRecord};
+use opentelemetry::{InstrumentationScope, Key, StringValue};
+use otel_sdk::error::{OTelSdkError, OTelSdkResult};
+use otel_sdk_logs::{
+    BatchConfig, BatchLogProcessor, LogData, LogExporter, LogProcessor, SdkLogRecord,
+    SimpleLogProcessor,
+};
+use std::alloc::{AllocError, Global};
+use std::cell::Cell;
+use std::default::Default;
+use std::rc::Rc;
+
+pub fn play<R: Print>(alloc: Global, lines: &Lines<'_, R>) {
+    if lines.begin("sdk-log-record-add-attribute") {
+        let mut record = SdkLogRecord::new(alloc);
+        let answer = record.add_attribute(alloc, Key::from("k"), AnyValue::Int(1));
+        added(lines, &record, answer);
+    }
+    if lines.begin("sdk-log-record-add-attributes") {
+        lines.end(add(alloc, lines));
+    }
+    if lines.begin("batch-log-processor-new") {
+        let made = BatchLogProcessor::new(alloc, Sizes::new(alloc, true), BatchConfig::default());
+        lines.answer_of(made.map(|processor| processor.queued_records()));
+    }
+    if lines.begin("batch-log-processor-force-flush") {
+        lines.end(batch(alloc, lines, |processor| processor.force_flush()));
+    }
+    if lines.begin("batch-log-processor-shutdown") {
+        lines.end(batch(alloc, lines, |processor| processor.shutdown()));
+    }
+    if lines.begin("simple-log-processor-new") {
+        let made = SimpleLogProcessor::new(alloc, Sizes::new(alloc, true));
+        lines.answer_of(made.map(|processor| processor.queued_records()));
+    }
+    if lines.begin("simple-log-processor-force-flush") {
+        lines.end(simple(alloc, lines, |processor| processor.force_flush()));
+    }
+    if lines.begin("simple-log-processor-shutdown") {
+        lines.end(simple(alloc, lines, |processor| processor.shutdown()));
+    }
+}
+
+/// An exporter that keeps the sizes of the batches, or refuses them.
+#[derive(Drop)]
+struct Sizes {
+    sizes: Vec<usize>,
+    accepts: Cell<bool>,
+}
+
+impl Sizes {
+    fn new(alloc: Global, accepts: bool) -> Sizes {
+        Sizes {
+            sizes: Vec::new(alloc),
+            accepts: Cell::new(accepts),
+        }
+    }
+}
+
+impl LogExporter for Sizes {
+    ghost accepted = { λ _. [] };
+
+    ghost shuts_down = { λ _ _. Unit {0} };
+
+    fn export(&mut self, batch: &[LogData]) -> OTelSdkResult {
+        if !self.accepts.get() {
+            return Err(OTelSdkError::AlreadyShutdown);
+        }
+        self.sizes.push(batch.len())?;
+        Ok(())
+    }
+
+    fn force_flush(&mut self) -> OTelSdkResult {
+        Ok(())
+    }
+
+    fn shutdown(&mut self) -> OTelSdkResult {
+        Ok(())
+    }
+}
+
+/// A record with nothing set.
+fn data(alloc: Global) -> Result<LogData, AllocError> {
+    let scope = InstrumentationScope::builder(StringValue::from("s")).build(alloc)?;
+    Ok(LogData {
+        record: SdkLogRecord::new(alloc),
+        instrumentation_scope: Rc::new(alloc, scope)?,
+    })
+}
+
+fn added<R: Print>(lines: &Lines<'_, R>, record: &SdkLogRecord, answer: Result<(), AllocError>) {
+    let is_due = record.attributes.is_empty() == answer.is_err();
+    lines.answer_named("added", answer);
+    lines.due(is_due);
+}
+
+fn add<R: Print>(alloc: Global, lines: &Lines<'_, R>) -> Result<(), AllocError> {
+    let mut given = Vec::new(alloc);
+    given.push((Key::from("k"), AnyValue::Int(1)))?;
+    let mut record = SdkLogRecord::new(alloc);
+    let answer = record.add_attributes(alloc, given);
+    added(lines, &record, answer);
+    Ok(())
+}
+
+fn batch<R: Print, F: FnOnce(&mut BatchLogProcessor<Sizes>) -> OTelSdkResult>(
+    alloc: Global,
+    lines: &Lines<'_, R>,
+    call: F,
+) -> Result<(), AllocError> {
+    let exporter = Sizes::new(alloc, true);
+    let mut processor = BatchLogProcessor::new(alloc, exporter, BatchConfig::default())?;
+    processor.on_emit(data(alloc)?);
+    lines.free("BatchLogProcessor::on_emit", &processor.queued_records());
+    let answer = call(&mut processor);
+    let is_due = (processor.queued_records() == 0) == answer.is_ok();
+    lines.answer_named("done", answer);
+    lines.due(is_due);
+    Ok(())
+}
+
+fn simple<R: Print, F: FnOnce(&mut SimpleLogProcessor<Sizes>) -> OTelSdkResult>(
+    alloc: Global,
+    lines: &Lines<'_, R>,
+    call: F,
+) -> Result<(), AllocError> {
+    let mut processor = SimpleLogProcessor::new(alloc, Sizes::new(alloc, false))?;
+    processor.on_emit(data(alloc)?);
+    processor.exporter().accepts.set(true);
+    let answer = call(&mut processor);
+    let is_due = (processor.queued_records() == 0) == answer.is_ok();
+    lines.answer_named("done", answer);
+    lines.due(is_due);
+    Ok(())
+}
