@@ -40,7 +40,7 @@ abbrev pub RefusedByMember : {T I : Type 0} {D : I → Type 0} → (DynBox I Glo
 RefusedByMember may_refuse c result =
     IsTrue (is_refused result) → IsTrue (may_refuse_of may_refuse c)
 
--- It injected a context (`Injects`); `pairs` and `may_refuse` are those of a member.
+-- The composite injected a context (`Injects`); `pairs` and `may_refuse` are those of a member.
 abbrev pub InjectsAll : {T I : Type 0} {D : I → Type 0}
     → (DynBox I Global D → ContextRecord → Pairs) → (DynBox I Global D → Bool)
     → TextMapCompositePropagator I D → ContextRecord → CarrierState → CarrierState
@@ -69,8 +69,8 @@ abbrev pub extracted_of : {I : Type 0} {D : I → Type 0}
 extracted_of extracted c context texts =
     fold (λ given m. extracted m given texts) context (members_of c)
 
--- It extracted from the texts, starting from this context (`Extracts`); `extracted` and `may_refuse`
--- are those of a member.
+-- The composite extracted from the texts, starting from this context (`Extracts`); `extracted` and
+-- `may_refuse` are those of a member.
 abbrev pub ExtractsAll : {I : Type 0} {D : I → Type 0}
     → (DynBox I Global D → ContextRecord → TextMap → ContextRecord) → (DynBox I Global D → Bool)
     → TextMapCompositePropagator I D → ContextRecord → TextMap
@@ -94,7 +94,7 @@ fields_of fields c = first_appearances (flat_map (λ m. fields m) (members_of c)
 abbrev pub set_texts : {A S : Type 0} → IndexSet (String A) S → List (List ℕ)
 set_texts s = map string_bytes s.keys
 
--- `new` is `old` with those of the texts that it hasn't, in order
+-- `new` is `old` followed by those of the texts that it lacks, in order
 abbrev pub AddsTexts : {A S : Type 0} → IndexSet (String A) S → List (List ℕ)
     → IndexSet (String A) S → Type 0
 AddsTexts old texts new = set_texts new ≡ insert_all bytes_eq (set_texts old) texts

@@ -15,7 +15,7 @@ pub record Extracts (context : ContextRecord) (may_refuse : Bool)
   -- `Refused` is returned only if the propagator may refuse
   pub refused : IsTrue (is_refused result) → IsTrue may_refuse
 
--- An extraction from the texts by a propagator `p`, of which `extracted` and `may_refuse` are known,
+-- An extraction from the texts by a propagator `p`, whose `extracted` and `may_refuse` are given,
 -- starting from the stack's current context.
 abbrev pub ExtractsCurrent : {P : Type 0} → (P → ContextRecord → TextMap → ContextRecord)
     → (P → Bool) → P → StackState → TextMap → Result ContextRecord PropagationError → Type 0

@@ -21,7 +21,7 @@ pub record Injects {T : Type 0} (pairs : Pairs) (may_refuse : Bool) (old new : C
   pub count : old.refusals ≤ new.refusals
 
 module _ {P T : Type 0} (pairs : P → ContextRecord → Pairs) (may_refuse : P → Bool) (p : P) where
-  -- an injection of a context by a propagator `p`, of which `pairs` and `may_refuse` are known
+  -- an injection of a context by a propagator `p`, whose `pairs` and `may_refuse` are given
   abbrev pub InjectsBy : ContextRecord → CarrierState → CarrierState
       → Result T PropagationError → Type 0
   InjectsBy context old new result = Injects (pairs p context) (may_refuse p) old new result

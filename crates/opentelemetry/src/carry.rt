@@ -161,7 +161,8 @@ pub fn run(
         report.stack ≡ stack_of events.items report.outcomes.items) }
     ensures without_members { members_of composite.now ≡ []
         → IfOk result (λ report. IsOk report.injected) }
-    ensures nothing_sent { members_of composite.now ≡ [] → HasSameTexts carrier.old carrier.new }
+    ensures nothing_sent { members_of composite.now ≡ []
+        → HasSameTexts carrier.old carrier.new }
     ensures err { OnErr result (HasSameTexts carrier.old carrier.new) }
 {
     let Played { stack, outcomes } = play(alloc, events)?;

@@ -44,8 +44,8 @@ pub trait Injector {
         ensures count { (state self.new).refusals
             ≡ (state self.old).refusals + (if is_refused result then 1 else 0) };
 
-    /// Hints that `additional` more texts will be set. The carrier's `state` doesn't change, even if
-    /// out of memory.
+    /// Hints that `additional` more texts will be set. The carrier's `state` doesn't change, even
+    /// if memory runs out.
     fn reserve(&mut self, additional: usize)
         ensures { state self.new ≡ state self.old }
     {

@@ -5,17 +5,17 @@ use Rattle.std.specs.Prelude.{Bool, true, ◌&&◌, List, [], ◌∷◌, ◌++�
 use Rattle.std.specs.Prelude.{if◌then◌else◌}
 use Rattle.std.specs.List.{list_any}
 
--- the cell of a moment so long after the least start, of so many cells for this length
+-- the cell of a moment that is `after` the least start, if `cells` cells stand for the length
 abbrev pub cell_at : ℕ → ℕ → ℕ → ℕ
 cell_at cells length after = if length == 0 then 0 else min (after * cells / length) (cells - 1)
 
--- the last cell of a span that ends so long after the least start: the end's share of the cells,
--- rounded up, less one
+-- the last cell of a span that ends `after` the least start: its share of the cells, rounded up,
+-- less one
 abbrev pub end_cell : ℕ → ℕ → ℕ → ℕ
 end_cell cells length after =
     if length == 0 then 0 else (after * cells + (length - 1)) / length - 1
 
--- a moment taken into the time from the least start to the greatest end
+-- a moment clamped to the time from the least start to the greatest end
 abbrev pub taken_into : ℕ → ℕ → ℕ → ℕ
 taken_into from to moment = min (max moment from) to
 
@@ -23,8 +23,7 @@ taken_into from to moment = min (max moment from) to
 abbrev pub first_cell : ℕ → ℕ → ℕ → ℕ → ℕ
 first_cell cells from to start = cell_at cells (to - from) (start - from)
 
--- the last cell of a span: its end is the greater of its start and its end, and it has one cell at
--- least
+-- the last cell of a span, which has at least one cell; an end before the start counts as the start
 abbrev pub last_cell : ℕ → ℕ → ℕ → ℕ → ℕ → ℕ
 last_cell cells from to start end =
     max (end_cell cells (to - from) (max start end - from)) (first_cell cells from to start)
@@ -33,7 +32,7 @@ last_cell cells from to start end =
 abbrev pub mark_cell : ℕ → ℕ → ℕ → ℕ → ℕ
 mark_cell cells from to moment = cell_at cells (to - from) (taken_into from to moment - from)
 
--- the character of an event, and of a filled cell, by whether the picture is in ASCII: ◆ or *, █ or =
+-- the characters of an event and of a filled cell: ◆ and █, or in ASCII * and =
 abbrev pub mark_char : Bool → ℕ
 mark_char ascii = if ascii then 42 else 9670
 
@@ -53,7 +52,7 @@ cell_char ascii cells from to start end moments cell =
     && nat_le cell (last_cell cells from to start end) then fill_char ascii
     else 32
 
--- the values at the places below a number, in order
+-- f 0, f 1, .., f (n - 1)
 abbrev pub values_below : (ℕ → ℕ) → ℕ → List ℕ
 values_below f zero = []
 values_below f (suc n) = values_below f n ++ f n ∷ []
@@ -63,8 +62,8 @@ abbrev pub bar_text : Bool → ℕ → ℕ → ℕ → ℕ → ℕ → List ℕ 
 bar_text ascii cells from to start end moments =
     values_below (cell_char ascii cells from to start end moments) cells
 
--- ---- worked rows: of 45 milliseconds in 31 cells, 5 to 20 fill the cells 3 to 13; in 7 cells, 20 to
--- 40 fill 3 to 6
+-- ---- worked rows: of 45 milliseconds in 31 cells, 5 to 20 fill the cells 3 to 13; in 7 cells,
+-- 20 to 40 fill 3 to 6
 first_of_load : first_cell 31 0 45000000 5000000 ≡ 3
 first_of_load = refl
 

@@ -7,7 +7,7 @@ use Rattle.std.specs.Prelude.{chars, if◌then◌else◌}
 abbrev pub is_control : ℕ → Bool
 is_control c = nat_lt c 32 || (nat_le 127 c && nat_le c 159)
 
--- a character as it is shown: ? for one that can steer a terminal, and in ASCII for each above U+007E
+-- a character as it is shown: ? if it can steer a terminal or, in ASCII, is above U+007E
 abbrev pub shown : Bool → ℕ → ℕ
 shown ascii c = if is_control c || (ascii && nat_lt 126 c) then 63 else c
 
@@ -15,7 +15,7 @@ shown ascii c = if is_control c || (ascii && nat_lt 126 c) then 63 else c
 abbrev pub cut_char : Bool → ℕ
 cut_char ascii = if ascii then 126 else 8230
 
--- a name in so many columns, a column a character: whole if it fits, and else cut
+-- a name in `columns` columns, one for each character: whole if it fits, otherwise cut
 abbrev pub fitted : Bool → ℕ → List ℕ → List ℕ
 fitted ascii columns name =
     if nat_le (length name) columns then name else take (columns - 1) name ++ cut_char ascii ∷ []

@@ -13,16 +13,16 @@ is_row_of place (Absent child) = false
 abbrev pub row_count : ℕ → List Row → ℕ
 row_count place rows = count_by (is_row_of place) rows
 
--- 1 if this is said of the place, and else 0
+-- 1 if `said` holds at the place, otherwise 0
 abbrev pub one_if : List Bool → ℕ → ℕ
 one_if said place = if slice_index_or said place false then 1 else 0
 
--- each span of which this is said has one row, and every other span of the batch none
+-- each span at which `said` holds has one row, and every other span of the batch none
 abbrev pub AreDrawnOnce : List Bool → List Row → Type 0
 AreDrawnOnce said rows = (place : ℕ) → place < length said → row_count place rows ≡ one_if said place
 
--- from the spans that waited to be drawn, and the rows, to those later: each span that no longer waits
--- has one row more, and none waits anew
+-- The pending spans and the rows changed to `left` and `drawn`: each span that is no longer pending
+-- has one more row, and no span became pending.
 pub record Draws (pending : List Bool) (rows : List Row) (left : List Bool) (drawn : List Row)
     : Type 0 where
   pub same_length : length left ≡ length pending

@@ -4,8 +4,8 @@ ghost use Rattle.otel_drawing.specs.Bar as spec;
 
 use std::alloc::{AllocError, Global};
 
-/// The time that the bars of a trace are drawn over, in so many cells: from the least start to the
-/// greatest end, in nanoseconds since 1970-01-01T00:00:00Z.
+/// The time over which the bars of a trace are drawn, and the number of cells: from the least start
+/// to the greatest end, in nanoseconds since 1970-01-01T00:00:00Z.
 #[derive(Clone, Copy, Debug)]
 pub struct Scale {
     pub cells: usize,
@@ -17,7 +17,7 @@ pub struct Scale {
 }
 
 impl Scale {
-    /// Returns the cell of a moment so long after the least start.
+    /// Returns the cell of a moment that is `after` nanoseconds after the least start.
     fn cell_at(self, after: u64) -> usize
         ensures { result ≡ spec.cell_at self.cells (self.to - self.from) after }
     {
@@ -29,7 +29,7 @@ impl Scale {
         cell.min(self.cells as u128 - 1) as usize
     }
 
-    /// Returns the last cell of a span that ends so long after the least start.
+    /// Returns the last cell of a span that ends `after` nanoseconds after the least start.
     fn end_cell(self, after: u64) -> usize
         requires { after ≤ self.to - self.from }
         ensures { result ≡ spec.end_cell self.cells (self.to - self.from) after }
@@ -90,7 +90,7 @@ impl Scale {
         ' '
     }
 
-    /// Returns the characters of the bar of a span with this start and this end, and events at these
+    /// Returns the characters of the bar of a span with this start, this end and events at these
     /// moments.
     ///
     /// # Errors

@@ -5,7 +5,7 @@ ghost use Rattle.otel_drawing.specs.Duration as spec;
 
 use std::alloc::{AllocError, Global};
 
-/// Returns the text of nanoseconds in a unit, a hundredth of which is so many nanoseconds.
+/// Returns the text of `n` nanoseconds in a unit, of which a hundredth is `hundredth` nanoseconds.
 fn in_units(alloc: Global, n: u64, hundredth: u64, unit: &str) -> Result<String, AllocError>
     requires some { 0 < hundredth }
     requires few { hundredth < 100000000 }
@@ -23,7 +23,7 @@ fn in_units(alloc: Global, n: u64, hundredth: u64, unit: &str) -> Result<String,
     }
 }
 
-/// Returns the text of a length in nanoseconds, in the greatest unit that it has one of.
+/// Returns the text of a length in nanoseconds, in the greatest unit of which it has at least one.
 fn length_text(alloc: Global, n: u64) -> Result<String, AllocError>
     ensures { IfOk result (λ text. string_bytes text ≡ spec.length_text n) }
 {

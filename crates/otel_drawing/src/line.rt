@@ -10,7 +10,7 @@ use std::alloc::{AllocError, Global};
 /// The columns of a duration.
 const DURATION_WIDTH: usize = 9;
 
-/// Appends spaces, so many.
+/// Appends `count` spaces.
 fn push_spaces(line: &mut Vec<char>, count: usize) -> Result<(), AllocError> {
     for _ in 0..count {
         line.push(' ')?;
@@ -26,7 +26,7 @@ fn push_text(line: &mut Vec<char>, text: &str) -> Result<(), AllocError> {
     Ok(())
 }
 
-/// Appends the name of a span with the branches in front of it, and spaces to the end of its column.
+/// Appends the branches and the name of a span, and spaces to the end of the column.
 fn push_name(
     line: &mut Vec<char>,
     style: Style,
@@ -85,8 +85,8 @@ pub(crate) fn span_line(
     Ok(line)
 }
 
-/// Returns the line of a parent that isn't in the batch: its id, and whether it is in another process,
-/// by what its first child says.
+/// Returns the line of a parent that isn't in the batch: its id, and whether it is in another
+/// process, as its first child says.
 ///
 /// # Errors
 ///

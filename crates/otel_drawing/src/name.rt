@@ -4,8 +4,8 @@ ghost use Rattle.otel_drawing.specs.Name as spec;
 
 use std::alloc::{AllocError, Global};
 
-/// Returns the character as it is shown: `?` for one that can steer a terminal, and in ASCII for each
-/// above U+007E.
+/// Returns the character as it is shown: `?` if it can steer a terminal or, in ASCII, if it is above
+/// U+007E.
 pub fn shown(is_ascii: bool, c: char) -> char
     ensures { result ≡ spec.shown is_ascii c }
 {
@@ -31,7 +31,7 @@ pub fn shown_name(alloc: Global, is_ascii: bool, name: &str) -> Result<Vec<char>
     Ok(chars)
 }
 
-/// Cuts a name to so many columns: if it is longer, `…` or `~` stands in the last.
+/// Cuts a name to `columns` columns. If it was longer, the last one holds `…` or `~`.
 ///
 /// # Errors
 ///

@@ -19,7 +19,7 @@ fn push_line(text: &mut String, line: &[char]) -> Result<(), AllocError> {
     text.push('\n')
 }
 
-/// The spans of a trace: how many, their least start and their greatest end.
+/// The number of spans of a trace, their least start and their greatest end.
 #[derive(Clone, Copy, Debug)]
 struct Extent {
     count: usize,
@@ -59,7 +59,7 @@ fn push_head(
     text.push_str(head.as_str())
 }
 
-/// Keeps, of each row above, whether a sibling follows it, and adds a row.
+/// Moves to a row at the depth: keeps whether a sibling follows each row above it, and adds `own`.
 fn go_to(follows: &mut Vec<bool>, depth: usize, own: bool) -> Result<(), AllocError> {
     follows.truncate(depth.saturating_sub(1));
     if depth > 0 {
@@ -108,8 +108,8 @@ fn push_trace(
     Ok(())
 }
 
-/// Returns the picture of a batch: its traces in the order in which they first appear, with an empty
-/// line between two.
+/// Returns the picture of a batch: its traces in the order in which they first appear, separated by
+/// empty lines.
 ///
 /// # Errors
 ///

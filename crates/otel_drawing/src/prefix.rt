@@ -5,7 +5,7 @@ ghost use Rattle.otel_drawing.specs.Prefix as spec;
 
 use std::alloc::AllocError;
 
-/// Returns the group of an ancestor, by whether a sibling follows it.
+/// Returns the group of an ancestor, which a sibling follows or not.
 fn rail(is_ascii: bool, follows: bool) -> [char; 3]
     ensures { result ≡ spec.rail is_ascii follows }
 {
@@ -16,7 +16,7 @@ fn rail(is_ascii: bool, follows: bool) -> [char; 3]
     }
 }
 
-/// Returns the group of a span itself, by whether a sibling follows it.
+/// Returns the group of a span itself, which a sibling follows or not.
 fn branch(is_ascii: bool, follows: bool) -> [char; 3]
     ensures { result ≡ spec.branch is_ascii follows }
 {
@@ -39,8 +39,8 @@ fn push_rails(line: &mut Vec<char>, is_ascii: bool, ancestors: &[bool]) -> Resul
     Ok(())
 }
 
-/// Appends the characters in front of a name: whether a sibling follows, of each ancestor but the top
-/// one and then of the span itself. A top row has none.
+/// Appends the characters in front of a name, none for a top row. `follows` says whether a sibling
+/// follows each ancestor but the top one, and then the span itself.
 ///
 /// # Errors
 ///

@@ -9,30 +9,30 @@ use std::alloc::{AllocError, Global};
 /// A row below the first line of a trace.
 #[derive(Clone, Copy, Debug)]
 pub enum Row {
-    /// The span at this place of the batch, under so many rows, and whether a sibling follows it.
+    /// A span of the batch.
     Span {
         /// The place of the span in the batch.
         place: usize,
-        /// How many rows it is under.
+        /// How many rows are above it in the tree.
         depth: usize,
         /// Whether a sibling follows it.
         follows: bool,
     },
-    /// The parent of a span that isn't in the batch itself.
+    /// A parent that isn't in the batch.
     Absent {
         /// The place of its first child in the batch.
         child: usize,
     },
 }
 
-/// Where a span hangs.
+/// The parent of a span.
 #[derive(Clone, Copy, Debug, PartialEq, Eq)]
 enum Parent {
-    /// It is a root.
+    /// None: the span is a root.
     Root,
-    /// Under the span at this place of the batch.
+    /// The span at this place of the batch.
     At(usize),
-    /// Under a span that isn't in the batch.
+    /// A span that isn't in the batch.
     Absent(SpanId),
 }
 
@@ -51,7 +51,7 @@ struct Waiting {
     follows: bool,
 }
 
-/// Returns where a span hangs. Of spans with one id the first is the parent.
+/// Returns the parent of a span: the first of the spans with that id.
 fn parent_of(batch: &[Span], span: &Span) -> Parent {
     if span.parent_span_id == SpanId::INVALID {
         return Parent::Root;
@@ -62,7 +62,7 @@ fn parent_of(batch: &[Span], span: &Span) -> Parent {
     place.map_or(Parent::Absent(span.parent_span_id), Parent::At)
 }
 
-/// Returns the spans of a trace by start, and of one start by their places.
+/// Returns the spans of a trace, ordered by start and then by place.
 fn nodes_of(alloc: Global, batch: &[Span], trace: TraceId) -> Result<Vec<Node>, AllocError> {
     let mut starts = Vec::new(alloc);
     for (place, span) in batch.iter().enumerate() {
@@ -83,8 +83,7 @@ fn nodes_of(alloc: Global, batch: &[Span], trace: TraceId) -> Result<Vec<Node>, 
     Ok(nodes)
 }
 
-/// The rows as far as they are drawn, and for each place of the batch whether its span is still to be
-/// drawn.
+/// The rows drawn so far, and for each place of the batch whether its span is still to be drawn.
 #[derive(Debug, Drop)]
 struct Drawing {
     pending: Vec<bool>,
@@ -127,7 +126,7 @@ impl Drawing {
     }
 }
 
-/// Lets the children of a parent that are still to be drawn wait, the first on top.
+/// Pushes the children of a parent that are still to be drawn, the first on top.
 fn push_children(
     nodes: &[Node],
     drawing: &Drawing,
@@ -149,7 +148,7 @@ fn push_children(
     Ok(())
 }
 
-/// Draws what waits, each with what is under it.
+/// Draws the waiting spans, each with what is under it.
 #[tactic(auto, using(crate::proofs::Drawn::draws_more, crate::proofs::Drawn::draws_nothing))]
 fn draw_waiting(
     nodes: &[Node],
@@ -195,8 +194,7 @@ fn draw_top(
     draw_waiting(nodes, drawing, &mut waiting)
 }
 
-/// Draws the row of an absent parent, whose first child is the span at this place, with what is under
-/// it.
+/// Draws the row of an absent parent, whose first child is the node, with what is under it.
 #[tactic(auto, using(crate::proofs::Drawn::draws_more))]
 fn draw_absent(
     alloc: Global,
@@ -274,9 +272,9 @@ fn spans_of(alloc: Global, batch: &[Span], trace: TraceId) -> Result<Vec<bool>, 
         .collect(alloc)
 }
 
-/// Returns the rows of a trace, from the top. Each span of the trace has one row, and no other span has
-/// one. Siblings stand by start, and of one start by their places in the batch; each is followed by what
-/// is under it. Spans whose parents are in a circle follow as if they were roots.
+/// Returns the rows of a trace, from the top. Each span of the trace has one row, and no other span
+/// has one. Siblings are ordered by start and then by place in the batch; each is followed by what
+/// is under it. Spans whose parents are in a circle come last, as if they were roots.
 ///
 /// # Errors
 ///

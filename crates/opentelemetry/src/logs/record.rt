@@ -9,8 +9,8 @@ use std::alloc::{AllocError, Global};
 
 /// A log record that is being built (the Rust crate's `LogRecord`).
 ///
-/// An implementor names, by ghost members, the effect of each setter as a function of the record and
-/// of what the arguments mean: `after_event_name`, `after_target`, `after_timestamp`,
+/// An implementor names, by ghost members, the effect of each setter as a function of the record
+/// and of what the arguments mean: `after_event_name`, `after_target`, `after_timestamp`,
 /// `after_observed_timestamp`, `after_severity_text`, `after_severity_number`, `after_body`,
 /// `after_attributes`, `after_attribute`. After an error the record is unchanged. `may_be_traced`
 /// says which records `set_trace_context` may leave: the unchanged record is one of them

@@ -168,9 +168,9 @@ impl TextMapCompositePropagator {
         self.inject_context(stack.current(), injector)
     }
 
-    /// Lets each member extract, in turn, starting from the context that the one before returned,
-    /// and the first from the given one. Stops at the first error and returns it. Without members it
-    /// returns a copy of the given context.
+    /// Lets each member extract, in turn: the first from the given context, and each other one from
+    /// the context that the member before it returned. Stops at the first error and returns it.
+    /// Without members it returns a copy of the given context.
     ///
     /// # Errors
     ///
@@ -182,8 +182,8 @@ impl TextMapCompositePropagator {
         context: &Context,
         extractor: &dyn Extractor,
     ) -> Result<Context, PropagationError>
-        ensures extracted { ExtractsAll (λ m. extracted m) (λ m. may_refuse m) self.now context.now
-            (texts extractor.now) result }
+        ensures extracted { ExtractsAll (λ m. extracted m) (λ m. may_refuse m) self.now
+            context.now (texts extractor.now) result }
         ensures without_members { members_of self.now ≡ []
             → IfOk result (λ given. given ≡ context.now) }
     {

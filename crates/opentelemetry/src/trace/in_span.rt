@@ -19,8 +19,8 @@ use std::alloc::{AllocError, Global};
 pub enum StartError<S> {
     /// Out of memory before there was a span. The table is unchanged.
     Build(AllocError),
-    /// The table's numbers are used up, or out of memory; the span that was built comes back. In the
-    /// first case the table is unchanged, in the second its next number may be one higher.
+    /// The table's numbers are used up, or memory ran out. The span that was built comes back. In
+    /// the first case the table is unchanged, in the second its next number may be one higher.
     Refused(SpanRefused<S>),
 }
 
