@@ -19,8 +19,8 @@ PrintsAs (boolean b) printed = bool_text b ≡ printed
 PrintsAs (text s) printed = s ≡ printed
 PrintsAs _ printed = ⊥
 
--- A pair, of which the printed text is known, was added last, with a value that prints so. Only one
--- that prints as null does may have been left out.
+-- A pair whose printed text is known was added last, with a value that prints as that text. It may
+-- have been left out only if it prints as null does.
 abbrev pub TakesPair : List Attribute → Pair → List Attribute → Type 0
 TakesPair before pair after =
     ((value : Tree) × PrintsAs value pair.1 × (after ≡ before ++ (pair.0, value) ∷ []))
@@ -31,7 +31,7 @@ abbrev pub with_value : List Attribute → List ℕ → Option Tree → List Att
 with_value attributes key None = attributes
 with_value attributes key (Some value) = attributes ++ (key, value) ∷ []
 
--- The attribute of a pair was added last, if it has one. Here the type of the value counts too.
+-- The attribute of a pair was added last, if it has one. Here the type of the value matters too.
 abbrev pub AddsValue : {D : Type 0} → (D → Option (List ℕ)) → List ℕ → Value D
     → List Attribute → List Attribute → Type 0
 AddsValue output key value before after =

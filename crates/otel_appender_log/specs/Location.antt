@@ -19,7 +19,7 @@ number_of known = option_map (λ n. integer (pos n)) known
 abbrev pub nowhere : SourceLocation
 nowhere = record { file = None; line = None; «module» = None }
 
--- the attributes, and then what is known of the place, but for the keys that are there
+-- the attributes, and then what is known of the place, except under keys that are present
 -- (OpenTelemetry semantic conventions, "Source Code Attributes"; `code.namespace` names the module,
 -- as the Rust crate `opentelemetry-appender-log` has it)
 abbrev pub with_location : List Attribute → SourceLocation → List Attribute

@@ -8,7 +8,7 @@ use Rattle.log.specs.Kv.{value_text, value_i64}
 use Rattle.otel_base.specs.AnyValue.{Tree, integer, text, boolean}
 
 module _ {D : Type 0} where
-  -- the integer, if it fits an `i64`, or else the text that `{}` writes
+  -- the integer if it fits an `i64`, otherwise the text that `{}` writes
   abbrev pub number_or_text : Value D → List ℕ → Tree
   number_or_text v printed = option_map_or integer (value_i64 v) (text printed)
 

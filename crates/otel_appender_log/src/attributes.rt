@@ -55,7 +55,7 @@ impl VisitSource for Attributes {
     }
 }
 
-// Adds the attribute of a pair, the last. A null adds none.
+// Appends the attribute of a pair. A null adds none.
 fn push_pair<D: Display>(
     pairs: &mut Pairs,
     key: &str,
@@ -103,7 +103,7 @@ fn has_key(pairs: &Pairs, key: &str) -> bool
     pairs.iter().any(|pair| pair.0.as_str() == key)
 }
 
-// Adds an attribute with the text, the last, if there is a text and the key isn't there.
+// Appends an attribute with the text, if there is a text and the key isn't present.
 fn push_text(pairs: &mut Pairs, key: &'static str, value: Option<&str>) -> Result<(), AllocError>
     ensures { OnOk result (pairs_view pairs.new.items
         ≡ with_absent (pairs_view pairs.old.items) key.now (text_of value.entry)) }
@@ -118,7 +118,7 @@ fn push_text(pairs: &mut Pairs, key: &'static str, value: Option<&str>) -> Resul
     Ok(())
 }
 
-// Adds an attribute with the number, the last, if there is a number and the key isn't there.
+// Appends an attribute with the number, if there is a number and the key isn't present.
 fn push_number(pairs: &mut Pairs, key: &'static str, value: Option<u32>) -> Result<(), AllocError>
     ensures { OnOk result (pairs_view pairs.new.items
         ≡ with_absent (pairs_view pairs.old.items) key.now (number_of value)) }
@@ -131,7 +131,7 @@ fn push_number(pairs: &mut Pairs, key: &'static str, value: Option<u32>) -> Resu
     Ok(())
 }
 
-// Adds what is known of the place, unless its keys are there.
+// Appends what is known of the place, except under keys that are present.
 fn push_location(pairs: &mut Pairs, location: &SourceLocation<'_>) -> Result<(), AllocError>
     ensures { OnOk result (pairs_view pairs.new.items
         ≡ with_location (pairs_view pairs.old.items) location.now) }
@@ -141,7 +141,7 @@ fn push_location(pairs: &mut Pairs, location: &SourceLocation<'_>) -> Result<(),
     push_text(pairs, "code.namespace", location.module)
 }
 
-// Returns the attributes of the pairs, and then those of the place whose keys aren't there.
+// Returns the attributes of the pairs, and then those of the place whose keys aren't present.
 pub(crate) fn located_attributes<K: Source>(
     alloc: Global,
     source: &K,

@@ -58,7 +58,7 @@ impl<L: Logger> OpenTelemetryLogBridge<L> {
         }
     }
 
-    /// Returns how many records were dropped, being out of memory.
+    /// Returns how many records were dropped because memory ran out.
     pub fn dropped_records(&self) -> u64 {
         self.dropped.get()
     }

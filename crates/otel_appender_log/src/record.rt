@@ -90,9 +90,9 @@ fn made_record<L: Logger, D: Display, K: Source, S>(
 /// records with its severity and target.
 ///
 /// It has the severity of the level with its name, the message's text as its body, the target, and
-/// as attributes the key-value pairs in order and then what is known of the place, unless the keys
-/// are there. It names the span if the span context is valid. It has no timestamp and no event
-/// name. The spans of the crate `log` are left out.
+/// as attributes the key-value pairs in order and then what is known of the place, except under
+/// keys that are present. It names the span if the span context is valid. It has no timestamp and
+/// no event name. The spans of the crate `log` are left out.
 ///
 /// # Errors
 ///

@@ -27,7 +27,7 @@ pub fn attribute_value<D: Display>(
     }
 }
 
-// Returns the integer, if it is one that fits, or else the text.
+// Returns the integer if it fits, otherwise the text.
 fn number_or_text<D: Display>(alloc: Global, value: &Value<'_, D>) -> Result<AnyValue, AllocError>
     ensures { IfOk result (λ a. IsNumberOrText D.output value.now (tree a)) }
 {

@@ -19,14 +19,13 @@ Headers = Entries FieldValue
 abbrev pub text : FieldValue → Option (List ℕ)
 text value = if is_visible_text value.bytes then Some value.bytes else None
 
--- the text of the one value; none of two, even if they are equal
+-- the text of the only value; none if there are two, even if they are equal
 abbrev pub only : List FieldValue → Option (List ℕ)
 only [] = None
 only (v ∷ []) = text v
 only (v ∷ w ∷ values) = None
 
--- the texts of the readable values, with a comma between each two, if there is any (RFC 9110,
--- section 5.3)
+-- the texts of the readable values, joined by commas, if there is any (RFC 9110, section 5.3)
 abbrev pub joined : List (List ℕ) → Option (List ℕ)
 joined [] = None
 joined (t ∷ ts) = Some (join_by (λ piece. piece) (codes ",") (t ∷ ts))
@@ -41,14 +40,14 @@ first (v ∷ values) = text v
 abbrev pub is_list : List ℕ → Bool
 is_list name = bytes_eq name (codes "tracestate") || bytes_eq name (codes "baggage")
 
--- the text that a name of these values has. A `traceparent` that stands twice is a fault [W3C
--- trace-context-2, "traceparent Header"]
+-- the text of a name with these values. A repeated `traceparent` is a fault [W3C trace-context-2,
+-- "traceparent Header"]
 abbrev pub text_of : List ℕ → List FieldValue → Option (List ℕ)
 text_of name values =
     if bytes_eq name (codes "traceparent") then only values
     else (if is_list name then joined (filter_map text values) else first values)
 
--- the text that the headers have at a name in lower case
+-- the text that the headers have for a name in lower case
 abbrev pub text_at : Headers → List ℕ → Option (List ℕ)
 text_at headers name = text_of name (get_all headers name)
 
@@ -62,7 +61,7 @@ texts headers = fin.from_entries (flat_map (pair_at headers) (keys headers))
 
 -- ---- writing
 
--- headers refuse a key that is no name of a field (RFC 9110, section 5.6.2) or has more than 65,535
+-- headers refuse a key that isn't a field name (RFC 9110, section 5.6.2) or has more than 65,535
 -- bytes, a value that isn't readable, and a new name once they are full
 abbrev pub Refuses : Headers → List ℕ → List ℕ → Type 0
 Refuses headers key value =
@@ -70,18 +69,18 @@ Refuses headers key value =
 
 -- ---- examples
 
--- two lines of a list are joined, one that isn't readable is left out
+-- two lines of a list are joined; one that isn't readable is left out
 lists_are_joined : text_of (codes "tracestate")
     (plain_value (codes "a=1") ∷ plain_value (255 ∷ []) ∷ plain_value (codes "b=2") ∷ [])
     ≡ Some (codes "a=1,b=2")
 lists_are_joined = refl
 
--- two equal lines of `traceparent` are none
+-- two equal lines of `traceparent` give none
 two_parents_are_none : text_of (codes "traceparent")
     (plain_value (codes "00") ∷ plain_value (codes "00") ∷ []) ≡ None
 two_parents_are_none = refl
 
--- of another name the first value is read
+-- for any other name the first value is read
 the_first_is_read : text_of (codes "x-id") (plain_value (codes "1") ∷ plain_value (codes "2") ∷ [])
     ≡ Some (codes "1")
 the_first_is_read = refl

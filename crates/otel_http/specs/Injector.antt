@@ -4,7 +4,7 @@ use Rattle.opentelemetry.specs.Carrier.{CarrierState}
 use Rattle.otel_http.specs.Headers.{Headers, texts}
 use Rattle.otel_http.specs.declared.injector.HeaderInjector.{HeaderInjector}
 
--- the texts of headers, of which so many were refused
+-- the texts of headers, and how many were refused
 abbrev pub carrier : Headers → ℕ → CarrierState
 carrier headers refusals = record { texts = texts headers; refusals = refusals }
 

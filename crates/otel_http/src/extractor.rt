@@ -13,8 +13,8 @@ use std::marker::Model;
 /// `opentelemetry-http`).
 ///
 /// A value is readable if each byte is a tab, or 20 to 7e in hexadecimal. The readable values of
-/// `tracestate` and of `baggage` are joined by commas; a `traceparent` that stands twice isn't
-/// there; of any other name the first value counts, if it is readable.
+/// `tracestate` and of `baggage` are joined by commas; a repeated `traceparent` counts as absent;
+/// for any other name the first value counts, if it is readable.
 ///
 /// Contracts see it as a finite map of texts.
 #[derive(Drop)]

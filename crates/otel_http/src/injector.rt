@@ -38,7 +38,7 @@ fn name_of(alloc: Global, key: &str) -> Result<HeaderName, PropagationError>
     }
 }
 
-/// Returns the text as the value of a header, which has it as its text.
+/// Returns the value of a header that has this text.
 fn value_of(text: String) -> Result<HeaderValue, PropagationError>
     ensures ok { IfOk result (λ value. value ≡ plain_value (string_bytes text)) }
     ensures readable { OnOk result
@@ -59,7 +59,7 @@ fn value_of(text: String) -> Result<HeaderValue, PropagationError>
     }
 }
 
-/// Puts the value in place of all those of the name.
+/// Replaces all values of the name with this one.
 fn replace(
     headers: &mut HeaderMap,
     name: HeaderName,
@@ -77,7 +77,7 @@ fn replace(
     }
 }
 
-/// Puts the value in place of all those of the key in lower case.
+/// Replaces all values of the key, in lower case, with this one.
 fn put(headers: &mut HeaderMap, key: &str, value: String) -> Result<(), PropagationError>
     ensures ok { OnOk result (headers.new
         ≡ insert headers.old (lower key.now) (plain_value (string_bytes value))) }
@@ -94,7 +94,7 @@ fn put(headers: &mut HeaderMap, key: &str, value: String) -> Result<(), Propagat
 }
 
 impl HeaderInjector {
-    /// Returns an injector into the headers. It has refused nothing.
+    /// Returns an injector into the headers. It has refused nothing so far.
     pub fn new(headers: HeaderMap) -> HeaderInjector
         ensures headers { result.headers ≡ headers }
         ensures carrier { state result ≡ carrier headers 0 }

@@ -27,7 +27,7 @@ fn read_first<'a>(values: &GetAll<'a, HeaderValue>) -> Option<&'a str>
     }
 }
 
-/// Returns the text of the one value, or `None` if there are two.
+/// Returns the text of the only value, or `None` if there are two.
 fn read_only<'a>(values: &GetAll<'a, HeaderValue>) -> Option<&'a str>
     ensures { option_copied result ≡ only values.now }
 {
@@ -58,7 +58,7 @@ fn read_joined(
     Ok(Some(pieces.join(alloc, ",")?))
 }
 
-/// Returns the text that a name of these values has.
+/// Returns the text of a name with these values.
 pub(crate) fn read_all(
     alloc: Global,
     name: &str,

@@ -33,7 +33,7 @@ empty = record {
   trace_context = None;
 }
 
--- the same record with one more attribute, the last
+-- the same record with one more attribute, at the end
 abbrev pub with_attribute : RecordedLog → List ℕ → Tree → RecordedLog
 with_attribute log key value = record log { attributes = log.attributes ++ (key, value) ∷ [] }
 

@@ -160,7 +160,7 @@ impl RecordingLogRecord {
         self.trace_context
     }
 
-    // Takes one of the calls that are left, if any is.
+    // Uses up one of the remaining calls, if there is one.
     fn take_room(&mut self) -> Result<(), AllocError>
         ensures { self.new ≡ self.old }
     {
@@ -259,7 +259,7 @@ impl LogRecord for RecordingLogRecord {
         Ok(())
     }
 
-    /// Sets the span, in place of the one before.
+    /// Sets the span, replacing an earlier one.
     fn set_trace_context(
         &mut self,
         trace_id: TraceId,

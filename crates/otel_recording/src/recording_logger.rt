@@ -9,7 +9,7 @@ use std::cell::RefCell;
 
 /// A logger that keeps the records it is given, in order.
 ///
-/// An event is enabled if its severity is at least the logger's least one.
+/// An event is enabled if its severity is at least `least`.
 ///
 /// ```
 /// RecordingLogger::new(alloc, scope, Severity::Trace)
@@ -73,7 +73,7 @@ impl Logger for RecordingLogger {
         }
     }
 
-    /// Returns whether the severity is at least the logger's least one.
+    /// Returns whether the severity is at least `least`.
     fn event_enabled(&self, level: Severity, _target: &str, _name: Option<&str>) -> bool {
         self.least.number() <= level.number()
     }

@@ -1,4 +1,4 @@
--- Which of the ids that are drawn a generator gives.
+-- Which of the drawn ids a generator returns.
 use Rattle.std.specs.Prelude.{◌≡◌, ◌≢◌, ℕ, zero, suc, Option, Result, Ok, Err, MatchOption, ◌⊎◌}
 use Rattle.otel_sdk_sampling.specs.declared.id_generator.IdError.{IdError}
 use Rattle.otel_sdk_sampling.specs.declared.id_generator.IdError.TheVariants.{Zero, Source}

@@ -1,5 +1,5 @@
--- Which part of the traces a ratio samples: the bound of a ratio, a double seen as the number of its
--- 64 bits, and the number of a trace id that is compared with the bound.
+-- Which traces a ratio samples: the bound of a ratio, which is a double seen as its 64 bits, and
+-- the number of a trace id that is compared with that bound.
 use Rattle.std.specs.Prelude.{◌≡◌, refl, ℕ, ◌+◌, ◌*◌, ◌/◌, ◌%◌, ◌^◌, ◌==◌, ◌<◌, ◌≤◌, nat_lt, nat_le, Bool}
 use Rattle.std.specs.Prelude.{List, codes, if◌then◌else◌}
 
@@ -41,8 +41,8 @@ half trace_id = trace_id % 2 ^ 64 / 2
 abbrev pub samples : ℕ → ℕ → Bool
 samples bits trace_id = nat_lt (half trace_id) (bound bits)
 
--- the text of the ratio that counts: 0 if it samples nothing and isn't above 0, 1 from 1 on, and
--- else what `Display` prints, of which std promises nothing
+-- the text of the ratio that counts: 0 if it samples nothing and isn't above 0, 1 from 1 on,
+-- otherwise what `Display` prints, about which std promises nothing
 pub record IsNumberText (bits : ℕ) (text : List ℕ) : Type 0 where
   pub zero : bits ≡ 0 → text ≡ codes "0"
   pub below_zero : infinity < bits → text ≡ codes "0"
@@ -96,6 +96,6 @@ two_bound = refl
 infinity_bound : bound 0x7ff0_0000_0000_0000 ≡ 2 ^ 63
 infinity_bound = refl
 
--- the high half of a trace id doesn't count, and its last bit neither
+-- neither the high half of a trace id nor its last bit counts
 high_half : half 0xffff_ffff_ffff_ffff_0000_0000_0000_0003 ≡ 1
 high_half = refl

@@ -62,7 +62,7 @@ has_parent parent = if nat_eq parent.trace_id 0 || nat_eq parent.span_id 0 then 
 
 -- ---- the built-in samplers
 
--- the parent's trace state, and for a root the empty one
+-- the parent's trace state, or the empty one for a root
 abbrev pub parents_trace_state : SpanContextRecord → List Pair
 parents_trace_state parent = if has_parent parent then parent.trace_state else []
 
@@ -92,9 +92,9 @@ IsDescription (TraceIdRatioBased ratio) text =
 
 -- ---- `ParentBased`
 
--- The answer of one of five samplers: of the first for a root, and else by whether the parent is
--- remote and sampled: of a remote parent that is sampled, one that isn't, a local parent that is, one
--- that isn't [OpenTelemetry trace SDK, "ParentBased"].
+-- The answer of one of five samplers: the first for a root, the others for a parent that is remote
+-- and sampled, remote and not sampled, local and sampled, local and not sampled [OpenTelemetry
+-- trace SDK, "ParentBased"].
 abbrev pub parent_based : (Asked → Answer) → (Asked → Answer) → (Asked → Answer)
     → (Asked → Answer) → (Asked → Answer) → Asked → Answer
 parent_based root remote_on remote_off local_on local_off asked =
@@ -115,7 +115,7 @@ parent_based_text root remote_on remote_off local_on local_off =
     ++ codes ",localParentSampled:" ++ local_on
     ++ codes ",localParentNotSampled:" ++ local_off ++ codes "}"
 
--- the text is made of some descriptions of the five samplers
+-- the text is made of descriptions of the five samplers
 abbrev pub DescribesParentBased : (List ℕ → Type 0) → (List ℕ → Type 0) → (List ℕ → Type 0)
     → (List ℕ → Type 0) → (List ℕ → Type 0) → List ℕ → Type 0
 DescribesParentBased root remote_on remote_off local_on local_off text =

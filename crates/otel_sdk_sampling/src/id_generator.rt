@@ -12,7 +12,7 @@ use thiserror::Error;
 /// Why there is no new id.
 #[derive(Clone, Copy, Debug, PartialEq, Eq, Error)]
 pub enum IdError {
-    /// Each number that was drawn is 0, which is no valid id, or the numbers are used up.
+    /// Every number drawn was 0, which isn't a valid id, or the numbers are used up.
     #[error("no valid id was drawn")]
     Zero,
     /// The source of random numbers failed.
@@ -51,7 +51,7 @@ pub trait IdGenerator: Drop {
         ensures { result ≡ random self.now };
 }
 
-/// Draws ids from a source of random numbers, as the system's (the Rust crate's
+/// Draws ids from a source of random numbers, such as the system's (the Rust crate's
 /// `RandomIdGenerator`). An id of 0 is drawn again, at most 8 draws in all.
 ///
 /// `RandomIdGenerator::new(rt)` draws from the system's source.
@@ -85,8 +85,8 @@ impl<R: RandomSource + Drop> IdGenerator for RandomIdGenerator<R> {
     }
 }
 
-/// Counts ids up from 1, those of traces and those of spans apart, for tests. Not in the Rust
-/// crate's public items.
+/// Counts ids up from 1, trace ids and span ids separately, for tests. Not in the Rust crate's
+/// public items.
 ///
 /// ```
 /// let ids = CountedIdGenerator::new();

@@ -1,4 +1,4 @@
-//! Samplers, and generators of ids. `otel_sdk` exports all of it again.
+//! Samplers, and generators of ids. `otel_sdk` re-exports all of it.
 #![tactic(auto)]
 
 mod id_generator;

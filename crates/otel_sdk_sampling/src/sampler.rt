@@ -94,8 +94,8 @@ pub enum Sampler {
     AlwaysOn,
     /// Samples no span.
     AlwaysOff,
-    /// Samples this part of all traces, by their ids: none if it is 0, below 0 or NaN, and all from
-    /// 1 on. A trace that is sampled at one ratio is sampled at each greater one.
+    /// Samples this fraction of all traces, by their ids: none if it is 0, negative or NaN, and all
+    /// from 1 on. A trace that is sampled at one ratio is sampled at each greater one.
     TraceIdRatioBased(f64),
 }
 
@@ -126,11 +126,11 @@ fn half(trace_id: TraceId) -> u64
     low >> 1
 }
 
-/// Returns the trace state of the parent, or the empty one for a root: if one of its ids is 0.
+/// Returns the trace state of the parent, or the empty one if an id of the parent is 0.
 ///
 /// # Errors
 ///
-/// `AllocError` if the count of those that share the pairs is at its limit.
+/// `AllocError` if the reference count of the pairs is at its limit.
 fn parents_trace_state(parent: &SpanContext) -> Result<TraceState, AllocError>
     ensures { IfOk result (λ state. state ≡ parents_trace_state parent.now) }
 {
@@ -152,7 +152,7 @@ impl ShouldSample for Sampler {
     ///
     /// # Errors
     ///
-    /// `AllocError` if the count of those that share the pairs of the trace state is at its limit.
+    /// `AllocError` if the reference count of the trace state's pairs is at its limit.
     fn should_sample(
         &self,
         alloc: Global,

@@ -20,17 +20,17 @@ use Rattle.otel_base.specs.declared.key_value.KeyValue.{KeyValue}
 abbrev pub place : List ℕ → List Attribute → Option ℕ
 place k xs = position (has_key k) xs
 
--- the list with a in the place of the attribute of its key, or else with a last (OpenTelemetry
--- specification, "Attribute Collections"; the order is own)
+-- the list with a in the place of the attribute with its key, or with a last if there is none
+-- (OpenTelemetry specification, "Attribute Collections"; the order is own)
 abbrev pub put : List Attribute → Attribute → List Attribute
 put xs a = option_map_or (λ i. slice_set xs i a) (place a.0 xs) (xs ++ a ∷ [])
 
--- whether a is kept: its key is there, or fewer attributes than the limit are (OpenTelemetry
--- specification, "Attribute Limits")
+-- whether a is kept: its key is present, or the list has fewer attributes than the limit
+-- (OpenTelemetry specification, "Attribute Limits")
 abbrev pub keeps : ℕ → List Attribute → Attribute → Bool
 keeps limit xs a = is_some (place a.0 xs) || nat_lt (length xs) limit
 
--- the list after a is set: a is put if it is kept, and else nothing changes
+-- the list after a is set: a is put if it is kept, otherwise nothing changes
 abbrev pub set : ℕ → List Attribute → Attribute → List Attribute
 set limit xs a = if keeps limit xs a then put xs a else xs
 
@@ -39,7 +39,7 @@ abbrev pub set_all : ℕ → List Attribute → List Attribute → List Attribut
 set_all limit xs [] = xs
 set_all limit xs (a ∷ more) = set_all limit (set limit xs a) more
 
--- how many of them aren't kept
+-- how many of them are dropped
 abbrev pub dropped : ℕ → List Attribute → List Attribute → ℕ
 dropped limit xs [] = 0
 dropped limit xs (a ∷ more) =
@@ -53,7 +53,7 @@ put_all xs given = fold put xs given
 abbrev pub keys : List Attribute → List (List ℕ)
 keys xs = map (λ p. p.0) xs
 
--- no two attributes have one key
+-- no two attributes have the same key
 abbrev pub HasUniqueKeys : List Attribute → Type 0
 HasUniqueKeys xs = IsDistinct bytes_eq (keys xs)
 
@@ -80,7 +80,7 @@ cut (Some n) a = (a.0, cut_value n a.1)
 abbrev pub limited : ℕ → Option ℕ → List Attribute → List Attribute
 limited limit length given = set_all limit [] (map (cut length) given)
 
--- how many of the attributes aren't kept then
+-- how many of the attributes are then dropped
 abbrev pub left_out : ℕ → Option ℕ → List Attribute → ℕ
 left_out limit length given = dropped limit [] (map (cut length) given)
 

@@ -56,7 +56,7 @@ given None = None
 given (Some []) = None
 given (Some (b ∷ bs)) = Some (b ∷ bs)
 
--- the URL that is given, or that both are; none if they differ (OpenTelemetry specification,
+-- the URL that only one has, or that both have; none if they differ (OpenTelemetry specification,
 -- "Merge"; the Rust crate's `merge`)
 abbrev pub merged_url : Option (List ℕ) → Option (List ℕ) → Option (List ℕ)
 merged_url None new = new

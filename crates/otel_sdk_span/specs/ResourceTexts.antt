@@ -19,7 +19,7 @@ use Rattle.otel_sdk_span.specs.Resource.{Parts, named}
 use Rattle.otel_sdk_span.specs.declared.resource.texts.ResourceTextError.{ResourceTextError}
 
 -- ---- escapes
--- whether two hexadecimal digits are first
+-- whether the text begins with two hexadecimal digits
 abbrev pub begins_with_byte : List ℕ → Bool
 begins_with_byte [] = false
 begins_with_byte (high ∷ []) = false
@@ -62,7 +62,7 @@ pair_of (Some (b ∷ key)) None = None
 pair_of (Some []) value = None
 pair_of None value = None
 
--- the attribute that a piece stands for, if it does
+-- the attribute that a piece stands for, if any
 abbrev pub attribute_in : List ℕ → Option Attribute
 attribute_in piece =
     if list_any is_equals piece
@@ -73,7 +73,7 @@ attribute_in piece =
 abbrev pub is_fault : List ℕ → Bool
 is_fault piece = not (is_some (attribute_in piece)) && not (length (cut_blanks piece) == 0)
 
--- the number of the first faulty piece, all counted from 0
+-- the number of the first faulty piece, counted from 0
 abbrev pub fault : List ℕ → Option ℕ
 fault t = position is_fault (pieces t)
 
@@ -85,7 +85,7 @@ reported_piece error = option_map (λ e. e.piece) error
 abbrev pub attributes_in : List ℕ → List Attribute
 attributes_in t = put_all [] (filter_map attribute_in (pieces t))
 
--- A text is read as its attributes if it has no fault, and else as its first faulty piece.
+-- A text is read as its attributes if it has no fault, otherwise as its first faulty piece.
 abbrev pub IsReadAs : List ℕ → Result (Vec KeyValue Global) ResourceTextError → Type 0
 IsReadAs t (Ok attributes) =
     (fault t ≡ None) × (map attribute_of attributes.items ≡ attributes_in t)

@@ -14,7 +14,7 @@ use Rattle.otel_sdk_span.specs.SpanLimits.{default_limits, up_by, limited_event,
 use Rattle.otel_sdk_span.specs.declared.limits.SpanLimits.{SpanLimits}
 
 -- ---- what a span has recorded, after a call
--- The attribute is cut and set if the limit lets it, and else counted.
+-- The attribute is cut and set if the limit allows it, otherwise counted.
 abbrev pub with_attribute : SpanLimits → SpanRecord → Attribute → SpanRecord
 with_attribute limits d given =
     let a = cut limits.max_attribute_length given in
@@ -25,8 +25,8 @@ with_attribute limits d given =
           if keeps limit d.attributes a then d.dropped_attributes else up_by d.dropped_attributes 1;
     }
 
--- The event goes last, within its own limits, if fewer than the limit are there, and else it is
--- counted: the first ones stay.
+-- The event is appended, within its own limits, if there are fewer than the limit; otherwise it is
+-- counted. So the first ones stay.
 abbrev pub with_event : SpanLimits → SpanRecord → EventRecord → SpanRecord
 with_event limits d e =
     let has_room = nat_lt (length d.events) limits.max_events_per_span in
@@ -43,7 +43,7 @@ says_nothing l =
     && nat_eq (length l.attributes) 0
     && nat_eq (length l.span_context.trace_state) 0
 
--- the same for a link that says something
+-- the same for a link that isn't empty
 abbrev pub with_kept_link : SpanLimits → SpanRecord → LinkRecord → SpanRecord
 with_kept_link limits d l =
     let has_room = nat_lt (length d.links) limits.max_links_per_span in
@@ -52,11 +52,11 @@ with_kept_link limits d l =
       dropped_links = if has_room then d.dropped_links else up_by d.dropped_links 1;
     }
 
--- a link that says nothing changes nothing
+-- an empty link changes nothing
 abbrev pub with_link : SpanLimits → SpanRecord → LinkRecord → SpanRecord
 with_link limits d l = if says_nothing l then d else with_kept_link limits d l
 
--- The status rises: it is the new one if that is greater, and else the old one [the Rust crate's
+-- The status rises: it is the new one if that is greater, otherwise the old one [the Rust crate's
 -- `set_status`].
 abbrev pub with_status : SpanRecord → Status → SpanRecord
 with_status d status = record d {

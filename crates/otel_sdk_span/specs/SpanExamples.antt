@@ -79,7 +79,7 @@ first_event_example = refl
 dropped_events_example : three_events.dropped_events ≡ 2
 dropped_events_example = refl
 
--- an event that had dropped four attributes, and drops one more
+-- an event that had dropped four attributes drops one more
 event_count_example :
     limited_event one_event (event (key (codes "x") ∷ key (codes "y") ∷ []) 4)
     ≡ event (key (codes "x") ∷ []) 5

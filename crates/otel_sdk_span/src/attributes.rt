@@ -16,7 +16,7 @@ fn place(attributes: &[KeyValue], key: &Key) -> Option<usize>
     attributes.iter().position(|held| held.key == *key)
 }
 
-/// Puts the attribute in the place of the one with its key, or else last.
+/// Puts the attribute in the place of the one with its key, or last if there is none.
 ///
 /// # Errors
 ///

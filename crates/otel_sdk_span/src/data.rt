@@ -105,7 +105,7 @@ fn says_nothing(link: &Link) -> bool
 }
 
 impl SpanData {
-    /// Sets the attribute, cut, if the limit lets it, and else counts it.
+    /// Sets the attribute, cut, if the limit allows it; otherwise counts it.
     ///
     /// # Errors
     ///
@@ -131,7 +131,7 @@ impl SpanData {
         Ok(())
     }
 
-    /// Adds the event, within its own limits, if the limit lets it, and else counts it.
+    /// Adds the event, within its own limits, if the limit allows it; otherwise counts it.
     ///
     /// # Errors
     ///
@@ -155,8 +155,8 @@ impl SpanData {
         Ok(())
     }
 
-    /// Adds the link, within its own limits, if the limit lets it, and else counts it. A link that
-    /// says nothing changes nothing.
+    /// Adds the link, within its own limits, if the limit allows it; otherwise counts it. An empty
+    /// link changes nothing.
     ///
     /// # Errors
     ///
@@ -183,7 +183,7 @@ impl SpanData {
         Ok(())
     }
 
-    /// Sets the status if it is greater than the one that is there.
+    /// Sets the status if it is greater than the current one.
     pub(crate) fn set_status(&mut self, status: Status)
         ensures { self.new ≡ spec.with_status self.old status }
     {

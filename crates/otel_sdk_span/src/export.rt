@@ -1,4 +1,4 @@
-//! What takes ended spans out of the program.
+//! Exporters, which take ended spans out of the program.
 ghost use Rattle.std.specs.Prelude.{◌≡◌, [], ◌∷◌, ◌++◌, OnOk, OnErr};
 
 use crate::data::SpanData;
@@ -11,8 +11,8 @@ use std::rc::Rc;
 /// A batch is accepted whole or refused whole. An exporter names, by ghost members, the batches
 /// that it has accepted, `accepted`, and what a shutdown may make of it, `shuts_down`.
 ///
-/// An exporter that can never write a span has to accept it and count it itself: a processor hands
-/// in a refused batch again.
+/// An exporter that can never write a span must accept it and count it itself, since a processor
+/// hands in a refused batch again.
 ///
 /// `otel_sdk` has `InMemorySpanExporter`.
 pub trait SpanExporter: Drop {
@@ -36,7 +36,7 @@ pub trait SpanExporter: Drop {
     ///
     /// # Errors
     ///
-    /// Some of it isn't written. Whatever was accepted stays so.
+    /// Some of it isn't written. What was accepted stays accepted.
     fn force_flush(&mut self) -> OTelSdkResult
         ensures { accepted self.new ≡ accepted self.old };
 
@@ -44,12 +44,11 @@ pub trait SpanExporter: Drop {
     ///
     /// # Errors
     ///
-    /// The exporter's own. It is shut down all the same.
+    /// The exporter's own error. It is shut down all the same.
     fn shutdown(&mut self) -> OTelSdkResult
         ensures { shuts_down self.old self.new };
 
-    /// Tells the exporter the resource of the spans to come. Does nothing unless an exporter says
-    /// otherwise.
+    /// Tells the exporter the resource of the spans to come. Does nothing by default.
     fn set_resource(&mut self, _resource: Rc<Resource>)
         ensures { accepted self.new ≡ accepted self.old }
     {}

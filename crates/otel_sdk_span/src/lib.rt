@@ -1,5 +1,5 @@
 //! Spans that record within limits, what they have recorded, resources, and the exporters that take
-//! ended spans. `otel_sdk` exports all of it again.
+//! ended spans. `otel_sdk` re-exports all of it.
 #![tactic(auto)]
 
 mod attributes;

@@ -7,8 +7,8 @@ use crate::attributes::limited;
 use opentelemetry::trace::{Event, Link};
 use std::alloc::{AllocError, Global};
 
-/// How much a span keeps of what its calls give it (the Rust crate's `SpanLimits`). What is over a
-/// limit is dropped and counted, so that the first ones stay.
+/// How much a span keeps of what its calls give it (the Rust crate's `SpanLimits`). What exceeds a
+/// limit is dropped and counted, so the first ones stay.
 ///
 /// ```
 /// let limits = SpanLimits {
@@ -30,15 +30,15 @@ pub struct SpanLimits {
     pub max_attributes_per_event: u32,
     /// The greatest number of attributes of a link.
     pub max_attributes_per_link: u32,
-    /// The greatest number of characters of a text in an attribute, also of each text in an array.
-    /// A longer text is cut, and that isn't counted. The Rust crate has no such limit.
+    /// The greatest number of characters of a text in an attribute or in an array. A longer text is
+    /// cut, and that isn't counted. The Rust crate has no such limit.
     pub max_attribute_length: Option<u32>,
 }
 
 impl Default for SpanLimits {
     ghost is_default = { λ l. l ≡ spec.default_limits };
 
-    /// Returns 128 for each number, and no limit of a text's length.
+    /// Returns 128 for each number, and no limit on the length of texts.
     fn default() -> SpanLimits {
         SpanLimits {
             max_events_per_span: 128,

@@ -57,7 +57,7 @@ fn given(url: Option<StringValue>) -> Option<StringValue>
     }
 }
 
-// The URL that is given, or that both are, or none if they differ.
+// The URL that only one has, or that both have; none if they differ.
 fn merged_url(old: Option<StringValue>, new: Option<StringValue>) -> Option<StringValue>
     ensures { result ≡ spec.merged_url old new }
 {
@@ -105,9 +105,9 @@ impl Resource {
     /// schema URL.
     ///
     /// The first text is a list of `key=value`, separated by commas, in which escapes such as `%2C`
-    /// stand for bytes. The name of the service is set unless it is blank. If a piece of the list is
-    /// faulty, none of its attributes is taken, and the error names the piece (OpenTelemetry
-    /// specification, "Specifying resource information via an environment variable").
+    /// stand for bytes. The name of the service is set unless it is blank. If a piece is faulty, no
+    /// attribute of the list is taken, and the error names the piece (OpenTelemetry specification,
+    /// "Specifying resource information via an environment variable").
     ///
     /// # Errors
     ///
@@ -135,9 +135,9 @@ impl Resource {
     }
 
     /// Merges the updating resource into this one, and returns it. Its attributes are set in turn,
-    /// so its values win, and attributes that are there keep their place. The schema URL is the one
-    /// that is there, or that both have, an empty one counting as none; if they differ, there is
-    /// none.
+    /// so its values win, and attributes that were present keep their place. The schema URL is the
+    /// one that only one has, or that both have, an empty one counting as none; if they differ,
+    /// there is none.
     ///
     /// # Errors
     ///
@@ -229,7 +229,7 @@ impl Model for ResourceBuilder {
 }
 
 impl ResourceBuilder {
-    /// Sets the attribute. A key that is there keeps its place.
+    /// Sets the attribute. A key that is present keeps its place.
     ///
     /// # Errors
     ///

@@ -20,7 +20,7 @@ enum Kept {
 
 /// A span that records up to limits, until it ends (the Rust crate's `Span`).
 ///
-/// What is over a limit is dropped and counted, and the first ones stay. After the end nothing
+/// What exceeds a limit is dropped and counted, and the first ones stay. After the end nothing
 /// changes, and a second end does nothing. A span that doesn't record keeps its span context and
 /// whether it has ended; its calls take no memory.
 ///
@@ -127,8 +127,8 @@ impl Span for SdkSpan {
 
     ghost after_end = { after_end };
 
-    /// Adds the event, with its attributes cut and up to the limit, if fewer events than the limit
-    /// are there; else counts it. Does nothing if the span doesn't record.
+    /// Adds the event, with its attributes cut and up to the limit, if the span has fewer events
+    /// than the limit; otherwise counts it. Does nothing if the span doesn't record.
     ///
     /// # Errors
     ///
@@ -155,8 +155,8 @@ impl Span for SdkSpan {
         }
     }
 
-    /// Sets the attribute, cut, if its key is there or fewer attributes than the limit are; else
-    /// counts it. Does nothing if the span doesn't record.
+    /// Sets the attribute, cut, if its key is present or the span has fewer attributes than the
+    /// limit; otherwise counts it. Does nothing if the span doesn't record.
     ///
     /// # Errors
     ///
@@ -175,8 +175,8 @@ impl Span for SdkSpan {
         }
     }
 
-    /// Adds the link, with its attributes cut and up to the limit, if fewer links than the limit
-    /// are there; else counts it. Does nothing if the span context is not valid and there are
+    /// Adds the link, with its attributes cut and up to the limit, if the span has fewer links than
+    /// the limit; otherwise counts it. Does nothing if the span context is not valid and there are
     /// neither attributes nor a trace state, or if the span doesn't record.
     ///
     /// # Errors
@@ -204,7 +204,7 @@ impl Span for SdkSpan {
         }
     }
 
-    /// Sets the status if it is greater than the one that is there and the span records.
+    /// Sets the status if it is greater than the current one and the span records.
     fn set_status(&mut self, status: Status)
         ensures effect { self.new ≡ after_status self.old status }
         ensures idle { is_recording self.old ≡ false → self.new ≡ self.old }
@@ -232,8 +232,8 @@ impl Span for SdkSpan {
         }
     }
 
-    /// Ends the span. The moment is kept as it is given, also if it is before the start. Does
-    /// nothing if the span has ended.
+    /// Ends the span. The moment is kept as given, even if it is before the start. Does nothing if
+    /// the span has ended.
     fn end_with_timestamp(&mut self, timestamp: u64)
         ensures effect { self.new ≡ after_end self.old timestamp }
         ensures stopped { is_recording self.new ≡ false }

@@ -11,8 +11,8 @@ use std::alloc::{AllocError, Global};
 /// whether the parent is remote and whether it is sampled (the Rust crate's
 /// `Sampler::ParentBased`, whose other four are fixed).
 ///
-/// The four are at first `AlwaysOn` for a sampled parent and `AlwaysOff` for one that isn't, so that
-/// a span is sampled if its parent is.
+/// By default the four are `AlwaysOn` for a sampled parent and `AlwaysOff` for any other, so that a
+/// span is sampled if its parent is.
 ///
 /// ```
 /// let sampler = ParentBased::new(Sampler::TraceIdRatioBased(0.5));
@@ -38,7 +38,7 @@ pub struct ParentBased<
 }
 
 impl<Root> ParentBased<Root> {
-    /// Returns a sampler that samples what has a sampled parent, and asks `root` for a root.
+    /// Returns a sampler that samples a span if its parent is sampled, and asks `root` for a root.
     pub fn new(root: Root) -> ParentBased<Root>
         ensures { result ≡ after_parent root }
     {
@@ -101,7 +101,7 @@ where
         (B.may_describe s.remote_parent_sampled) (C.may_describe s.remote_parent_not_sampled)
         (D.may_describe s.local_parent_sampled) (E.may_describe s.local_parent_not_sampled) };
 
-    /// Returns the answer of the sampler for such a parent.
+    /// Returns the answer of the sampler for this kind of parent.
     ///
     /// # Errors
     ///

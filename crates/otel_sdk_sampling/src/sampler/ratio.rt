@@ -1,4 +1,4 @@
-//! The bound of a ratio, below which the traces lie that it samples.
+//! The bound of a ratio: the ratio samples the traces below it.
 ghost use Rattle.std.specs.Prelude.{◌≡◌, ◌<◌, ◌*◌, ◌/◌, ◌^◌, IfOk, string_bytes, to_bits};
 ghost use Rattle.std.specs.Float.{binary64};
 ghost use Rattle.otel_sdk_sampling.specs.Ratio.{bound, IsNumberText};

@@ -10,15 +10,15 @@ use percent_encoding::percent_decode_str;
 use std::alloc::{AllocError, Global};
 use thiserror::Error;
 
-/// That a text of attributes has a faulty piece, so that none of its attributes is taken.
+/// The error for a text of attributes with a faulty piece: none of its attributes is taken.
 #[derive(Clone, Copy, Debug, PartialEq, Eq, Error)]
 #[error("the attributes of the resource have a fault in piece {piece}")]
 pub struct ResourceTextError {
-    /// The first faulty piece, all pieces between commas counted from 0.
+    /// The number of the first faulty piece between commas, counted from 0.
     pub piece: usize,
 }
 
-/// Returns whether two hexadecimal digits are first.
+/// Returns whether the text begins with two hexadecimal digits.
 fn begins_with_byte(text: &str) -> bool
     ensures { result ≡ spec.begins_with_byte text.now }
 {
@@ -100,8 +100,8 @@ pub fn read_attributes(
     Ok(Ok(attributes))
 }
 
-/// Sets the attribute `service.name` to the name without the blanks at its ends, unless nothing is
-/// left of it.
+/// Sets the attribute `service.name` to the name without the blanks at its ends, unless it is
+/// blank.
 ///
 /// # Errors
 ///
