@@ -26,7 +26,7 @@ TakesPair before pair after =
     ((value : Tree) × PrintsAs value pair.1 × (after ≡ before ++ (pair.0, value) ∷ []))
     ⊎ ((pair.1 ≡ codes "None") × (after ≡ before))
 
--- the attributes with one more, the last, if it has a value
+-- the attributes followed by this one, if it has a value
 abbrev pub with_value : List Attribute → List ℕ → Option Tree → List Attribute
 with_value attributes key None = attributes
 with_value attributes key (Some value) = attributes ++ (key, value) ∷ []
@@ -42,7 +42,7 @@ AddsValue output key value before after =
 abbrev pub has_key : List ℕ → List Attribute → Bool
 has_key key attributes = list_any (λ a. bytes_eq a.0 key) attributes
 
--- the attributes with one more, the last, if it has a value and its key isn't there
+-- the attributes followed by this one, if it has a value and its key isn't present
 abbrev pub with_absent : List Attribute → List ℕ → Option Tree → List Attribute
 with_absent attributes key None = attributes
 with_absent attributes key (Some value) =

@@ -4,8 +4,8 @@ ghost use Rattle.otel_drawing.specs.Name as spec;
 
 use std::alloc::{AllocError, Global};
 
-/// Returns the character as it is shown: `?` if it can steer a terminal or, in ASCII, if it is above
-/// U+007E.
+/// Returns the character as it is shown: `?` if it can steer a terminal or, in ASCII, if it is
+/// above U+007E.
 pub fn shown(is_ascii: bool, c: char) -> char
     ensures { result ≡ spec.shown is_ascii c }
 {

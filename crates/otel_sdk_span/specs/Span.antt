@@ -81,7 +81,7 @@ pub record SpanState : Type 0 where
   pub limits : SpanLimits
   pub has_ended : Bool
 
--- a span that starts with this data, as far as the limits let it
+-- a span that starts with this data, as far as the limits allow
 abbrev pub started : SpanLimits → SpanRecord → SpanState
 started limits d = record {
   context = d.span_context;

@@ -11,7 +11,7 @@ use opentelemetry::{KeyValue, StringValue};
 use std::alloc::{AllocError, Global};
 use std::marker::Model;
 
-// What a span keeps: what it records in, or else its span context and nothing more.
+// What a span keeps: the data that it records in, or only its span context.
 #[derive(Debug, Drop)]
 enum Kept {
     Recorded(SpanData),
