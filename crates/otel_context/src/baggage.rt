@@ -24,7 +24,7 @@ use self::header::write_header;
 pub use self::metadata::{BaggageMetadata, KeyValueMetadata};
 pub use self::weight::{MAX_KEY_VALUE_PAIRS, MAX_LEN_OF_ALL_PAIRS};
 use self::weight::{weight_after, weight_of};
-use crate::names::is_same;
+use crate::names::{Name, is_same};
 use indexmap::{IndexMap, map};
 use otel_base::{Key, KeyValue, StringValue};
 use std::alloc::{AllocError, Global};
@@ -289,12 +289,17 @@ impl Baggage {
     }
 }
 
-/// Returns the index of the key, if present. A key of another length or with another last byte is
-/// skipped at once.
+/// The greatest number of members that a look-up walks. It finds a key among more by its hash.
+const WALKED: usize = 4;
+
+/// Returns the index of the key, if present.
 fn index_of(held: &IndexMap<Key, (StringValue, BaggageMetadata)>, key: &str) -> Option<usize>
     ensures { result ≡ position (bytes_eq key.now) (keys_of held.now.entries) }
 {
-    held.keys().position(|name| is_same(key, name.as_str()))
+    if held.len() <= WALKED {
+        return held.keys().position(|name| is_same(key, name.as_str()));
+    }
+    held.get_index_of(Name { text: key })
 }
 
 impl fmt::Display for Baggage {
