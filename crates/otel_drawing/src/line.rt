@@ -1,4 +1,7 @@
 //! The lines of a picture.
+ghost use Rattle.std.specs.Prelude.{◌≡◌, ◌++◌, OnOk, chars, replicate};
+ghost use Rattle.otel_drawing.specs.Line as spec;
+
 use crate::bar::Scale;
 use crate::columns::Style;
 use crate::duration::duration_text;
@@ -11,7 +14,9 @@ use std::alloc::{AllocError, Global};
 const DURATION_WIDTH: usize = 9;
 
 /// Appends `count` spaces.
-fn push_spaces(line: &mut Vec<char>, count: usize) -> Result<(), AllocError> {
+fn push_spaces(line: &mut Vec<char>, count: usize) -> Result<(), AllocError>
+    ensures { OnOk result (line.new.items ≡ line.old.items ++ replicate count 32) }
+{
     for _ in 0..count {
         line.push(' ')?;
     }
@@ -19,7 +24,9 @@ fn push_spaces(line: &mut Vec<char>, count: usize) -> Result<(), AllocError> {
 }
 
 /// Appends the characters of a text.
-fn push_text(line: &mut Vec<char>, text: &str) -> Result<(), AllocError> {
+fn push_text(line: &mut Vec<char>, text: &str) -> Result<(), AllocError>
+    ensures { OnOk result (line.new.items ≡ line.old.items ++ chars text.now) }
+{
     for c in text.chars() {
         line.push(c)?;
     }
@@ -36,13 +43,15 @@ fn push_name(
     push_prefix(line, style.is_ascii, style.group_limit(), follows)?;
     let columns = style.name_width().saturating_sub(line.len()).max(1);
     let mut name = name.clone()?;
-    fit(style.is_ascii, columns, &mut name)?;
+    fit(style.is_ascii, columns, &mut name);
     line.extend_from_slice(name.as_slice())?;
     push_spaces(line, columns.saturating_sub(name.len()))
 }
 
 /// Returns the text of a status.
-fn outcome_text(outcome: Outcome) -> &'static str {
+fn outcome_text(outcome: Outcome) -> &'static str
+    ensures { result.now ≡ spec.outcome_text outcome }
+{
     match outcome {
         Outcome::Unset => "",
         Outcome::Ok => "ok",
@@ -103,6 +112,6 @@ pub(crate) fn absent_line(
         format!(in alloc; "[missing {id}]")?
     };
     let mut line = shown_name(alloc, style.is_ascii, text.as_str())?;
-    fit(style.is_ascii, style.name_width(), &mut line)?;
+    fit(style.is_ascii, style.name_width(), &mut line);
     Ok(line)
 }

@@ -1,5 +1,5 @@
 //! What a name becomes on a terminal.
-ghost use Rattle.std.specs.Prelude.{◌≡◌, ◌<◌, IfOk, OnOk};
+ghost use Rattle.std.specs.Prelude.{◌≡◌, ◌<◌, IfOk};
 ghost use Rattle.otel_drawing.specs.Name as spec;
 
 use std::alloc::{AllocError, Global};
@@ -31,18 +31,13 @@ pub fn shown_name(alloc: Global, is_ascii: bool, name: &str) -> Result<Vec<char>
     Ok(chars)
 }
 
-/// Cuts a name to `columns` columns. If it was longer, the last one holds `…` or `~`.
-///
-/// # Errors
-///
-/// Returns an error if memory runs out.
-pub(crate) fn fit(is_ascii: bool, columns: usize, name: &mut Vec<char>) -> Result<(), AllocError>
+/// Cuts a name to `columns` columns, without allocating. If it was longer, the last one holds `…` or `~`.
+pub(crate) fn fit(is_ascii: bool, columns: usize, name: &mut Vec<char>)
     requires { 0 < columns }
-    ensures { OnOk result (name.new.items ≡ spec.fitted is_ascii columns name.old.items) }
+    ensures { name.new.items ≡ spec.fitted is_ascii columns name.old.items }
 {
     if name.len() > columns {
-        name.truncate(columns - 1);
-        name.push(if is_ascii { '~' } else { '…' })?;
+        name[columns - 1] = if is_ascii { '~' } else { '…' };
+        name.truncate(columns);
     }
-    Ok(())
 }

@@ -3,3 +3,4 @@ pub mod Lists
 pub mod PieceTurns
 mod SetInTurn
 mod SpanContexts
+mod Walks

@@ -3,6 +3,7 @@
 #![tactic(auto)]
 
 mod attributes;
+mod batches;
 mod cutting;
 mod data;
 pub mod error;
@@ -11,6 +12,7 @@ mod limits;
 pub mod resource;
 mod span;
 
+pub use batches::{Accepted, Batch};
 pub use data::{SpanData, SpanEvents, SpanLinks};
 pub use export::SpanExporter;
 pub use limits::SpanLimits;

@@ -1,4 +1,7 @@
+pub mod Found
+pub mod Ids
 pub mod Members
+pub mod OneSpan
 pub mod Scopes
-mod Walks
+pub mod Takes
 pub mod Writing

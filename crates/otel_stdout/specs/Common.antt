@@ -10,7 +10,7 @@ use Rattle.otel_base.specs.KeyValue.{Attribute}
 use Rattle.otel_base.specs.InstrumentationScope.{Scope}
 use Rattle.otel_sdk_span.specs.Attributes as attributes
 use Rattle.otel_sdk_span.specs.Resource.{Parts}
-use Rattle.serde_json.specs.Data.{Data, boolean, string}
+use Rattle.serde_json.specs.Data.{Data, boolean}
 use Rattle.serde_json.specs.Written.{compact_text}
 use Rattle.serde_json.proofs.OnLiterals.{serde_json_on_literals}
 use Rattle.otel_stdout.specs.Json.{Member, object_of, text_member, object_member, list_member}

@@ -1,6 +1,6 @@
 -- The messages of traces [opentelemetry/proto/trace/v1/trace.proto].
 use Rattle.std.specs.Prelude.{◌≡◌, ℕ, ◌+◌, ◌==◌, List, [], ◌∷◌, ◌++◌, map, Bool, true, false, codes}
-use Rattle.std.specs.Prelude.{if◌then◌else◌, Some, None, refl, filter}
+use Rattle.std.specs.Prelude.{if◌then◌else◌, refl, filter}
 use Rattle.std.specs.List.{list_any}
 use Rattle.otel_base.specs.InstrumentationScope as scope
 use Rattle.otel_base.specs.InstrumentationScope.{Scope}
@@ -15,7 +15,7 @@ use Rattle.otel_sdk_span.specs.SpanData.{SpanRecord}
 use Rattle.otel_sdk_span.specs.Resource.{Parts}
 use Rattle.serde_json.specs.Data.{Data}
 use Rattle.otel_stdout.specs.Json.{Member, object_of, text_member, number_member, decimal_member}
-use Rattle.otel_stdout.specs.Json.{object_member, list_member, text_unless_empty, text_if_given}
+use Rattle.otel_stdout.specs.Json.{list_member, text_unless_empty, text_if_given}
 use Rattle.otel_stdout.specs.Json.{number_unless_zero, list_unless_empty}
 use Rattle.otel_stdout.specs.Json.{trace_id_text, span_id_text}
 use Rattle.otel_stdout.specs.Common.{attributes_member, instrumentation_scope, resource}

@@ -1,14 +1,20 @@
 //! An exporter that writes a line of JSON for each batch.
-ghost use Rattle.std.specs.Prelude.{◌≡◌, [], ◌∷◌, ◌++◌, OnOk, OnErr, IsErrOf, IsTrue};
+ghost use Rattle.std.specs.Prelude.{◌≡◌, ◌<◌, ℕ, List, [], ◌∷◌, ◌++◌, true, false, length};
+ghost use Rattle.std.specs.Prelude.{IsTrue, IsOk, IfOk, OnOk, OnErr, IsErrOf, alloc_error};
+ghost use Rattle.std.specs.Rc.{rc_value};
+ghost use Rattle.otel_sdk_span.specs.Resource as resource;
+ghost use Rattle.otel_stdout.specs.Exporter.{Takes, IsLineOf, IsTorn, IsTornLineOf};
+ghost use Rattle.otel_stdout.specs.Json.{IsTextOf};
+ghost use Rattle.otel_stdout.specs.Traces.{traces_data};
 
-use crate::accepted::{Accepted, Batch};
 use crate::traces::traces_text;
 use crate::written::write_bytes;
 use otel_sdk_span::error::{OTelSdkError, OTelSdkResult};
 use otel_sdk_span::resource::Resource;
-use otel_sdk_span::{SpanData, SpanExporter};
+use otel_sdk_span::{Accepted, Batch, SpanData, SpanExporter};
 use std::alloc::{AllocError, Global};
 use std::io::Write;
+use std::marker::Model;
 use std::rc::Rc;
 
 /// Writes each batch as a line of JSON, in the form of the OpenTelemetry protocol's file exporter.
@@ -17,6 +23,9 @@ use std::rc::Rc;
 /// accepted exactly if the writer took every byte of its object. If it took some bytes of a line
 /// and not the `\n`, the exporter owes that one, and pays it before the next line, at a flush and
 /// at a shutdown, so a torn line stands alone, and no span is there twice.
+///
+/// Contracts see the batches that it has accepted, the writer, the resource of the spans to come,
+/// whether it owes the end of a line, and whether it was shut down.
 #[derive(Drop)]
 pub struct OtlpJsonSpanExporter<W> {
     writer: W,
@@ -25,6 +34,21 @@ pub struct OtlpJsonSpanExporter<W> {
     owes_line_end: bool,
     is_shut_down: bool,
     accepted: Accepted,
+}
+
+impl<W> Model for OtlpJsonSpanExporter<W> {
+    ghost use Rattle.std.specs.Rc.{rc_value};
+    ghost use Rattle.otel_stdout.specs.Exporter.{SpanLines};
+
+    ghost Value = { SpanLines W };
+
+    ghost view = { λ e. record {
+      accepted = e.accepted.batches;
+      writer = e.writer;
+      resource = rc_value e.resource;
+      owes_line_end = e.owes_line_end;
+      is_shut_down = e.is_shut_down;
+    } };
 }
 
 impl<W: Write> OtlpJsonSpanExporter<W> {
@@ -36,6 +60,13 @@ impl<W: Write> OtlpJsonSpanExporter<W> {
     pub fn new(alloc: Global, writer: W) -> Result<OtlpJsonSpanExporter<W>, AllocError>
     where
         W: Drop,
+        ensures { IfOk result (λ exporter. exporter ≡ record {
+          accepted = [];
+          writer = writer;
+          resource = resource.empty;
+          owes_line_end = false;
+          is_shut_down = false;
+        }) }
     {
         let resource = Resource::builder_empty(alloc).build();
         Ok(OtlpJsonSpanExporter {
@@ -57,7 +88,13 @@ impl<W: Write> OtlpJsonSpanExporter<W> {
 
     // Pays the line end that is owed, and returns whether none is owed any more.
     fn pay(&mut self) -> bool
-        ensures { self.new.accepted ≡ self.old.accepted }
+        ensures rest { self.new ≡ record self.old {
+          writer = self.new.writer;
+          owes_line_end = self.new.owes_line_end;
+        } }
+        ensures paid { IsTrue result → self.new.owes_line_end ≡ false }
+        ensures takes { Takes (W.contents self.old.writer) (W.contents self.new.writer)
+            self.old.owes_line_end self.new.owes_line_end [] }
     {
         if self.owes_line_end && write_bytes(&mut self.writer, b"\n") == 1 {
             self.owes_line_end = false;
@@ -65,48 +102,119 @@ impl<W: Write> OtlpJsonSpanExporter<W> {
         !self.owes_line_end
     }
 
-    // Writes the object, and returns whether the writer took all of it.
+    // Writes the text, and returns whether the writer took all of it. Owes the line end from its
+    // first byte on.
     fn write_object(&mut self, text: &str) -> bool
-        ensures { self.new.accepted ≡ self.old.accepted }
+        requires { self.old.owes_line_end ≡ false }
+        ensures rest { self.new ≡ record self.old {
+          writer = self.new.writer;
+          owes_line_end = self.new.owes_line_end;
+        } }
+        ensures whole { IsTrue result → Takes (W.contents self.old.writer)
+            (W.contents self.new.writer) false self.new.owes_line_end (text.now ++ 10 ∷ []) }
+        ensures torn { result ≡ false → (torn : List ℕ) × IsTorn text.now torn
+            × Takes (W.contents self.old.writer) (W.contents self.new.writer) false
+            self.new.owes_line_end torn }
     {
         let count = write_bytes(&mut self.writer, text.as_bytes());
         self.owes_line_end = count > 0;
-        count == text.len()
+        self.owes_line_end && count == text.len()
     }
-}
 
-// The failure of a writer.
-fn refused(alloc: Global) -> OTelSdkError {
-    match String::from_str(alloc, "the writer didn't take the line") {
-        Ok(text) => OTelSdkError::InternalFailure(text),
-        Err(error) => OTelSdkError::Memory(error),
+    // Writes the line of the batch, which has at least one span.
+    fn write_line(&mut self, batch: &[SpanData]) -> OTelSdkResult
+        ensures rest { self.new ≡ record self.old {
+          writer = self.new.writer;
+          owes_line_end = self.new.owes_line_end;
+        } }
+        ensures ok { OnOk result ((text : List ℕ)
+            × IsTextOf text (traces_data self.old.resource batch.now)
+            × Takes (W.contents self.old.writer) (W.contents self.new.writer)
+            self.old.owes_line_end self.new.owes_line_end (text ++ 10 ∷ [])) }
+        ensures err { OnErr result ((torn : List ℕ)
+            × IsTornLineOf self.old.resource batch.now torn
+            × Takes (W.contents self.old.writer) (W.contents self.new.writer)
+            self.old.owes_line_end self.new.owes_line_end torn) }
+        ensures memory { IsErrOf result (OTelSdkError.Memory alloc_error)
+            → self.new ≡ self.old }
+        ensures open { IsErrOf result OTelSdkError.AlreadyShutdown → ⊥ }
+    {
+        let text = traces_text(self.alloc, &self.resource, batch)?;
+        let message = String::from_str(self.alloc, "the writer didn't take the line")?;
+        if !self.pay() || !self.write_object(text.as_str()) {
+            return Err(OTelSdkError::InternalFailure(message));
+        }
+        self.pay();
+        Ok(())
+    }
+
+    // Pays the line end that is owed, and flushes the writer.
+    fn settle(&mut self) -> OTelSdkResult
+        ensures rest { self.new ≡ record self.old {
+          writer = self.new.writer;
+          owes_line_end = self.new.owes_line_end;
+        } }
+        ensures paid { OnOk result (self.new.owes_line_end ≡ false) }
+        ensures takes { Takes (W.contents self.old.writer) (W.contents self.new.writer)
+            self.old.owes_line_end self.new.owes_line_end [] }
+        ensures open { IsErrOf result OTelSdkError.AlreadyShutdown → ⊥ }
+    {
+        if self.pay() && self.writer.flush().is_ok() {
+            return Ok(());
+        }
+        let message = String::from_str(self.alloc, "the writer failed")?;
+        Err(OTelSdkError::InternalFailure(message))
     }
 }
 
 impl<W: Write + Drop> SpanExporter for OtlpJsonSpanExporter<W> {
     ghost use Rattle.std.specs.Prelude.{◌≡◌, true};
 
-    ghost accepted = { λ e. e.accepted.batches };
+    ghost accepted = { λ e. e.accepted };
 
-    ghost shuts_down = { λ old new. new.accepted ≡ old.accepted };
+    ghost shuts_down = { λ old left. left ≡ record old {
+      writer = left.writer;
+      owes_line_end = left.owes_line_end;
+      is_shut_down = true;
+    } };
 
     /// Writes a line. An empty batch writes nothing.
     ///
     /// # Errors
     ///
-    /// `AlreadyShutdown` after [`SpanExporter::shutdown`]; `Memory` if out of memory;
-    /// `InternalFailure` if the writer didn't take the line end that is owed, or every byte of the
-    /// object. What it took stays there as a torn line.
-    fn export(&mut self, batch: &[SpanData]) -> OTelSdkResult {
+    /// `AlreadyShutdown` after [`SpanExporter::shutdown`]; `Memory` if out of memory: nothing is
+    /// written then. `InternalFailure` if the writer didn't take the line end that is owed, or every
+    /// byte of the object. What it took stays there as a torn line.
+    fn export(&mut self, batch: &[SpanData]) -> OTelSdkResult
+        ensures ok { OnOk result (self.new.accepted ≡ self.old.accepted ++ batch.now ∷ []) }
+        ensures err { OnErr result (self.new.accepted ≡ self.old.accepted) }
+        ensures closed { IsTrue self.old.is_shut_down
+            → IsErrOf result OTelSdkError.AlreadyShutdown }
+        ensures open { IsErrOf result OTelSdkError.AlreadyShutdown
+            → IsTrue self.old.is_shut_down }
+        ensures unchanged { IsTrue self.old.is_shut_down → self.new ≡ self.old }
+        ensures memory { IsErrOf result (OTelSdkError.Memory alloc_error)
+            → self.new ≡ self.old }
+        ensures empty { self.old.is_shut_down ≡ false → batch.now ≡ [] → IsOk result }
+        ensures line { OnOk result ((line : List ℕ)
+            × IsLineOf self.old.resource batch.now line
+            × Takes (W.contents self.old.writer) (W.contents self.new.writer)
+            self.old.owes_line_end self.new.owes_line_end line) }
+        ensures torn { OnErr result ((torn : List ℕ)
+            × IsTornLineOf self.old.resource batch.now torn
+            × Takes (W.contents self.old.writer) (W.contents self.new.writer)
+            self.old.owes_line_end self.new.owes_line_end torn) }
+        ensures rest { self.new ≡ record self.old {
+          accepted = self.new.accepted;
+          writer = self.new.writer;
+          owes_line_end = self.new.owes_line_end;
+        } }
+    {
         if self.is_shut_down {
             return Err(OTelSdkError::AlreadyShutdown);
         }
         if !batch.is_empty() {
-            let text = traces_text(self.alloc, &self.resource, batch)?;
-            if !self.pay() || !self.write_object(text.as_str()) {
-                return Err(refused(self.alloc));
-            }
-            self.pay();
+            self.write_line(batch)?;
         }
         self.accepted = self.accepted.and(&Batch { spans: batch });
         Ok(())
@@ -116,35 +224,61 @@ impl<W: Write + Drop> SpanExporter for OtlpJsonSpanExporter<W> {
     ///
     /// # Errors
     ///
-    /// `AlreadyShutdown` after [`SpanExporter::shutdown`]; `InternalFailure` if the writer failed.
-    fn force_flush(&mut self) -> OTelSdkResult {
+    /// `AlreadyShutdown` after [`SpanExporter::shutdown`]; `InternalFailure` if the writer failed;
+    /// `Memory` if it failed and memory ran out too.
+    fn force_flush(&mut self) -> OTelSdkResult
+        ensures same { self.new.accepted ≡ self.old.accepted }
+        ensures closed { IsTrue self.old.is_shut_down
+            → IsErrOf result OTelSdkError.AlreadyShutdown }
+        ensures open { IsErrOf result OTelSdkError.AlreadyShutdown
+            → IsTrue self.old.is_shut_down }
+        ensures unchanged { IsTrue self.old.is_shut_down → self.new ≡ self.old }
+        ensures paid { OnOk result (self.new.owes_line_end ≡ false) }
+        ensures takes { Takes (W.contents self.old.writer) (W.contents self.new.writer)
+            self.old.owes_line_end self.new.owes_line_end [] }
+        ensures rest { self.new ≡ record self.old {
+          writer = self.new.writer;
+          owes_line_end = self.new.owes_line_end;
+        } }
+    {
         if self.is_shut_down {
             return Err(OTelSdkError::AlreadyShutdown);
         }
-        if !self.pay() || self.writer.flush().is_err() {
-            return Err(refused(self.alloc));
-        }
-        Ok(())
+        self.settle()
     }
 
     /// Pays the line end that is owed, flushes the writer, and refuses every later call.
     ///
     /// # Errors
     ///
-    /// `AlreadyShutdown` at a second call; `InternalFailure` if the writer failed.
-    fn shutdown(&mut self) -> OTelSdkResult {
+    /// `AlreadyShutdown` at a second call; `InternalFailure` if the writer failed; `Memory` if it
+    /// failed and memory ran out too.
+    fn shutdown(&mut self) -> OTelSdkResult
+        ensures down { self.new ≡ record self.old {
+          writer = self.new.writer;
+          owes_line_end = self.new.owes_line_end;
+          is_shut_down = true;
+        } }
+        ensures closed { IsTrue self.old.is_shut_down
+            → IsErrOf result OTelSdkError.AlreadyShutdown }
+        ensures open { IsErrOf result OTelSdkError.AlreadyShutdown
+            → IsTrue self.old.is_shut_down }
+        ensures unchanged { IsTrue self.old.is_shut_down → self.new ≡ self.old }
+        ensures paid { OnOk result (self.new.owes_line_end ≡ false) }
+        ensures takes { Takes (W.contents self.old.writer) (W.contents self.new.writer)
+            self.old.owes_line_end self.new.owes_line_end [] }
+    {
         if self.is_shut_down {
             return Err(OTelSdkError::AlreadyShutdown);
         }
         self.is_shut_down = true;
-        if !self.pay() || self.writer.flush().is_err() {
-            return Err(refused(self.alloc));
-        }
-        Ok(())
+        self.settle()
     }
 
     /// Writes this resource with the batches to come.
-    fn set_resource(&mut self, resource: Rc<Resource>) {
+    fn set_resource(&mut self, resource: Rc<Resource>)
+        ensures { self.new ≡ record self.old { resource = rc_value resource } }
+    {
         self.resource = resource;
     }
 }

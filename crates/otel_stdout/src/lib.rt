@@ -1,9 +1,9 @@
 //! Telemetry as JSON, in the form of the OpenTelemetry protocol (OTLP).
 #![tactic(auto)]
 
-mod accepted;
 mod common;
 mod exporter;
+pub mod laws;
 mod object;
 mod traces;
 mod written;

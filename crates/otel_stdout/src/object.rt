@@ -151,6 +151,6 @@ pub(crate) fn put_span_id(
 ) -> Result<(), AllocError>
     ensures { Adds result members.old members.new (text_member name.now (span_id_text id)) }
 {
-    let digits = hex::encode(alloc, id.to_bytes())?;
-    put_text(members, alloc, name, digits.as_str())
+    let text = hex::encode(alloc, id.to_bytes())?;
+    put_text(members, alloc, name, text.as_str())
 }

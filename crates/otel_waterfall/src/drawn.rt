@@ -1,5 +1,6 @@
 //! Spans as they are drawn.
-ghost use Rattle.std.specs.Prelude.{◌≡◌, length, vec_len, IfOk};
+ghost use Rattle.std.specs.Prelude.{◌≡◌, map, IfOk};
+ghost use Rattle.otel_waterfall.specs.Drawn as spec;
 
 use opentelemetry::trace::{Event, Status};
 use otel_drawing::{Outcome, Span, shown_name};
@@ -7,17 +8,43 @@ use otel_sdk_span::SpanData;
 use std::alloc::{AllocError, Global};
 
 /// Returns the moments of events.
-fn moments_of(alloc: Global, events: &[Event]) -> Result<Vec<u64>, AllocError> {
-    events.iter().map(|event| event.timestamp).collect(alloc)
+fn moments_of(alloc: Global, events: &[Event]) -> Result<Vec<u64>, AllocError>
+    ensures { IfOk result (λ moments. moments.items ≡ map (λ e. e.timestamp) events.now) }
+{
+    let mut moments = Vec::with_capacity(alloc, events.len())?;
+    for event in events {
+        moments.push(event.timestamp)?;
+    }
+    Ok(moments)
 }
 
 /// Returns what the row of a span says of its status.
-fn outcome_of(status: &Status) -> Outcome {
+fn outcome_of(status: &Status) -> Outcome
+    ensures { result ≡ spec.outcome_of status.now }
+{
     match status {
         Status::Unset => Outcome::Unset,
         Status::Error { .. } => Outcome::Error,
         Status::Ok => Outcome::Ok,
     }
+}
+
+/// Returns a span as it is drawn.
+#[tactic(auto, using(crate::proofs::Moments::moments_are))]
+fn drawn_span(alloc: Global, is_ascii: bool, span: &SpanData) -> Result<Span, AllocError>
+    ensures { IfOk result (λ drawn. spec.look drawn ≡ spec.look_of is_ascii span.now) }
+{
+    Ok(Span {
+        trace_id: span.span_context.trace_id(),
+        span_id: span.span_context.span_id(),
+        parent_span_id: span.parent_span_id,
+        is_parent_remote: span.parent_span_is_remote,
+        name: shown_name(alloc, is_ascii, span.name.as_str())?,
+        start: span.start_time,
+        end: span.end_time,
+        moments: moments_of(alloc, span.events.events.as_slice())?,
+        outcome: outcome_of(&span.status),
+    })
 }
 
 /// Returns the spans of a batch as they are drawn.
@@ -30,21 +57,12 @@ pub(crate) fn drawn(
     is_ascii: bool,
     batch: &[SpanData],
 ) -> Result<Vec<Span>, AllocError>
-    ensures { IfOk result (λ spans. vec_len spans ≡ length batch.now) }
+    ensures { IfOk result (λ spans.
+        map spec.look spans.items ≡ map (spec.look_of is_ascii) batch.now) }
 {
     let mut spans = Vec::new(alloc);
     for span in batch {
-        spans.push(Span {
-            trace_id: span.span_context.trace_id(),
-            span_id: span.span_context.span_id(),
-            parent_span_id: span.parent_span_id,
-            is_parent_remote: span.parent_span_is_remote,
-            name: shown_name(alloc, is_ascii, span.name.as_str())?,
-            start: span.start_time,
-            end: span.end_time,
-            moments: moments_of(alloc, span.events.events.as_slice())?,
-            outcome: outcome_of(&span.status),
-        })?;
+        spans.push(drawn_span(alloc, is_ascii, span)?)?;
     }
     Ok(spans)
 }

@@ -4,11 +4,10 @@ ghost use Rattle.std.specs.Prelude.{◌∷◌, ◌++◌, length};
 ghost use Rattle.std.specs.Io.KnownBytes.{Appends};
 ghost use Rattle.otel_drawing.specs.Columns.{picture_width};
 
-use crate::accepted::{Accepted, Batch};
 use crate::drawn::drawn;
 use otel_drawing::{Style, picture};
 use otel_sdk_span::error::{OTelSdkError, OTelSdkResult};
-use otel_sdk_span::{SpanData, SpanExporter};
+use otel_sdk_span::{Accepted, Batch, SpanData, SpanExporter};
 use std::alloc::Global;
 use std::io::{ErrorKind, Write};
 use std::marker::Model;

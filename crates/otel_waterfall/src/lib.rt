@@ -2,7 +2,6 @@
 //! durations and bars beside it. Not in the Rust crates.
 #![tactic(auto)]
 
-mod accepted;
 mod drawn;
 mod exporter;
 

@@ -4,5 +4,6 @@
 #![tactic(auto)]
 
 mod batches;
+mod failures;
 mod files;
 mod lines;

@@ -9,10 +9,14 @@ use otel_sdk_span::resource::Resource;
 use otel_sdk_span::{SpanData, SpanEvents, SpanExporter, SpanLinks};
 use otel_stdout::OtlpJsonSpanExporter;
 use std::alloc::{AllocError, Global};
-use std::io::{self, ErrorKind};
+use std::io::{self, ErrorKind, Write};
 use std::rc::Rc;
 
-const BATCHES: u64 = 200;
+// The batches of up to three spans.
+const BATCHES: u64 = 1000;
+
+// The spans of the batch after them.
+const MANY: u64 = 10_000;
 
 const TEXTS: [&'static str; 8] = [
     "",
@@ -200,20 +204,35 @@ impl Draws {
     }
 }
 
+// Exports a batch of so many spans under a resource of its own.
+fn export<W: Write + Drop>(
+    alloc: Global,
+    draws: &mut Draws,
+    exporter: &mut OtlpJsonSpanExporter<W>,
+    count: u64,
+) -> io::Result<()> {
+    let key = Key::from(draws.text());
+    let resource = Resource::builder_empty(alloc)
+        .with_attribute(KeyValue::new(key, draws.value(alloc)?))?
+        .build();
+    exporter.set_resource(Rc::new(alloc, resource)?);
+    let mut batch = Vec::new(alloc);
+    for _ in 0..count {
+        batch.push(draws.span(alloc)?)?;
+    }
+    match exporter.export(batch.as_slice()) {
+        Ok(()) => Ok(()),
+        Err(_) => Err(io::Error::from(ErrorKind::WriteZero)),
+    }
+}
+
 fn main(rt: HostRuntime) -> io::Result<()> {
     let alloc = rt.alloc();
     let mut draws = Draws { state: 1 };
     let mut exporter = OtlpJsonSpanExporter::new(alloc, rt.stdout())?;
     for _ in 0..BATCHES {
-        let key = Key::from(draws.text());
-        let resource = Resource::builder_empty(alloc)
-            .with_attribute(KeyValue::new(key, draws.value(alloc)?))?
-            .build();
-        exporter.set_resource(Rc::new(alloc, resource)?);
-        let batch = [draws.span(alloc)?, draws.span(alloc)?];
-        if exporter.export(&batch).is_err() {
-            return Err(io::Error::from(ErrorKind::WriteZero));
-        }
+        let count = draws.below(3) + 1;
+        export(alloc, &mut draws, &mut exporter, count)?;
     }
-    Ok(())
+    export(alloc, &mut draws, &mut exporter, MANY)
 }

@@ -1,6 +1,8 @@
--- As many spans as were gone over.
-use Rattle.std.proofs.Common.{◌≡◌, vec_len}
+-- The spans so far are drawn.
+use Rattle.std.proofs.Common.{◌≡◌, map, take}
+use Rattle.otel_waterfall.specs.Drawn as spec
 use Rattle.otel_waterfall.proofs.drawn.drawn.Given as goal
 
 abbrev pub invariant-loop-span : goal.invariant-loop-span
-invariant-loop-span l = vec_len l.spans ≡ l.span-index
+invariant-loop-span l =
+    map spec.look l.spans.items ≡ map (spec.look_of l.is_ascii) (take l.span-index l.batch)

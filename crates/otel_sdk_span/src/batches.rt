@@ -3,12 +3,13 @@ ghost use Rattle.std.specs.Prelude.{◌≡◌, [], ◌∷◌, ◌++◌, List};
 ghost use Rattle.std.specs.Borrow.{ftrue};
 ghost use Rattle.otel_sdk_span.specs.SpanData.{SpanRecord};
 
-use otel_sdk_span::SpanData;
+use crate::data::SpanData;
 use std::marker::Model;
 use std::mem::size_of;
 
-/// Some batches of spans, of size zero. Only `and` makes a longer list.
-#[derive(Drop)]
+/// The batches that an exporter has accepted. It is of size zero: they exist only in contracts. Only
+/// [`Accepted::and`] makes a longer list. Not in the Rust crates.
+#[derive(Debug, Drop)]
 pub struct Accepted {
     ghost batches: { List (List SpanRecord) },
 }
@@ -19,9 +20,10 @@ impl Model for Accepted {
     ghost also_owns = { λ _. ftrue };
 }
 
-/// A batch of spans.
+/// A batch of spans that is accepted. Not in the Rust crates.
 #[derive(Clone, Copy, Drop)]
 pub struct Batch<'a> {
+    /// The spans in order.
     pub spans: &'a [SpanData],
 }
 
