@@ -4,7 +4,7 @@
 #   make run INPUT=F                on the file F; INPUT=- is standard input
 #   make try                        the same in seconds and unproved
 #   make example                    a service at work: the headers that it sends on for those of examples/service and for none,
-#                                   a picture of its traces, and its spans as lines of JSON
+#                                   a picture of its traces, its log lines, and its spans as lines of JSON
 #   make example-c                  a C program over the static library of crates/otel_c
 #   make test                       every proof, wrong body, test, vector, misuse case and run out of memory
 #

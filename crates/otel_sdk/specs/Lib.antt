@@ -1,4 +1,3 @@
-pub mod Clock
 pub mod Ended
 pub mod Export
 pub mod LiveState

@@ -4,4 +4,5 @@
 
 pub mod trace;
 
+pub use otel_sdk_logs as logs;
 pub use otel_sdk_span::{error, resource};

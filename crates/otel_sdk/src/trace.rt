@@ -1,7 +1,6 @@
 //! Providers, tracers, spans and what they record, exporters and processors, samplers, generators
 //! of ids, and clocks.
 mod change;
-mod clock;
 mod in_memory_exporter;
 mod live;
 mod processor;
@@ -11,14 +10,16 @@ mod start;
 mod tracer;
 
 pub use change::SpanChange;
-pub use clock::{Clock, ManualClock, SystemClock};
 pub use in_memory_exporter::InMemorySpanExporter;
 pub use live::LiveSpans;
 pub use otel_sdk_sampling::{
     CountedIdGenerator, IdError, IdGenerator, ParentBased, RandomIdGenerator, Sampler,
     SamplingDecision, SamplingResult, ShouldSample, laws,
 };
-pub use otel_sdk_span::{SdkSpan, SpanData, SpanEvents, SpanExporter, SpanLimits, SpanLinks};
+pub use otel_sdk_span::{
+    Clock, ManualClock, SdkSpan, SpanData, SpanEvents, SpanExporter, SpanLimits, SpanLinks,
+    SystemClock,
+};
 pub use processor::batch::BatchSpanProcessor;
 pub use processor::config::{BatchConfig, BatchConfigBuilder};
 pub use processor::simple::SimpleSpanProcessor;

@@ -1,14 +1,16 @@
 -- Batches of a queue, one after another.
 use Rattle.std.proofs.Common.{◌≡◌, ℕ, zero, suc, ◌+◌, ◌-◌, ◌*◌, ◌<◌, ◌≤◌, min, inl, inr}
-use Rattle.std.proofs.Common.{List, [], ◌∷◌, ◌++◌, length, take, drop}
+use Rattle.std.proofs.Common.{List, [], ◌∷◌, ◌++◌, length, take, drop, map, get_or}
 use Rattle.std.proofs.Common.{sym, ap, subst, ◌∙◌, arith, append_assoc}
 use Rattle.std.proofs.Math.Nat.{suc-mul, le_of_lt, le_of_eq, min-eq_left, min-eq_right}
 use Rattle.std.proofs.Math.ListN.{drop_of_length-le}
 use Rattle.std.proofs.lemmas.Bool.{cases_lt}
-use Rattle.std.proofs.lemmas.List.{drop-drop, length-drop, take-append-drop, take_min}
+use Rattle.std.proofs.lemmas.List.{drop-drop, length-drop, take-append-drop, take_min, take-map}
+use Rattle.std.proofs.lemmas.List.Folds.{flat_map-map}
+use Rattle.opentelemetry.proofs.Setting.{flat_map-take_more}
 use Rattle.std.proofs.lemmas.Grind.{flat_map-append}
 use Rattle.std.specs.List.{flat_map}
-use Rattle.otel_sdk_logs.specs.declared.export.LogData.{LogData}
+use Rattle.otel_sdk_logs.specs.LogRecord.{LogEntry}
 use Rattle.otel_sdk_logs.specs.Export.{batches, records_of, AreExported}
 use Rattle.otel_sdk_logs.specs.Processor.{ProcessorState, IsFlushed, taken_of}
 
@@ -46,9 +48,9 @@ drop_min {X} n xs = elim (cases_lt n (length xs)) [
   | inr high ↦ drop_of_length-le xs (le_of_eq (sym (min-eq_right high))) ∙ sym (drop_of_length-le xs high)
 ]
 
-module _ (size : ℕ) (queue : List LogData) (old : List (List LogData)) where
+module _ (size : ℕ) (queue : List LogEntry) (old : List (List LogEntry)) where
   -- one more batch is exported
-  pub goes_on : (new after : List (List LogData)) (left batch rest : List LogData) (n : ℕ)
+  pub goes_on : (new after : List (List LogEntry)) (left batch rest : List LogEntry) (n : ℕ)
       → AreExported size queue old new left → 0 < length left → after ≡ new ++ batch ∷ []
       → n ≡ min size (length left) → batch ≡ take n left → rest ≡ drop n left
       → AreExported size queue old after rest
@@ -63,11 +65,11 @@ module _ (size : ℕ) (queue : List LogData) (old : List (List LogData)) where
           | inr high ↦ let same : e.count ≡ k = omega arith in
               subst (λ (n : ℕ). n * size < length queue) same (omega arith)
         ];
-        accepted = a ∙ ap (λ (ys : List LogData). new ++ ys ∷ []) (b ∙ ap (λ (k : ℕ). take k left) m ∙ take_min size left)
-            ∙ ap (λ (bs : List (List LogData)). bs ++ take size left ∷ []) e.accepted
+        accepted = a ∙ ap (λ (ys : List LogEntry). new ++ ys ∷ []) (b ∙ ap (λ (k : ℕ). take k left) m ∙ take_min size left)
+            ∙ ap (λ (bs : List (List LogEntry)). bs ++ take size left ∷ []) e.accepted
             ∙ append_assoc old (batches size e.count queue) (take size left ∷ [])
-            ∙ ap (λ (ys : List LogData). old ++ (batches size e.count queue ++ take size ys ∷ [])) e.rest
-            ∙ ap (λ (bs : List (List LogData)). old ++ bs) (sym (last_batch size e.count queue));
+            ∙ ap (λ (ys : List LogEntry). old ++ (batches size e.count queue ++ take size ys ∷ [])) e.rest
+            ∙ ap (λ (bs : List (List LogEntry)). old ++ bs) (sym (last_batch size e.count queue));
         rest = r ∙ ap (λ (k : ℕ). drop k left) m ∙ drop_min size left ∙ ap (drop size) e.rest ∙ drop-drop size (e.count * size) queue
             ∙ ap (λ (n : ℕ). drop n queue) (sym count);
       }
@@ -82,21 +84,32 @@ left_of xs left rest n h k e r =
     ∙ ap (λ (m : ℕ). drop m xs) (omega arith)
 
 -- nothing is lost or added: what is accepted, followed by what is left
-pub together : (size : ℕ) (queue : List LogData) (old new : List (List LogData)) (left : List LogData)
+pub together : (size : ℕ) (queue : List LogEntry) (old new : List (List LogEntry)) (left : List LogEntry)
     → AreExported size queue old new left → records_of new ++ left ≡ records_of old ++ queue
 together size queue old new left e =
-    ap (λ (bs : List (List LogData)). records_of bs ++ left) e.accepted
-    ∙ ap (λ (xs : List LogData). xs ++ left)
-    (flat_map-append (λ (batch : List LogData). batch) old (batches size e.count queue))
+    ap (λ (bs : List (List LogEntry)). records_of bs ++ left) e.accepted
+    ∙ ap (λ (xs : List LogEntry). xs ++ left)
+    (flat_map-append (λ (batch : List LogEntry). batch) old (batches size e.count queue))
     ∙ append_assoc (records_of old) (records_of (batches size e.count queue)) left
-    ∙ ap (λ (xs : List LogData). records_of old ++ (records_of (batches size e.count queue) ++ xs)) e.rest
-    ∙ ap (λ (xs : List LogData). records_of old ++ xs) (whole size e.count queue)
+    ∙ ap (λ (xs : List LogEntry). records_of old ++ (records_of (batches size e.count queue) ++ xs)) e.rest
+    ∙ ap (λ (xs : List LogEntry). records_of old ++ xs) (whole size e.count queue)
 
 -- a flush keeps what a processor took
-pub keeps : {E : Type 0} (accepted : E → List (List LogData)) (old new : ProcessorState E)
+pub keeps : {E : Type 0} (accepted : E → List (List LogEntry)) (old new : ProcessorState E)
     → IsFlushed accepted old new → taken_of accepted new ≡ taken_of accepted old
 keeps {E} accepted old new f =
     ap (taken_of accepted) f.same
-    ∙ ap (λ (xs : List LogData). record { records = xs; dropped = old.dropped_records })
+    ∙ ap (λ (xs : List LogEntry). record { records = xs; dropped = old.dropped_records })
     (together old.config.max_export_batch_size old.queue (accepted old.exporter) (accepted new.exporter) new.queue
     f.exported)
+
+-- the lists of one place more, joined
+pub joined_more : {X Y : Type 0} (f : X → List Y) (xs : List X) (ys : List (List Y)) (i : ℕ) (x : X)
+    → map f xs ≡ ys → i < length xs → x ≡ get_or xs i x
+    → flat_map (λ y. y) (take i ys) ++ f x ≡ flat_map (λ y. y) (take (i + 1) ys)
+joined_more {X} {Y} f xs ys i x e h g =
+    let below : (n : ℕ) → flat_map (λ y. y) (take n (map f xs)) ≡ flat_map f (take n xs) =
+    λ n. ap (flat_map (λ (y : List Y). y)) (take-map f n xs) ∙ flat_map-map (λ (y : List Y). y) f (take n xs) in
+    subst (λ (zs : List (List Y)). flat_map (λ y. y) (take i zs) ++ f x ≡ flat_map (λ y. y) (take (i + 1) zs)) e
+    (ap (λ (zs : List Y). zs ++ f x) (below i)
+    ∙ sym (flat_map-take_more f xs i x h g) ∙ sym (below (i + 1)))

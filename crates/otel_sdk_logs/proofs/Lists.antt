@@ -2,10 +2,9 @@
 use Rattle.std.proofs.Common.{◌≡◌, ℕ, ◌+◌, Bool, List, [], ◌∷◌, ◌++◌, length, map}
 use Rattle.std.proofs.Common.{Some, None, refl, ap, ◌∙◌, slice_set}
 use Rattle.std.specs.Prelude.{position, not, cond, nat_lt}
-use Rattle.std.specs.List.{prefix_len}
+use Rattle.std.specs.List.{AllZip, prefix_len}
 use Rattle.std.specs.Option.{option_map_or}
 use Rattle.std.proofs.lemmas.List.{length-map, map-set}
-use Rattle.std.proofs.lemmas.List.{map-append}
 use Rattle.otel_base.specs.View.{tree, pairs_view}
 use Rattle.otel_base.specs.declared.any_value.AnyValue.{AnyValue}
 use Rattle.otel_sdk_logs.specs.Attributes as spec
@@ -26,13 +25,6 @@ put_at xs key v i h =
     map-set (λ e. (e.0, tree e.1)) xs i (key, v)
     ∙ ap (λ r. option_map_or (λ j. slice_set (pairs_view xs) j (key, tree v)) r (pairs_view xs ++ (key, tree v) ∷ [])) h
 
--- a list with one more at its end, if the key isn't there
-pub put_last : (xs : List (List ℕ × AnyValue)) (key : List ℕ) (v : AnyValue) → None ≡ spec.place key (pairs_view xs)
-    → pairs_view (xs ++ (key, v) ∷ []) ≡ spec.put (pairs_view xs) (key, tree v)
-put_last xs key v h =
-    map-append (λ e. (e.0, tree e.1)) xs ((key, v) ∷ [])
-    ∙ ap (λ r. option_map_or (λ j. slice_set (pairs_view xs) j (key, tree v)) r (pairs_view xs ++ (key, tree v) ∷ [])) h
-
 -- the same where the list and the key go by other names
 pub put_found : (xs ys : List (List ℕ × AnyValue)) (key k : List ℕ) (v : AnyValue) (i : ℕ) → ys ≡ xs → k ≡ key
     → Some i ≡ spec.place k (pairs_view ys)
@@ -40,3 +32,11 @@ pub put_found : (xs ys : List (List ℕ × AnyValue)) (key k : List ℕ) (v : An
 put_found xs ys key k v i e f h =
     put_at xs key v i (h ∙ ap (λ (q : List ℕ). spec.place q (pairs_view ys)) f
     ∙ ap (λ (zs : List (List ℕ × AnyValue)). spec.place key (pairs_view zs)) e)
+
+-- copies of pairs, one by one
+pub copied_pairs : (xs ys : List (List ℕ × AnyValue)) → AllZip (λ x y. (y.0 ≡ x.0) × (tree y.1 ≡ tree x.1)) xs ys
+    → pairs_view ys ≡ pairs_view xs
+copied_pairs [] [] h = refl
+copied_pairs [] (y ∷ ys) h = elim h [ ]
+copied_pairs (x ∷ xs) [] h = elim h [ ]
+copied_pairs (x ∷ xs) (y ∷ ys) h = λ i. (h.0.0 i, h.0.1 i) ∷ copied_pairs xs ys h.1 i

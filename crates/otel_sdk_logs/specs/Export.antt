@@ -2,10 +2,10 @@
 use Rattle.std.specs.Prelude.{◌≡◌, ℕ, zero, suc, ◌*◌, ◌<◌, Bool, List, [], ◌∷◌, ◌++◌, take, drop}
 use Rattle.std.specs.Prelude.{length, refl}
 use Rattle.std.specs.List.{flat_map}
-use Rattle.otel_sdk_logs.specs.declared.export.LogData.{LogData}
+use Rattle.otel_sdk_logs.specs.LogRecord.{LogEntry}
 
 -- the records of the batches, in order
-abbrev pub records_of : List (List LogData) → List LogData
+abbrev pub records_of : List (List LogEntry) → List LogEntry
 records_of batches = flat_map (λ batch. batch) batches
 
 -- the first batches of a list, so many: each has this size, and the last one of the list what is
@@ -16,8 +16,8 @@ batches size (suc count) xs = take size xs ∷ batches size count (drop size xs)
 
 -- The first batches of a queue were accepted, in order and each once, and what is left of the queue
 -- comes after them.
-pub record AreExported (size : ℕ) (queue : List LogData) (old new : List (List LogData))
-    (left : List LogData) : Type 0 where
+pub record AreExported (size : ℕ) (queue : List LogEntry) (old new : List (List LogEntry))
+    (left : List LogEntry) : Type 0 where
   -- how many batches
   pub count : ℕ
   -- none of them is empty
@@ -28,7 +28,7 @@ pub record AreExported (size : ℕ) (queue : List LogData) (old new : List (List
 -- What an exporter that keeps log records in memory has: the batches that it accepted since it was last
 -- emptied, and whether it was shut down (the Rust crate's `InMemoryLogExporter`).
 pub record InMemory : Type 0 where
-  pub accepted : List (List LogData)
+  pub accepted : List (List LogEntry)
   pub is_shut_down : Bool
 
 -- ---- worked rows

@@ -3,3 +3,4 @@ pub mod LogRecord
 pub mod Export
 pub mod Processor
 pub mod Batch
+pub mod Provider

@@ -1,7 +1,9 @@
 -- What a log record of the SDK holds, and what a call changes.
-use Rattle.std.specs.Prelude.{ℕ, List, [], Option, Some, None, refl}
+use Rattle.std.specs.Prelude.{◌≡◌, ℕ, List, [], Option, Some, None, refl}
+use Rattle.std.specs.Option.{unwrap_or}
 use Rattle.std.specs.Coded.{Coded, code_by, coded×, coded_ℕ, coded_list, coded_option}
 use Rattle.otel_base.specs.AnyValue.{Tree}
+use Rattle.otel_base.specs.InstrumentationScope.{Scope}
 use Rattle.otel_base.specs.View.{tree_code}
 use Rattle.otel_sdk_logs.specs.Attributes.{Held, with_one, with_all}
 use Rattle.otel_sdk_logs.specs.declared.record.TraceContext.{TraceContext}
@@ -20,6 +22,11 @@ pub record LogState : Type 0 where
   pub attributes : List (List ℕ × Tree)
   pub dropped_attributes : ℕ
   pub trace_context : Option TraceContext
+
+-- A log record with the scope of its logger.
+pub record LogEntry : Type 0 where
+  pub log : LogState
+  pub scope : Scope
 
 -- a record with nothing set
 abbrev pub empty : LogState
@@ -62,6 +69,16 @@ with_trace_context log trace_id span_id trace_flags = record log {
     trace_flags = trace_flags;
   });
 }
+
+-- the same record, observed at that moment unless it was observed before
+abbrev pub observed : ℕ → LogState → LogState
+observed now log = record log {
+  observed_timestamp = Some (unwrap_or log.observed_timestamp now);
+}
+
+-- Some moment that the clock may show makes this entry of the record and the scope.
+abbrev pub IsEmitted : LogState → Scope → LogEntry → Type 0
+IsEmitted log scope entry = (now : ℕ) × (entry ≡ record { log = observed now log; scope = scope })
 
 -- ---- an encoding of records, by which proofs tell them apart
 abbrev texts_code : Coded (Option (List ℕ))

@@ -2,7 +2,7 @@
 use Rattle.std.specs.Prelude.{◌≡◌, ◌⊎◌, ◌&&◌, ℕ, ◌+◌, ◌-◌, ◌^◌, Bool, true, false, List, [], ◌∷◌, ◌++◌}
 use Rattle.std.specs.Prelude.{length, Result, IsErr, IsErrOf, IsTrue, not, nat_lt, min, max}
 use Rattle.std.specs.Prelude.{if◌then◌else◌, refl}
-use Rattle.otel_sdk_logs.specs.declared.export.LogData.{LogData}
+use Rattle.otel_sdk_logs.specs.LogRecord.{LogEntry}
 use Rattle.otel_sdk_logs.specs.Export.{AreExported, records_of}
 use Rattle.otel_sdk_span.specs.declared.error.OTelSdkError.{OTelSdkError}
 use Rattle.otel_sdk_span.specs.declared.error.OTelSdkError.TheVariants.{AlreadyShutdown}
@@ -11,7 +11,7 @@ use Rattle.otel_sdk_span.specs.declared.error.OTelSdkError.TheVariants.{AlreadyS
 -- The records that a processor took, in order: those that its exporter accepted, followed by those
 -- that are queued; and how many it dropped, having no room or being closed.
 pub record Taken : Type 0 where
-  pub records : List LogData
+  pub records : List LogEntry
   pub dropped : ℕ
 
 -- one more, up to the greatest `u64`
@@ -19,7 +19,7 @@ abbrev pub one_more : ℕ → ℕ
 one_more count = min (count + 1) (2 ^ 64 - 1)
 
 -- the record is now the last one taken
-abbrev pub with_last : LogData → Taken → Taken
+abbrev pub with_last : LogEntry → Taken → Taken
 with_last given taken = record taken { records = taken.records ++ given ∷ [] }
 
 -- one more was dropped
@@ -27,7 +27,7 @@ abbrev pub with_dropped : Taken → Taken
 with_dropped taken = record taken { dropped = one_more taken.dropped }
 
 -- The record is taken, as the last one, or dropped and counted.
-abbrev pub IsHandedIn : LogData → Taken → Taken → Type 0
+abbrev pub IsHandedIn : LogEntry → Taken → Taken → Type 0
 IsHandedIn given old new = (new ≡ with_last given old) ⊎ (new ≡ with_dropped old)
 
 -- ---- limits
@@ -57,7 +57,7 @@ single_limits = record { max_queue_size = 2048; max_export_batch_size = 1 }
 -- whether the processor was shut down.
 pub record ProcessorState (E : Type 0) : Type 0 where
   pub exporter : E
-  pub queue : List LogData
+  pub queue : List LogEntry
   pub dropped_records : ℕ
   pub config : Limits
   pub is_shut_down : Bool
@@ -74,14 +74,14 @@ module _ {E : Type 0} where
   }
 
   -- what it took: the accepted records, followed by the queued ones
-  abbrev pub taken_of : (E → List (List LogData)) → ProcessorState E → Taken
+  abbrev pub taken_of : (E → List (List LogEntry)) → ProcessorState E → Taken
   taken_of accepted p = record {
     records = records_of (accepted p.exporter) ++ p.queue;
     dropped = p.dropped_records;
   }
 
   -- the record is queued last
-  abbrev pub queued : LogData → ProcessorState E → ProcessorState E
+  abbrev pub queued : LogEntry → ProcessorState E → ProcessorState E
   queued given p = record p { queue = p.queue ++ given ∷ [] }
 
   -- one more record was dropped
@@ -90,7 +90,7 @@ module _ {E : Type 0} where
 
   -- after a record is emitted: it is queued last, or dropped and counted if the processor is closed
   -- or the queue is full (OpenTelemetry logs SDK, "Batching processor")
-  abbrev pub after_emit : LogData → ProcessorState E → ProcessorState E
+  abbrev pub after_emit : LogEntry → ProcessorState E → ProcessorState E
   after_emit given p =
       if not p.is_shut_down && nat_lt (length p.queue) p.config.max_queue_size
       then queued given p
@@ -98,7 +98,7 @@ module _ {E : Type 0} where
 
   -- The first batches of the queue were accepted, and the queue keeps the rest. Nothing else
   -- changes but the exporter.
-  pub record IsFlushed (accepted : E → List (List LogData)) (old new : ProcessorState E)
+  pub record IsFlushed (accepted : E → List (List LogEntry)) (old new : ProcessorState E)
       : Type 0 where
     pub exported : AreExported old.config.max_export_batch_size old.queue
         (accepted old.exporter) (accepted new.exporter) new.queue
@@ -106,7 +106,7 @@ module _ {E : Type 0} where
 
   -- The processor was flushed, and its queue is empty; then its exporter was shut down, and it is
   -- closed.
-  pub record IsClosed (accepted : E → List (List LogData)) (shuts_down : E → E → Type 0)
+  pub record IsClosed (accepted : E → List (List LogEntry)) (shuts_down : E → E → Type 0)
       (old new : ProcessorState E) : Type 0 where
     pub flushed : ProcessorState E
     pub is_flushed : IsFlushed accepted old flushed
@@ -121,13 +121,13 @@ module _ {E : Type 0} where
       IsTrue old.is_shut_down → IsErrOf answer AlreadyShutdown × (new ≡ old)
 
   -- a shutdown that leaves the processor open failed in the flush
-  abbrev pub FailedIfOpen : (E → List (List LogData)) → Result (Unit {0}) OTelSdkError
+  abbrev pub FailedIfOpen : (E → List (List LogEntry)) → Result (Unit {0}) OTelSdkError
       → ProcessorState E → ProcessorState E → Type 0
   FailedIfOpen accepted answer old new =
       IsTrue (not new.is_shut_down) → IsErr answer × IsFlushed accepted old new
 
   -- a shutdown that closes the processor flushed it first
-  abbrev pub FlushedIfClosed : (E → List (List LogData)) → (E → E → Type 0)
+  abbrev pub FlushedIfClosed : (E → List (List LogEntry)) → (E → E → Type 0)
       → ProcessorState E → ProcessorState E → Type 0
   FlushedIfClosed accepted shuts_down old new =
       IsTrue (not old.is_shut_down) → IsTrue new.is_shut_down → IsClosed accepted shuts_down old new

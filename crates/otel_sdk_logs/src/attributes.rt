@@ -1,5 +1,5 @@
 //! Attributes with unique keys, under a limit.
-ghost use Rattle.std.specs.Prelude.{◌≡◌, ◌<◌, ◌≤◌, ◌+◌, OnOk, OnErr, length, vec_len, vec_capacity};
+ghost use Rattle.std.specs.Prelude.{◌≡◌, ◌<◌, ◌≤◌, ◌+◌, IfOk, OnOk, OnErr, length, vec_len, vec_capacity};
 ghost use Rattle.otel_base.specs.View.{tree, pairs_view};
 ghost use Rattle.otel_sdk_logs.specs.Attributes as spec;
 
@@ -63,6 +63,17 @@ fn set_counted(held: &mut Pairs, dropped: &mut u32, key: Key, value: AnyValue)
     if !set(held, key, value) {
         *dropped = dropped.saturating_add(1);
     }
+}
+
+/// Returns a copy of the attributes.
+///
+/// # Errors
+///
+/// `AllocError` if out of memory.
+pub(crate) fn copy_all(held: &Pairs) -> Result<Pairs, AllocError>
+    ensures { IfOk result (λ copy. pairs_view copy.items ≡ pairs_view held.now.items) }
+{
+    Ok(held.clone()?)
 }
 
 /// Sets the attribute, or counts it if it isn't kept.

@@ -3,11 +3,16 @@ ghost use Rattle.std.specs.Prelude.{◌≡◌, [], ◌∷◌, ◌++◌, OnOk, On
 
 use crate::record::SdkLogRecord;
 use opentelemetry::InstrumentationScope;
-use otel_sdk::error::OTelSdkResult;
-use otel_sdk::resource::Resource;
+use otel_sdk_span::error::OTelSdkResult;
+use otel_sdk_span::resource::Resource;
+use std::alloc::AllocError;
+use std::clone::Clone;
+use std::marker::Model;
 use std::rc::Rc;
 
 /// A log record with the scope of its logger (a pair in the Rust crate's `LogBatch`).
+///
+/// Contracts see both as one record.
 ///
 /// See [`LogExporter::export`].
 #[derive(Debug, Drop)]
@@ -18,6 +23,37 @@ pub struct LogData {
     pub instrumentation_scope: Rc<InstrumentationScope>,
 }
 
+impl Model for LogData {
+    ghost use Rattle.std.specs.Coded.{codes};
+    ghost use Rattle.std.specs.Rc.{rc_value};
+    ghost use Rattle.otel_sdk_logs.specs.LogRecord.{LogEntry, log_state_code};
+
+    ghost Value = { LogEntry };
+
+    ghost coded = { Prim.hlevel (codes, log_state_code) };
+
+    ghost view = { λ d. record {
+      log = d.«record»;
+      scope = rc_value d.instrumentation_scope;
+    } };
+}
+
+impl Clone for LogData {
+    ghost is_clone = { λ d copy. copy ≡ d };
+
+    /// Returns a copy, which shares the scope.
+    ///
+    /// # Errors
+    ///
+    /// `AllocError` if out of memory.
+    fn clone(&self) -> Result<LogData, AllocError> {
+        Ok(LogData {
+            record: self.record.clone()?,
+            instrumentation_scope: self.instrumentation_scope.clone()?,
+        })
+    }
+}
+
 /// Takes log records out of the program, in batches (the Rust crate's `LogExporter`).
 ///
 /// A batch is accepted whole or refused whole. An exporter names, by ghost members, the batches
@@ -26,12 +62,12 @@ pub struct LogData {
 /// An exporter that can never write a record has to accept it and count it itself: a processor hands
 /// in a refused batch again.
 ///
-/// See [`crate::trace::InMemoryLogExporter`].
+/// See [`crate::InMemoryLogExporter`].
 pub trait LogExporter: Drop {
     ghost use Rattle.std.specs.Prelude.{List};
-    ghost use Rattle.otel_sdk_logs.specs.declared.export.LogData.{LogData};
+    ghost use Rattle.otel_sdk_logs.specs.LogRecord.{LogEntry};
 
-    ghost accepted: { Self → List (List LogData) };
+    ghost accepted: { Self → List (List LogEntry) };
 
     ghost shuts_down: { Self → Self → Type 0 };
 

@@ -1,6 +1,6 @@
 //! Processors of log records, which hand them to an exporter.
-ghost use Rattle.std.specs.Prelude.{◌≡◌};
-ghost use Rattle.otel_sdk_logs.specs.Processor.{IsHandedIn};
+ghost use Rattle.std.specs.Prelude.{◌≡◌, false};
+ghost use Rattle.otel_sdk_logs.specs.Processor.{IsHandedIn, with_dropped};
 
 pub(crate) mod batch;
 mod batches;
@@ -8,25 +8,30 @@ pub(crate) mod config;
 pub(crate) mod simple;
 
 use crate::export::LogData;
-use otel_sdk::error::OTelSdkResult;
-use otel_sdk::resource::Resource;
+use otel_sdk_span::error::OTelSdkResult;
+use otel_sdk_span::resource::Resource;
 use std::rc::Rc;
 
 /// Takes log records, and hands them to an exporter (the Rust crate's `LogProcessor`). There are no
 /// threads: records are exported in the calls only.
 ///
-/// A processor names, by the ghost member `taken`, the records that it took, in order, and how many
-/// it dropped.
+/// A processor names, by ghost members, the records that it took, in order, with how many it dropped,
+/// `taken`, and whether it takes any, `takes`.
 ///
 /// See [`crate::BatchLogProcessor`].
 pub trait LogProcessor: Drop {
+    ghost use Rattle.std.specs.Prelude.{Bool};
     ghost use Rattle.otel_sdk_logs.specs.Processor.{Taken};
 
     ghost taken: { Self → Taken };
 
+    ghost takes: { Self → Bool };
+
     /// Takes a record, or drops and counts it.
     fn on_emit(&mut self, given: LogData)
-        ensures { IsHandedIn given (taken self.old) (taken self.new) };
+        ensures handed_in { IsHandedIn given (taken self.old) (taken self.new) }
+        ensures closed { takes self.old ≡ false
+            → taken self.new ≡ with_dropped (taken self.old) };
 
     /// Hands the records that are queued to the exporter, and flushes it.
     ///
@@ -46,8 +51,13 @@ pub trait LogProcessor: Drop {
     /// processor stays open for another try.
     fn shutdown(&mut self) -> OTelSdkResult;
 
-    /// Returns whether it takes records: it is open.
-    fn is_open(&self) -> bool;
+    /// Returns whether it takes records, if there is room: it is open.
+    fn is_open(&self) -> bool
+        ensures { result ≡ takes self.now };
+
+    /// Returns how many records were dropped.
+    fn dropped_records(&self) -> u64
+        ensures { result ≡ (taken self.now).dropped };
 
     /// Tells the exporter the resource of the records to come. Does nothing unless a processor says
     /// otherwise.

@@ -1,13 +1,14 @@
 //! A log record of the SDK.
-ghost use Rattle.std.specs.Prelude.{◌≡◌, OnOk, OnErr};
+ghost use Rattle.std.specs.Prelude.{◌≡◌, IfOk, OnOk, OnErr, option_map};
 ghost use Rattle.otel_base.specs.View.{tree, pairs_view};
 ghost use Rattle.otel_sdk_logs.specs.LogRecord as spec;
 
-use crate::attributes::{set_all, set_one};
+use crate::attributes::{copy_all, set_all, set_one};
 use opentelemetry::logs::{AnyValue, LogRecord, Severity};
 use opentelemetry::trace::{SpanId, TraceFlags, TraceId};
 use opentelemetry::{Key, StringValue};
 use std::alloc::{AllocError, Global};
+use std::clone::Clone;
 use std::marker::Model;
 
 /// The span that was active when a log record's event happened (the Rust crate's `TraceContext`).
@@ -96,6 +97,42 @@ impl SdkLogRecord {
             dropped_attributes_count: 0,
             trace_context: None,
         }
+    }
+}
+
+// The body is a copy if its tree is.
+fn copy_body(body: &Option<AnyValue>) -> Result<Option<AnyValue>, AllocError>
+    ensures { IfOk result (λ copy. option_map tree copy ≡ option_map tree body.now) }
+{
+    match body {
+        Some(body) => Ok(Some(body.clone()?)),
+        None => Ok(None),
+    }
+}
+
+impl Clone for SdkLogRecord {
+    ghost use Rattle.std.specs.Prelude.{◌≡◌};
+
+    ghost is_clone = { λ r copy. copy ≡ r };
+
+    /// Returns a copy.
+    ///
+    /// # Errors
+    ///
+    /// `AllocError` if out of memory.
+    fn clone(&self) -> Result<SdkLogRecord, AllocError> {
+        Ok(SdkLogRecord {
+            event_name: self.event_name.clone()?,
+            target: self.target.clone()?,
+            timestamp: self.timestamp,
+            observed_timestamp: self.observed_timestamp,
+            severity_text: self.severity_text.clone()?,
+            severity_number: self.severity_number,
+            body: copy_body(&self.body)?,
+            attributes: copy_all(&self.attributes)?,
+            dropped_attributes_count: self.dropped_attributes_count,
+            trace_context: self.trace_context,
+        })
     }
 }
 

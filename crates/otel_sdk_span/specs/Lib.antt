@@ -1,4 +1,5 @@
 pub mod Attributes
+pub mod Clock
 pub mod Resource
 pub mod ResourceTexts
 pub mod Span

@@ -4,6 +4,7 @@
 
 mod attributes;
 mod batches;
+mod clock;
 mod cutting;
 mod data;
 pub mod error;
@@ -13,6 +14,7 @@ pub mod resource;
 mod span;
 
 pub use batches::{Accepted, Batch};
+pub use clock::{Clock, ManualClock, SystemClock};
 pub use data::{SpanData, SpanEvents, SpanLinks};
 pub use export::SpanExporter;
 pub use limits::SpanLimits;

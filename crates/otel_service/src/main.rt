@@ -1,11 +1,12 @@
 //! A service at work: it reads the headers of requests from standard input, does the work of each in
-//! a span with two child spans, under the span that the headers name, and prints the headers of
-//! the request that it sends on.
+//! a span with two child spans, under the span that the headers name, prints the headers of the
+//! request that it sends on, and logs that it was served.
 #![tactic(auto)]
 
 mod clock;
 mod failure;
 mod headers;
+mod log_lines;
 mod options;
 mod requests;
 mod service;
@@ -13,11 +14,15 @@ mod work;
 
 use clock::CountedClock;
 use failure::Failure;
+use log_lines::Logs;
 use opentelemetry::StringValue;
+use opentelemetry::logs::{Logger, LoggerProvider};
 use opentelemetry::propagation::{TextMapCompositePropagator, TextMapPropagator};
 use opentelemetry::trace::TracerProvider;
 use options::Options;
+use otel_appender_log::OpenTelemetryLogBridge;
 use otel_propagators::{BaggagePropagator, TraceContextPropagator};
+use otel_sdk::logs::{InMemoryLogExporter, SdkLoggerProvider, SimpleLogProcessor};
 use otel_sdk::resource::Resource;
 use otel_sdk::trace::{
     BatchConfigBuilder, BatchSpanProcessor, Clock, CountedIdGenerator, InMemorySpanExporter,
@@ -40,10 +45,24 @@ fn resource(alloc: Global) -> Result<Resource, AllocError> {
     Ok(builder.build())
 }
 
+/// Returns the provider of the loggers, which keeps what they emit.
+fn logs<R: std::time::Clock + Copy + Drop, C: Clock>(
+    rt: R,
+    alloc: Global,
+    clock: C,
+) -> Result<Logs<C>, AllocError> {
+    let processor = SimpleLogProcessor::new(alloc, InMemoryLogExporter::new(alloc))?;
+    SdkLoggerProvider::builder(rt)
+        .with_log_processor(processor)
+        .with_clock(clock)
+        .with_resource(resource(alloc)?)?
+        .build(alloc)
+}
+
 /// Serves all requests, and hands their spans to the exporter.
-fn serve<P: Pipeline, C: Clock, X: SpanExporter>(
+fn serve<P: Pipeline, C: Clock, L: Logger, X: SpanExporter>(
     rt: HostRuntime,
-    service: &Service<'_, P, C>,
+    service: &Service<'_, P, C, L>,
     exporter: X,
 ) -> Result<(), Failure> {
     let alloc = rt.alloc();
@@ -67,9 +86,9 @@ fn serve<P: Pipeline, C: Clock, X: SpanExporter>(
 
 /// Serves all requests, and hands their spans to what the options name. Lines of JSON go to the end
 /// of the file.
-fn export<P: Pipeline, C: Clock>(
+fn export<P: Pipeline, C: Clock, L: Logger>(
     rt: HostRuntime,
-    service: &Service<'_, P, C>,
+    service: &Service<'_, P, C, L>,
     options: &Options,
 ) -> Result<(), Failure> {
     let alloc = rt.alloc();
@@ -102,13 +121,18 @@ fn run_fixed(
         .with_clock(clock.share()?)
         .build(alloc)?;
     let tracer = provider.tracer(alloc, StringValue::from("otel_service"))?;
+    let logs = logs(rt, alloc, clock.share()?)?;
+    let logger = logs.logger(alloc, StringValue::from("otel_service"))?;
     let service = Service {
         alloc,
         tracer,
         clock,
         propagator,
+        log: OpenTelemetryLogBridge::new(alloc, logger),
     };
-    export(rt, &service, options)
+    let served = export(rt, &service, options);
+    log_lines::write(&logs, &mut rt.stderr())?;
+    served
 }
 
 /// Serves all requests with random ids and the system's clock.
@@ -121,13 +145,18 @@ fn run_random(
     let clock = SystemClock::new(rt);
     let provider = SdkTracerProvider::builder(rt).build(alloc)?;
     let tracer = provider.tracer(alloc, StringValue::from("otel_service"))?;
+    let logs = logs(rt, alloc, SystemClock::new(rt))?;
+    let logger = logs.logger(alloc, StringValue::from("otel_service"))?;
     let service = Service {
         alloc,
         tracer,
         clock,
         propagator,
+        log: OpenTelemetryLogBridge::new(alloc, logger),
     };
-    export(rt, &service, options)
+    let served = export(rt, &service, options);
+    log_lines::write(&logs, &mut rt.stderr())?;
+    served
 }
 
 fn run(rt: HostRuntime) -> Result<(), Failure> {

@@ -2,6 +2,7 @@
 use crate::failure::Failure;
 use crate::headers;
 use crate::service::Service;
+use opentelemetry::logs::Logger;
 use otel_sdk::trace::{BatchSpanProcessor, Clock, Pipeline, SpanExporter};
 use std::io::Write;
 
@@ -12,8 +13,8 @@ use std::io::Write;
 ///
 /// That of the first request that isn't served, or of a write that fails. What was sent on for
 /// earlier requests is written.
-pub fn serve_all<P: Pipeline, C: Clock, X: SpanExporter, W: Write, E: Write>(
-    service: &Service<'_, P, C>,
+pub fn serve_all<P: Pipeline, C: Clock, L: Logger, X: SpanExporter, W: Write, E: Write>(
+    service: &Service<'_, P, C, L>,
     processor: &mut BatchSpanProcessor<X>,
     bytes: &[u8],
     output: &mut W,
@@ -39,8 +40,8 @@ pub fn serve_all<P: Pipeline, C: Clock, X: SpanExporter, W: Write, E: Write>(
 
 /// Serves the request of these lines, and writes what is sent on, after an empty line unless it is
 /// the first.
-fn serve<P: Pipeline, C: Clock, X: SpanExporter, W: Write, E: Write>(
-    service: &Service<'_, P, C>,
+fn serve<P: Pipeline, C: Clock, L: Logger, X: SpanExporter, W: Write, E: Write>(
+    service: &Service<'_, P, C, L>,
     processor: &mut BatchSpanProcessor<X>,
     request: &[u8],
     is_first: bool,

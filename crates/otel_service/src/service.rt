@@ -2,11 +2,14 @@
 use crate::failure::Failure;
 use crate::headers;
 use crate::work::{LoadCart, Price};
+use log::info;
 use opentelemetry::baggage::Baggage;
 use opentelemetry::context::ContextStack;
+use opentelemetry::logs::Logger;
 use opentelemetry::propagation::{PropagationError, TextMapCompositePropagator};
 use opentelemetry::trace::{Span, SpanBody, SpanKind, Spans, Tracer};
 use opentelemetry::{Context, Key, StringValue};
+use otel_appender_log::OpenTelemetryLogBridge;
 use otel_sdk::trace::{
     BatchSpanProcessor, Clock, Pipeline, SdkSpan, SdkTracer, SpanExporter, SpanProcessor,
 };
@@ -16,7 +19,7 @@ use std::io::{self, Write};
 
 /// What a service serves requests by.
 #[derive(Drop)]
-pub struct Service<'a, P, C> {
+pub struct Service<'a, P, C, L> {
     /// The allocator.
     pub alloc: Global,
     /// Starts the spans.
@@ -25,6 +28,8 @@ pub struct Service<'a, P, C> {
     pub clock: C,
     /// Reads and writes the headers.
     pub propagator: &'a TextMapCompositePropagator,
+    /// Takes the log lines.
+    pub log: OpenTelemetryLogBridge<L>,
 }
 
 /// The headers that the service sends on.
@@ -43,11 +48,11 @@ pub struct Answer {
 
 /// The work of a request, in its span.
 #[derive(Drop)]
-struct Request<'a, P, C> {
-    service: &'a Service<'a, P, C>,
+struct Request<'a, P, C, L> {
+    service: &'a Service<'a, P, C, L>,
 }
 
-impl<P: Pipeline, C: Clock> SpanBody<SdkSpan> for Request<'_, P, C> {
+impl<P: Pipeline, C: Clock, L: Logger> SpanBody<SdkSpan> for Request<'_, P, C, L> {
     type Out = Result<Answer, Failure>;
 
     ghost may_leave = { λ _ _ _ _ _ _ _. Unit {0} };
@@ -60,11 +65,13 @@ impl<P: Pipeline, C: Clock> SpanBody<SdkSpan> for Request<'_, P, C> {
     ) -> Result<Answer, Failure> {
         let children = self.service.run_steps(stack, spans, &context)?;
         let sent = self.service.send(&context)?;
+        let log = self.service.log.sink(&context);
+        info!(log; target: "otel_service", "served");
         Ok(Answer { sent, children })
     }
 }
 
-impl<P: Pipeline, C: Clock> Service<'_, P, C> {
+impl<P: Pipeline, C: Clock, L: Logger> Service<'_, P, C, L> {
     /// Serves a request: in a span under the one that its headers name, or in a trace of its own if
     /// they name none, it does the work, and sets the headers to be sent on. Then it hands the spans
     /// to the exporter.

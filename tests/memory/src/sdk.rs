@@ -2,6 +2,7 @@
 mod export;
 mod json;
 mod live;
+mod loggers;
 mod logs;
 mod spans;
 mod tracer;
@@ -33,6 +34,7 @@ pub fn play<R: Print>(rt: HostRuntime, lines: &Lines<'_, R>) {
     json::play(alloc, lines);
     live::play(rt, lines);
     logs::play(alloc, lines);
+    loggers::play(rt, lines);
 }
 
 fn resources<R: Print>(alloc: Global, lines: &Lines<'_, R>) {

@@ -3,5 +3,7 @@
 
 // Depends on: test_support
 
+mod exporter;
 mod processor;
+mod provider;
 mod record;

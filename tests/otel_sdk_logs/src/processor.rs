@@ -1,17 +1,17 @@
 //! What processors hand to an exporter: worked runs.
 use opentelemetry::logs::LogRecord;
 use opentelemetry::{InstrumentationScope, StringValue};
-use otel_sdk::error::{OTelSdkError, OTelSdkResult};
 use otel_sdk_logs::{
     BatchConfig, BatchConfigBuilder, BatchLogProcessor, LogData, LogExporter, LogProcessor,
     SdkLogRecord, SimpleLogProcessor,
 };
+use otel_sdk_span::error::{OTelSdkError, OTelSdkResult};
 use std::alloc::{AllocError, Global};
 use std::rc::Rc;
 use std::test::Fail;
 
 /// A record with this number for its timestamp.
-fn data(alloc: Global, number: u64) -> Result<LogData, AllocError> {
+pub fn data(alloc: Global, number: u64) -> Result<LogData, AllocError> {
     let scope = InstrumentationScope::builder(StringValue::from("tests")).build(alloc)?;
     let mut record = SdkLogRecord::new(alloc);
     record.set_timestamp(number);
@@ -24,9 +24,9 @@ fn data(alloc: Global, number: u64) -> Result<LogData, AllocError> {
 /// An exporter with a plan: at `+` it accepts a batch, and else refuses it. It writes down each
 /// batch as the records' numbers in brackets, with a `!` if it refuses it.
 #[derive(Drop)]
-struct Planned {
+pub struct Planned {
     plan: &'static [u8],
-    log: String,
+    pub log: String,
 }
 
 impl LogExporter for Planned {
@@ -64,7 +64,7 @@ impl LogExporter for Planned {
     }
 }
 
-fn planned(alloc: Global, plan: &'static str) -> Planned {
+pub fn planned(alloc: Global, plan: &'static str) -> Planned {
     Planned {
         plan: plan.as_bytes(),
         log: String::new(alloc),
@@ -72,7 +72,7 @@ fn planned(alloc: Global, plan: &'static str) -> Planned {
 }
 
 /// A queue of two, in batches of two.
-fn two() -> BatchConfig {
+pub fn two() -> BatchConfig {
     BatchConfigBuilder::default()
         .with_max_queue_size(2)
         .with_max_export_batch_size(4)

@@ -3,11 +3,14 @@
 use crate::clock::CountedClock;
 use crate::failure::Failure;
 use crate::headers::parse;
+use crate::log_lines;
 use crate::requests::serve_all;
 use crate::service::Service;
+use opentelemetry::logs::LoggerProvider;
 use opentelemetry::propagation::{TextMapCompositePropagator, TextMapPropagator};
 use opentelemetry::trace::{SpanId, Status, TracerProvider};
 use opentelemetry::{StringValue, Value};
+use otel_appender_log::OpenTelemetryLogBridge;
 use otel_propagators::{BaggagePropagator, TraceContextPropagator};
 use otel_sdk::trace::{
     BatchConfigBuilder, BatchSpanProcessor, CountedIdGenerator, InMemorySpanExporter,
@@ -27,11 +30,12 @@ enum Given<'a> {
     Lines(&'a [u8]),
 }
 
-/// What is written, and the spans that are exported.
+/// What is written and logged, and the spans that are exported.
 #[derive(Drop)]
 struct Outcome {
     lines: String,
     errors: String,
+    logged: String,
     spans: Vec<SpanData>,
 }
 
@@ -51,11 +55,14 @@ fn served<R: RandomSource + Clock + Copy + Drop>(
     members.push(Box::new(alloc, BaggagePropagator::new(alloc)?)?)?;
     let propagator = TextMapCompositePropagator::new(alloc, members)?;
     let tracer = provider.tracer(alloc, StringValue::from("test"))?;
+    let logs = crate::logs(rt, alloc, clock.share()?)?;
+    let logger = logs.logger(alloc, StringValue::from("test"))?;
     let service = Service {
         alloc,
         tracer,
         clock,
         propagator: &propagator,
+        log: OpenTelemetryLogBridge::new(alloc, logger),
     };
     let exporter = InMemorySpanExporter::new(alloc);
     let mut processor = BatchSpanProcessor::new(
@@ -71,9 +78,12 @@ fn served<R: RandomSource + Clock + Copy + Drop>(
             .write(alloc, &mut lines, &mut errors)?,
         Given::Lines(bytes) => serve_all(&service, &mut processor, bytes, &mut lines, &mut errors)?,
     }
+    let mut logged = Vec::new(alloc);
+    log_lines::write(&logs, &mut logged)?;
     Ok(Outcome {
         lines: String::from_str(alloc, str::from_utf8(&lines).unwrap_or(""))?,
         errors: String::from_str(alloc, str::from_utf8(&errors).unwrap_or(""))?,
+        logged: String::from_str(alloc, str::from_utf8(&logged).unwrap_or(""))?,
         spans: processor.exporter().get_finished_spans()?,
     })
 }
@@ -366,5 +376,48 @@ traceparent: 00-0af7651916cd43dd8448eb211c80319c-0000000000000004-00
 tracestate: a=1
 ";
     sends(rt, rt.alloc(), received, wanted)?;
+    Ok(())
+}
+
+/// A request's headers name a trace, and its log line and what is sent on name that trace and the
+/// service's span.
+#[test]
+fn a_request_is_logged_with_its_span(rt: HostRuntime) -> Result<(), Fail> {
+    let received = b"traceparent: 00-0af7651916cd43dd8448eb211c80319c-00f067aa0ba902b7-01\n";
+    let Ok(found) = served(rt, rt.alloc(), Given::Lines(received)) else {
+        assert!(rt; false, "the request is not served");
+        return Ok(());
+    };
+    assert_eq!(rt;
+        found.logged.as_str(),
+        "INFO served trace=0af7651916cd43dd8448eb211c80319c span=0000000000000001\n"
+    );
+    assert_eq!(rt;
+        found.lines.as_str(),
+        "baggage: service=otel%20service
+traceparent: 00-0af7651916cd43dd8448eb211c80319c-0000000000000001-01
+tracestate: 
+"
+    );
+    Ok(())
+}
+
+/// Each request has a log line, also one whose trace isn't sampled.
+#[test]
+fn each_request_is_logged(rt: HostRuntime) -> Result<(), Fail> {
+    let received = b"traceparent: 00-0af7651916cd43dd8448eb211c80319c-00f067aa0ba902b7-00
+
+baggage: userId=alice
+";
+    let Ok(found) = served(rt, rt.alloc(), Given::Lines(received)) else {
+        assert!(rt; false, "the requests are not served");
+        return Ok(());
+    };
+    assert_eq!(rt;
+        found.logged.as_str(),
+        "INFO served trace=0af7651916cd43dd8448eb211c80319c span=0000000000000001
+INFO served trace=00000000000000000000000000000001 span=0000000000000004
+"
+    );
     Ok(())
 }

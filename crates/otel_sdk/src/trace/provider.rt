@@ -5,13 +5,12 @@ ghost use Rattle.otel_sdk_span.specs.Resource.{merge, with_defaults};
 ghost use Rattle.otel_sdk_span.specs.SpanLimits.{default_limits};
 ghost use Rattle.otel_sdk.specs.Tracer as spec;
 
-use crate::trace::clock::{Clock, SystemClock};
 use crate::trace::tracer::{SdkTracer, TracerPipeline};
 use opentelemetry::trace::TracerProvider;
 use opentelemetry::{InstrumentationScope, StringValue};
 use otel_sdk_sampling::{IdGenerator, ParentBased, RandomIdGenerator, Sampler, ShouldSample};
-use otel_sdk_span::SpanLimits;
 use otel_sdk_span::resource::Resource;
+use otel_sdk_span::{Clock, SpanLimits, SystemClock};
 use std::alloc::{AllocError, Global};
 use std::cell::Cell;
 use std::marker::Model;

@@ -5,13 +5,12 @@ ghost use Rattle.otel_base.specs.View.{attribute_of};
 ghost use Rattle.opentelemetry.specs.View.{builder_of};
 ghost use Rattle.otel_sdk.specs.Tracer as spec;
 
-use crate::trace::clock::Clock;
 use crate::trace::provider::TracerProviderInner;
 use crate::trace::start::{Ids, ask, given_data, new_ids, parent_of, records, span_context_of};
 use opentelemetry::trace::{SpanBuilder, SpanContext, Tracer};
 use opentelemetry::{Context, InstrumentationScope, KeyValue};
 use otel_sdk_sampling::{IdGenerator, ShouldSample};
-use otel_sdk_span::{SdkSpan, SpanLimits};
+use otel_sdk_span::{Clock, SdkSpan, SpanLimits};
 use std::alloc::{AllocError, Global};
 use std::marker::Model;
 use std::rc::Rc;

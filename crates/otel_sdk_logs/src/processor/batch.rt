@@ -1,12 +1,12 @@
 //! The processor that exports log records in batches.
-ghost use Rattle.std.specs.Prelude.{◌≡◌, ◌≤◌, [], not, length, vec_capacity, IfOk, OnOk};
+ghost use Rattle.std.specs.Prelude.{◌≡◌, ◌≤◌, [], false, not, length, vec_capacity, IfOk, OnOk};
 
 use crate::export::{LogData, LogExporter};
 use crate::processor::LogProcessor;
 use crate::processor::batches::export_batches;
 use crate::processor::config::BatchConfig;
-use otel_sdk::error::{OTelSdkError, OTelSdkResult};
-use otel_sdk::resource::Resource;
+use otel_sdk_span::error::{OTelSdkError, OTelSdkResult};
+use otel_sdk_span::resource::Resource;
 use std::alloc::{AllocError, Global};
 use std::rc::Rc;
 
@@ -64,13 +64,6 @@ impl<E: LogExporter> BatchLogProcessor<E> {
         &self.exporter
     }
 
-    /// Returns how many records were dropped. Stops at the greatest `u64`.
-    pub fn dropped_records(&self) -> u64
-        ensures { result ≡ (state self.now).dropped_records }
-    {
-        self.dropped_records
-    }
-
     /// Returns the number of records that are queued.
     pub fn queued_records(&self) -> usize
         ensures { result ≡ length (state self.now).queue }
@@ -92,19 +85,25 @@ impl<E: LogExporter> BatchLogProcessor<E> {
 }
 
 impl<E: LogExporter> LogProcessor for BatchLogProcessor<E> {
+    ghost use Rattle.std.specs.Prelude.{not};
     ghost use Rattle.otel_sdk_logs.specs.Processor as spec;
-    ghost use Rattle.otel_sdk_logs.specs.Processor.{IsFlushed, IsHandedIn, taken_of};
+    ghost use Rattle.otel_sdk_logs.specs.Processor.{IsFlushed, IsHandedIn, taken_of, with_dropped};
     ghost use Rattle.otel_sdk_logs.specs.Processor.{IsRefusedIfClosed, FailedIfOpen};
     ghost use Rattle.otel_sdk_logs.specs.Processor.{FlushedIfClosed};
     ghost use Rattle.otel_sdk_logs.specs.Batch.{state};
 
     ghost taken = { λ p. taken_of E.accepted (state p) };
 
+    ghost takes = { λ p. not (state p).is_shut_down };
+
     /// Queues the record, or drops and counts it if the processor is closed or the queue is full.
     fn on_emit(&mut self, given: LogData)
         ensures emitted { state self.new ≡ spec.after_emit given (state self.old) }
         ensures handed_in { IsHandedIn given (taken_of E.accepted (state self.old))
             (taken_of E.accepted (state self.new)) }
+        ensures closed { not (state self.old).is_shut_down ≡ false
+            → taken_of E.accepted (state self.new)
+            ≡ with_dropped (taken_of E.accepted (state self.old)) }
     {
         if self.is_shut_down || self.queue.len() >= self.config.max_queue_size {
             self.dropped_records = self.dropped_records.saturating_add(1);
@@ -151,6 +150,13 @@ impl<E: LogExporter> LogProcessor for BatchLogProcessor<E> {
         ensures { result ≡ not (state self.now).is_shut_down }
     {
         !self.is_shut_down
+    }
+
+    /// Returns how many records were dropped. Stops at the greatest `u64`.
+    fn dropped_records(&self) -> u64
+        ensures { result ≡ (state self.now).dropped_records }
+    {
+        self.dropped_records
     }
 
     /// Tells the exporter the resource of the records to come.

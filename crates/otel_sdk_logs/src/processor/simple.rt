@@ -1,7 +1,7 @@
 //! The processor that exports each log record when it is emitted.
-ghost use Rattle.std.specs.Prelude.{◌≡◌, [], not, length, IfOk, OnOk};
+ghost use Rattle.std.specs.Prelude.{◌≡◌, [], false, not, length, IfOk, OnOk};
 ghost use Rattle.otel_sdk_logs.specs.Processor as spec;
-ghost use Rattle.otel_sdk_logs.specs.Processor.{IsFlushed, IsHandedIn, taken_of};
+ghost use Rattle.otel_sdk_logs.specs.Processor.{IsFlushed, IsHandedIn, taken_of, with_dropped};
 ghost use Rattle.otel_sdk_logs.specs.Processor.{IsRefusedIfClosed, FailedIfOpen, FlushedIfClosed};
 ghost use Rattle.otel_sdk_logs.specs.Batch.{simple_state};
 
@@ -9,8 +9,8 @@ use crate::export::{LogData, LogExporter};
 use crate::processor::LogProcessor;
 use crate::processor::batch::BatchLogProcessor;
 use crate::processor::config::BatchConfigBuilder;
-use otel_sdk::error::OTelSdkResult;
-use otel_sdk::resource::Resource;
+use otel_sdk_span::error::OTelSdkResult;
+use otel_sdk_span::resource::Resource;
 use std::alloc::{AllocError, Global};
 use std::rc::Rc;
 
@@ -52,13 +52,6 @@ impl<E: LogExporter> SimpleLogProcessor<E> {
         self.inner.exporter()
     }
 
-    /// Returns how many records were dropped. Stops at the greatest `u64`.
-    pub fn dropped_records(&self) -> u64
-        ensures { result ≡ (simple_state self.now).dropped_records }
-    {
-        self.inner.dropped_records()
-    }
-
     /// Returns the number of records that are queued, as the exporter refused them.
     pub fn queued_records(&self) -> usize
         ensures { result ≡ length (simple_state self.now).queue }
@@ -68,10 +61,13 @@ impl<E: LogExporter> SimpleLogProcessor<E> {
 }
 
 impl<E: LogExporter> LogProcessor for SimpleLogProcessor<E> {
+    ghost use Rattle.std.specs.Prelude.{not};
     ghost use Rattle.otel_sdk_logs.specs.Processor.{taken_of};
     ghost use Rattle.otel_sdk_logs.specs.Batch.{simple_state};
 
     ghost taken = { λ p. taken_of E.accepted (simple_state p) };
+
+    ghost takes = { λ p. not (simple_state p).is_shut_down };
 
     /// Queues the record, or drops and counts it if the processor is closed or the queue is full.
     /// Then flushes the processor; what the exporter didn't accept stays queued, in order.
@@ -80,6 +76,9 @@ impl<E: LogExporter> LogProcessor for SimpleLogProcessor<E> {
             (simple_state self.new) }
         ensures handed_in { IsHandedIn given (taken_of E.accepted (simple_state self.old))
             (taken_of E.accepted (simple_state self.new)) }
+        ensures closed { not (simple_state self.old).is_shut_down ≡ false
+            → taken_of E.accepted (simple_state self.new)
+            ≡ with_dropped (taken_of E.accepted (simple_state self.old)) }
     {
         self.inner.on_emit(given);
         let _ = self.inner.force_flush();
@@ -110,6 +109,13 @@ impl<E: LogExporter> LogProcessor for SimpleLogProcessor<E> {
         ensures { result ≡ not (simple_state self.now).is_shut_down }
     {
         self.inner.is_open()
+    }
+
+    /// Returns how many records were dropped. Stops at the greatest `u64`.
+    fn dropped_records(&self) -> u64
+        ensures { result ≡ (simple_state self.now).dropped_records }
+    {
+        self.inner.dropped_records()
     }
 
     /// Tells the exporter the resource of the records to come.

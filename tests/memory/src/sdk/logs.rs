@@ -3,7 +3,7 @@ use crate::lines::Lines;
 use opentelemetry::logs::{AnyValue, LogRecord};
 use opentelemetry::{InstrumentationScope, Key, StringValue};
 use otel_sdk::error::{OTelSdkError, OTelSdkResult};
-use otel_sdk_logs::{
+use otel_sdk::logs::{
     BatchConfig, BatchLogProcessor, LogData, LogExporter, LogProcessor, SdkLogRecord,
     SimpleLogProcessor,
 };
@@ -82,7 +82,7 @@ impl LogExporter for Sizes {
 }
 
 /// A record with nothing set.
-fn data(alloc: Global) -> Result<LogData, AllocError> {
+pub fn data(alloc: Global) -> Result<LogData, AllocError> {
     let scope = InstrumentationScope::builder(StringValue::from("s")).build(alloc)?;
     Ok(LogData {
         record: SdkLogRecord::new(alloc),

@@ -2,7 +2,7 @@ use Rattle.std.proofs.Common.{◌∙◌, ◌++◌, ap, List}
 use Rattle.otel_sdk_logs.specs.Batch.{state}
 use Rattle.otel_sdk_logs.specs.Export.{records_of}
 use Rattle.otel_sdk_logs.specs.Processor.{Taken}
-use Rattle.otel_sdk_logs.specs.declared.export.LogData.{LogData}
+use Rattle.otel_sdk_logs.specs.LogRecord.{LogEntry}
 use Rattle.otel_sdk_logs.proofs.BatchLemmas.{keeps}
 use Rattle.otel_sdk_logs.proofs.processor.batch.BatchLogProcessorLogProcessor.force_flush.Goals as goal
 
@@ -12,7 +12,7 @@ returns-in_err-export_queue-clause-taken g c =
 
 pub returns-clause-taken : goal.returns-clause-taken
 returns-clause-taken g c =
-    let of : List (List LogData) → Taken = λ batches. record {
+    let of : List (List LogEntry) → Taken = λ batches. record {
       records = records_of batches ++ c.export_queue.new.self.queue.items;
       dropped = c.export_queue.new.self.dropped_records;
     } in

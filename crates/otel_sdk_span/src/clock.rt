@@ -1,7 +1,7 @@
 //! Clocks, which read the moments at which spans start.
 ghost use Rattle.std.specs.Prelude.{◌≡◌};
 ghost use Rattle.std.specs.Time.{system_time_nanos};
-ghost use Rattle.otel_sdk.specs.Clock.{within_u64};
+ghost use Rattle.otel_sdk_span.specs.Clock.{within_u64};
 
 use std::cell::Cell;
 use std::time::{SystemTime, UNIX_EPOCH};

@@ -1,0 +1,303 @@
+//! What makes the loggers of the SDK.
+ghost use Rattle.std.specs.Prelude.{◌≡◌, IfOk, Some, None};
+ghost use Rattle.std.specs.Option.{option_map_or, unwrap_or};
+ghost use Rattle.otel_sdk_span.specs.Resource.{merge, with_defaults};
+
+use crate::export::LogData;
+use crate::logger::SdkLogger;
+use crate::processor::LogProcessor;
+use opentelemetry::logs::LoggerProvider;
+use opentelemetry::{InstrumentationScope, StringValue};
+use otel_sdk_span::error::{OTelSdkError, OTelSdkResult};
+use otel_sdk_span::resource::Resource;
+use otel_sdk_span::{Clock, SystemClock};
+use std::alloc::{AllocError, Global};
+use std::cell::{BorrowError, Cell, Ref, RefCell};
+use std::marker::Model;
+use std::rc::Rc;
+
+/// What the loggers of a provider share.
+#[derive(Drop)]
+pub(crate) struct LoggerProviderInner<P, C> {
+    pub alloc: Global,
+    pub resource: Rc<Resource>,
+    pub processor: RefCell<P>,
+    pub clock: C,
+    pub dropped_records: Cell<u64>,
+}
+
+impl<P, C> LoggerProviderInner<P, C> {
+    /// Counts a record that doesn't reach the processor.
+    pub(crate) fn count_dropped(&self) {
+        let dropped = self.dropped_records.get();
+        self.dropped_records.set(dropped.saturating_add(1));
+    }
+}
+
+impl<P: LogProcessor, C> LoggerProviderInner<P, C> {
+    /// Hands the record to the processor, or counts it if the processor is at work.
+    pub(crate) fn hand_in(&self, given: LogData) {
+        match self.processor.try_borrow_mut() {
+            Ok(mut processor) => processor.on_emit(given),
+            Err(_) => self.count_dropped(),
+        }
+    }
+
+    /// Returns whether the processor takes records, and isn't at work.
+    pub(crate) fn is_open(&self) -> bool {
+        match self.processor.try_borrow() {
+            Ok(processor) => processor.is_open(),
+            Err(_) => false,
+        }
+    }
+
+    /// Returns how many records were dropped, here and by the processor.
+    fn dropped_records(&self) -> u64 {
+        let dropped = self.dropped_records.get();
+        match self.processor.try_borrow() {
+            Ok(processor) => dropped.saturating_add(processor.dropped_records()),
+            Err(_) => dropped,
+        }
+    }
+
+    /// Returns the error of a processor that is at work.
+    fn at_work(&self) -> OTelSdkError {
+        match String::from_str(self.alloc, "the processor is at work") {
+            Ok(words) => OTelSdkError::InternalFailure(words),
+            Err(error) => OTelSdkError::from(error),
+        }
+    }
+}
+
+/// Makes the loggers of the SDK, which share its processor and clock (the Rust crate's
+/// `SdkLoggerProvider`).
+///
+/// A record that is emitted while the processor is at work, as from within its exporter, is dropped
+/// and counted.
+///
+/// Contracts see its resource.
+///
+/// ```
+/// let provider = SdkLoggerProvider::builder(rt)
+///     .with_log_processor(processor)
+///     .build(alloc)?;
+/// let logger = provider.logger(alloc, StringValue::from("tests"))?;
+/// ```
+#[derive(Drop)]
+pub struct SdkLoggerProvider<P, C> {
+    inner: Rc<LoggerProviderInner<P, C>>,
+}
+
+impl<P, C> Model for SdkLoggerProvider<P, C> {
+    ghost use Rattle.std.specs.Rc.{rc_value};
+    ghost use Rattle.otel_sdk_span.specs.Resource.{Parts};
+
+    ghost Value = { Parts };
+
+    ghost view = { λ p. rc_value (rc_value p.inner).resource };
+}
+
+impl<R: std::time::Clock + Copy + Drop> SdkLoggerProvider<(), SystemClock<R>> {
+    /// Starts a provider with the defaults: the clock is the system's. It needs a processor. Takes no
+    /// memory.
+    pub fn builder(rt: R) -> LoggerProviderBuilder<(), SystemClock<R>>
+        ensures { result.resource ≡ None }
+    {
+        LoggerProviderBuilder {
+            resource: None,
+            processor: (),
+            clock: SystemClock::new(rt),
+        }
+    }
+}
+
+impl<P: LogProcessor, C: Clock> SdkLoggerProvider<P, C> {
+    /// Returns what the telemetry is about.
+    pub fn resource(&self) -> &Resource
+        ensures { result.now ≡ self.now }
+    {
+        &self.inner.resource
+    }
+
+    /// Returns the processor, to look at. A record that is emitted meanwhile is dropped and counted.
+    ///
+    /// # Errors
+    ///
+    /// `BorrowError` from within the processor's own work.
+    pub fn processor(&self) -> Result<Ref<'_, P>, BorrowError> {
+        self.inner.processor.try_borrow()
+    }
+
+    /// Returns how many records were dropped: those of the processor, and those that didn't reach
+    /// it. From within the processor's own work only the latter.
+    pub fn dropped_records(&self) -> u64 {
+        self.inner.dropped_records()
+    }
+
+    /// Flushes the processor.
+    ///
+    /// # Errors
+    ///
+    /// Those of [`LogProcessor::force_flush`], and `InternalFailure` from within the processor's own
+    /// work.
+    pub fn force_flush(&self) -> OTelSdkResult {
+        match self.inner.processor.try_borrow_mut() {
+            Ok(mut processor) => processor.force_flush(),
+            Err(_) => Err(self.inner.at_work()),
+        }
+    }
+
+    /// Shuts the processor down: from now on its loggers enable no event, and each record is dropped
+    /// and counted.
+    ///
+    /// # Errors
+    ///
+    /// Those of [`LogProcessor::shutdown`], and `InternalFailure` from within the processor's own
+    /// work. If the flush failed, the provider stays open for another try.
+    pub fn shutdown(&self) -> OTelSdkResult {
+        match self.inner.processor.try_borrow_mut() {
+            Ok(mut processor) => processor.shutdown(),
+            Err(_) => Err(self.inner.at_work()),
+        }
+    }
+}
+
+impl<P: LogProcessor, C: Clock> LoggerProvider for SdkLoggerProvider<P, C> {
+    ghost use Rattle.std.specs.Prelude.{◌≡◌};
+
+    type Logger = SdkLogger<P, C>;
+
+    ghost may_give = { λ _ scope logger. logger ≡ scope };
+
+    /// Returns a logger of that scope.
+    ///
+    /// # Errors
+    ///
+    /// `AllocError` if out of memory. The scope is dropped.
+    fn logger_with_scope(
+        &self,
+        alloc: Global,
+        scope: InstrumentationScope,
+    ) -> Result<SdkLogger<P, C>, AllocError> {
+        Ok(SdkLogger {
+            provider: self.inner.clone()?,
+            scope: Rc::new(alloc, scope)?,
+        })
+    }
+
+    // As the trait has it: the toolchain doesn't cover a default method for this type.
+    fn logger(&self, alloc: Global, name: StringValue) -> Result<SdkLogger<P, C>, AllocError> {
+        let scope = InstrumentationScope::builder(name).build(alloc)?;
+        self.logger_with_scope(alloc, scope)
+    }
+}
+
+/// The parts of a provider while they are given (the Rust crate's `LoggerProviderBuilder`, with one
+/// processor).
+///
+/// Contracts see its processor, and its resource if one is given.
+///
+/// See [`SdkLoggerProvider`].
+#[derive(Drop)]
+pub struct LoggerProviderBuilder<P, C> {
+    resource: Option<Resource>,
+    processor: P,
+    clock: C,
+}
+
+impl<P, C> Model for LoggerProviderBuilder<P, C> {
+    ghost use Rattle.otel_sdk_logs.specs.Provider.{ProviderParts};
+
+    ghost Value = { ProviderParts P };
+
+    ghost view = { λ b. record {
+      processor = b.processor;
+      resource = b.resource;
+    } };
+}
+
+impl<C: Clock> LoggerProviderBuilder<(), C> {
+    /// Sets what takes the records, and hands them to an exporter.
+    pub fn with_log_processor<P: LogProcessor>(self, processor: P) -> LoggerProviderBuilder<P, C>
+        ensures { result ≡ record { processor = processor; resource = self.resource } }
+    {
+        LoggerProviderBuilder {
+            resource: self.resource,
+            processor,
+            clock: self.clock,
+        }
+    }
+}
+
+impl<P: Drop, C: Clock> LoggerProviderBuilder<P, C> {
+    /// Sets what the telemetry is about, in place of the default resource. A second one is merged
+    /// into the first.
+    ///
+    /// # Errors
+    ///
+    /// `AllocError` if out of memory. The parts are dropped.
+    pub fn with_resource(self, resource: Resource) -> Result<Self, AllocError>
+        ensures { IfOk result (λ b. b ≡ record self {
+          resource = Some (option_map_or (λ old. merge old resource) self.resource resource);
+        }) }
+    {
+        let LoggerProviderBuilder {
+            resource: given,
+            processor,
+            clock,
+        } = self;
+        let resource = match given {
+            Some(old) => old.merge(resource)?,
+            None => resource,
+        };
+        Ok(LoggerProviderBuilder {
+            resource: Some(resource),
+            processor,
+            clock,
+        })
+    }
+
+    /// Sets what reads the moments at which records are observed.
+    pub fn with_clock<T: Clock>(self, clock: T) -> LoggerProviderBuilder<P, T>
+        ensures { result ≡ self }
+    {
+        LoggerProviderBuilder {
+            resource: self.resource,
+            processor: self.processor,
+            clock,
+        }
+    }
+}
+
+impl<P: LogProcessor, C: Clock> LoggerProviderBuilder<P, C> {
+    /// Returns the provider of the given parts. The processor is told the resource.
+    ///
+    /// # Errors
+    ///
+    /// `AllocError` if out of memory. The parts are dropped.
+    pub fn build(self, alloc: Global) -> Result<SdkLoggerProvider<P, C>, AllocError>
+        ensures { IfOk result (λ p. p ≡ unwrap_or self.resource with_defaults) }
+    {
+        let LoggerProviderBuilder {
+            resource,
+            mut processor,
+            clock,
+        } = self;
+        let resource = match resource {
+            Some(resource) => resource,
+            None => Resource::builder(alloc)?.build(),
+        };
+        let resource = Rc::new(alloc, resource)?;
+        processor.set_resource(resource.clone()?);
+        let inner = LoggerProviderInner {
+            alloc,
+            resource,
+            processor: RefCell::new(processor),
+            clock,
+            dropped_records: Cell::new(0),
+        };
+        Ok(SdkLoggerProvider {
+            inner: Rc::new(alloc, inner)?,
+        })
+    }
+}
