@@ -1,5 +1,5 @@
 -- Ended spans on their way to a processor: none is lost.
-use Rattle.std.proofs.Common.{◌≡◌, ℕ, zero, suc, ◌+◌, ◌-◌, ◌^◌, min, Bool, true, false, cond, List, [], ◌∷◌, ◌++◌, length}
+use Rattle.std.proofs.Common.{◌≡◌, ℕ, zero, suc, ◌+◌, ◌-◌, ◌^◌, ◌*◌, ◌<◌, ◌≤◌, get_or, min, Bool, true, false, cond, List, [], ◌∷◌, ◌++◌, length}
 use Rattle.std.proofs.Common.{take, drop, map, fold, Option, Some, None, refl, sym, ap, subst, ◌∙◌, arith, append_assoc}
 use Rattle.std.specs.Prelude.{◌==◌, if◌then◌else◌, nat_lt}
 use Rattle.std.specs.List.{filter_map, IsDistinct, AllByRecursion, cons_option}
@@ -9,14 +9,15 @@ use Rattle.std.specs.FinMap as map
 use Rattle.std.specs.declared.cmp.Ordering.{Ordering}
 use Rattle.std.specs.declared.cmp.Ordering.TheVariants.{Less, Equal, Greater}
 use Rattle.std.proofs.lemmas.Cmp.{nat_eq_equiv}
-use Rattle.std.proofs.lemmas.List.{map-append, length-append, append-nil}
+use Rattle.std.proofs.lemmas.List.{map-append, length-append, append-nil, take_more}
 use Rattle.std.proofs.lemmas.List.Elements.{filter_map-append}
 use Rattle.otel_context.specs.Spans as table
 use Rattle.otel_context.specs.Spans.{SpansState}
 use Rattle.otel_sdk.specs.Ended.{Collecting, Fate, NothingLost, after_end_of, after_end_if, dropped, ended_data, exported}
-use Rattle.otel_sdk.specs.Ended.{AreListed, is_ended, kept, waiting, without_ended}
+use Rattle.otel_sdk.specs.Ended.{AreHandedOn, AreListed, EachIsHandedOn, OnlyFlushes, is_ended, kept, waiting}
 use Rattle.otel_sdk.specs.Export.{spans_of}
-use Rattle.otel_sdk.specs.Processor.{ProcessorState, counted, is_sampled, one_more, queued, taken_of}
+use Rattle.otel_sdk.specs.Processor.{ProcessorState, Taken, counted, is_sampled, one_more, queued, taken_of}
+use Rattle.otel_sdk.proofs.BatchLemmas.{keeps}
 use Rattle.otel_sdk_span.specs.Span.{SpanState}
 use Rattle.otel_sdk_span.specs.SpanData.{SpanRecord}
 
@@ -181,3 +182,106 @@ module _ {E : Type 0} where
       (sym (e ∙ ap (λ (ns : List ℕ). fold after_end_of old (take k ns)) s))
       (subst (λ (ns : List ℕ). AreListed (fold after_end_of old (take k numbers)).spans ns) (sym r)
       (stay_listed k numbers old h))
+
+-- ---- each handed in to an empty queue, and flushed
+
+module _ {E : Type 0} (accepted : E → List (List SpanRecord)) where
+  pub flush-loses_nothing : (earlier ends : List SpanRecord) (c d : Collecting E) (ns : List ℕ) → OnlyFlushes accepted c d
+      → NothingLost accepted earlier ends c ns → NothingLost accepted earlier ends d ns
+  flush-loses_nothing earlier ends c d ns f h =
+      let taken : taken_of accepted d.processor ≡ taken_of accepted c.processor =
+      keeps accepted c.processor d.processor f.flushed in
+      record {
+        fates = h.fates;
+        ended = h.ended ∙ ap (λ (x : SpansState SpanState). map (λ (f : Fate). f.span) h.fates ++ waiting x ns) (sym f.spans);
+        taken = ap (λ (t : Taken). t.spans) taken ∙ h.taken;
+        counted = ap (λ (t : Taken). t.dropped) taken ∙ h.counted;
+      }
+
+  flush-listed : (c d : Collecting E) (ns : List ℕ) → OnlyFlushes accepted c d → AreListed c.spans ns → AreListed d.spans ns
+  flush-listed c d ns f h = subst (λ (x : SpansState SpanState). AreListed x ns) (sym f.spans) h
+
+  handed_on-steps : (earlier ends : List SpanRecord) (k : ℕ) (ns : List ℕ) (c d : Collecting E) → IsDistinct ◌==◌ ns
+      → EachIsHandedOn accepted (take k ns) c d → NothingLost accepted earlier ends c ns
+      → NothingLost accepted earlier ends d (drop k ns)
+  unfolding IsDistinct
+  handed_on-steps earlier ends zero ns c d distinct e h = flush-loses_nothing earlier ends c d ns e h
+  handed_on-steps earlier ends (suc k) [] c d distinct e h = flush-loses_nothing earlier ends c d [] e h
+  handed_on-steps earlier ends (suc k) (n ∷ ns) c d distinct e h =
+      handed_on-steps earlier ends k ns (after_end_of e.0 n) d distinct.1 e.3
+      (step accepted earlier ends e.0 n ns distinct.0 (flush-loses_nothing earlier ends c e.0 (n ∷ ns) e.1 h))
+
+  handed_on-stay_listed : (k : ℕ) (ns : List ℕ) (c d : Collecting E) → EachIsHandedOn accepted (take k ns) c d
+      → AreListed c.spans ns → AreListed d.spans (drop k ns)
+  unfolding IsDistinct
+  handed_on-stay_listed zero ns c d e h = flush-listed c d ns e h
+  handed_on-stay_listed (suc k) [] c d e h = flush-listed c d [] e h
+  handed_on-stay_listed (suc k) (n ∷ ns) c d e h =
+      let now : AreListed e.0.spans (n ∷ ns) = flush-listed c e.0 (n ∷ ns) e.1 h in
+      handed_on-stay_listed k ns (after_end_of e.0 n) d e.3 (record {
+        ended = left_listed e.0.spans n (is_ended (table.get e.0.spans n)) ns now.distinct.0 now.ended.1;
+        distinct = now.distinct.1;
+      })
+
+  pub handed_on-loses_nothing : (earlier ends : List SpanRecord) (numbers left : List ℕ) (c d : Collecting E)
+      → AreHandedOn accepted numbers left c d → IsDistinct ◌==◌ numbers
+      → NothingLost accepted earlier ends c numbers → NothingLost accepted earlier ends d left
+  handed_on-loses_nothing earlier ends numbers left c d a distinct h =
+      subst (λ (ns : List ℕ). NothingLost accepted earlier ends d ns) (sym a.rest)
+      (handed_on-steps earlier ends a.count numbers c d distinct a.handed_on h)
+
+  pub handed_on-listed : (numbers left : List ℕ) (c d : Collecting E) → AreHandedOn accepted numbers left c d
+      → AreListed c.spans numbers → AreListed d.spans left
+  handed_on-listed numbers left c d a h =
+      subst (λ (ns : List ℕ). AreListed d.spans ns) (sym a.rest) (handed_on-stay_listed a.count numbers c d a.handed_on h)
+
+  -- the queue was flushed before each span that was handed in, and not yet after the last one
+  abbrev pub HandsIn : List ℕ → Collecting E → Collecting E → Type 0
+  HandsIn [] a b = b ≡ a
+  HandsIn (n ∷ ns) a b = (between : Collecting E) × OnlyFlushes accepted a between
+      × (between.processor.queue ≡ []) × HandsIn ns (after_end_of between n) b
+
+  pub hands_one_more : (ns : List ℕ) (n : ℕ) (a b d e : Collecting E) → HandsIn ns a b → OnlyFlushes accepted b d
+      → d.processor.queue ≡ [] → e ≡ after_end_of d n → HandsIn (ns ++ n ∷ []) a e
+  hands_one_more [] n a b d e h f none same = (d, subst (λ (c : Collecting E). OnlyFlushes accepted c d) h f, none, same)
+  hands_one_more (m ∷ ns) n a b d e h f none same =
+      (h.0, h.1, h.2, hands_one_more ns n (after_end_of h.0 m) b d e h.3 f none same)
+
+  pub takes_one_more : (xs : List ℕ) (i n : ℕ) (a b d e : Collecting E) → i < length xs → n ≡ get_or xs i n
+      → HandsIn (take i xs) a b → OnlyFlushes accepted b d → d.processor.queue ≡ [] → e ≡ after_end_of d n
+      → HandsIn (take (i + 1) xs) a e
+  takes_one_more xs i n a b d e lt is h f none same =
+      subst (λ (ns : List ℕ). HandsIn ns a e)
+      (sym (take_more xs i n lt ∙ ap (λ (m : ℕ). take i xs ++ m ∷ []) (sym is)))
+      (hands_one_more (take i xs) n a b d e h f none same)
+
+  pub hands_on : (ns : List ℕ) (a b d : Collecting E) → HandsIn ns a b → OnlyFlushes accepted b d
+      → EachIsHandedOn accepted ns a d
+  hands_on [] a b d h f = subst (λ (c : Collecting E). OnlyFlushes accepted c d) h f
+  hands_on (n ∷ ns) a b d h f = (h.0, h.1, h.2, hands_on ns (after_end_of h.0 n) b d h.3 f)
+
+  zero_times : (size : ℕ) → 0 ≡ 0 * size
+  zero_times size = omega arith
+
+  pub flushes_nothing : (c : Collecting E) → OnlyFlushes accepted c c
+  flushes_nothing c = record {
+    flushed = record {
+      exported = record {
+        count = 0;
+        filled = λ k lt. absurd (omega arith);
+        accepted = sym (append-nil (accepted c.processor.exporter));
+        rest = ap (λ (n : ℕ). drop n c.processor.queue) (zero_times c.processor.config.max_export_batch_size);
+      };
+      same = refl;
+    };
+    spans = refl;
+  }
+
+  pub handed_on_part : (numbers same left : List ℕ) (k : ℕ) (c d : Collecting E) → same ≡ numbers → k ≤ length same
+      → EachIsHandedOn accepted (take k same) c d → left ≡ drop k numbers → AreHandedOn accepted numbers left c d
+  handed_on_part numbers same left k c d s le e r = record {
+    count = k;
+    within = subst (λ (ns : List ℕ). k ≤ length ns) s le;
+    rest = r;
+    handed_on = subst (λ (ns : List ℕ). EachIsHandedOn accepted (take k ns) c d) s e;
+  }

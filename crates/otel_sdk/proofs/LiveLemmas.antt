@@ -14,10 +14,10 @@ use Rattle.otel_context.specs.Spans.{SpansState}
 use Rattle.otel_context.specs.SpanCalls.{after_effect}
 use Rattle.otel_sdk.specs.Processor.{ProcessorState}
 use Rattle.otel_sdk.specs.Ended.{AreCollected, AreListed, Collecting, after_end_of, of, ended_data, exported, is_ended, waiting}
-use Rattle.otel_sdk.specs.LiveState.{LiveState, with_started, with_changed, with_ended, with_end_of}
+use Rattle.otel_sdk.specs.LiveState.{LiveState, with_ended, with_end_of}
 use Rattle.otel_sdk_span.specs.Span.{SpanState, after_end, recording}
 use Rattle.otel_sdk.specs.SpanChange.{change_of}
-use Rattle.otel_sdk.specs.SpanEnd.{EndsNow, EndsNothing, is_running}
+use Rattle.otel_sdk.specs.SpanEnd.{EndsNow, is_running}
 use Rattle.otel_sdk_span.specs.SpanData.{SpanRecord}
 use Rattle.otel_sdk.specs.declared.trace.change.SpanChange.{SpanChange}
 use Rattle.otel_sdk.specs.declared.trace.change.SpanChange.TheVariants.{SetAttribute, AddEvent}
@@ -279,7 +279,7 @@ none-fit a n e =
     omega arith
 
 module _ {F : Type 0} where
-  pub start-listed : (r : Result ℕ F) (a b : SpansState SpanState) (s : SpanState) (ns ms : List ℕ)
+  pub start-listed : {X : Type 0} (r : Result X F) (a b : SpansState SpanState) (s : SpanState) (ns ms : List ℕ)
       → OnOk r (b ≡ table.insert a s) → OnErr r (b ≡ a) → table.get a a.next_number ≡ None → ms ≡ ns
       → AreListed a ns → AreListed b ms
   start-listed (Ok n) a b s ns ms ok err fresh same h =
@@ -290,7 +290,7 @@ module _ {F : Type 0} where
       subst (λ (x : SpansState SpanState). AreListed x ms) (sym err)
       (subst (λ (xs : List ℕ). AreListed a xs) (sym same) h)
 
-  pub start-fits : (r : Result ℕ F) (a b : SpansState SpanState) (s : SpanState) (room : ℕ)
+  pub start-fits : {X : Type 0} (r : Result X F) (a b : SpansState SpanState) (s : SpanState) (room : ℕ)
       → OnOk r (b ≡ table.insert a s) → OnErr r (b ≡ a) → table.len a + 1 ≤ room → table.len b ≤ room
   start-fits (Ok n) a b s room ok err h =
       let more : table.len (table.insert a s) ≤ table.len a + 1 = len-started a s in

@@ -1,11 +1,11 @@
 -- How the ended spans of a table get to a processor.
 use Rattle.std.specs.Prelude.{◌≡◌, ℕ, ◌-◌, ◌^◌, ◌≤◌, min, Bool, false, true, List, ◌++◌}
-use Rattle.std.specs.Prelude.{length, take, drop, ◌==◌}
+use Rattle.std.specs.Prelude.{[], ◌∷◌, length, take, drop, ◌==◌}
 use Rattle.std.specs.Prelude.{map, fold, Option, Some, None, if◌then◌else◌}
 use Rattle.std.specs.List.{filter_map, AllByRecursion, IsDistinct}
 use Rattle.otel_context.specs.Spans as table
 use Rattle.otel_context.specs.Spans.{SpansState}
-use Rattle.otel_sdk.specs.Processor.{ProcessorState, after_end, is_sampled, taken_of}
+use Rattle.otel_sdk.specs.Processor.{IsFlushed, ProcessorState, after_end, is_sampled, taken_of}
 use Rattle.otel_sdk_span.specs.Span.{SpanState}
 use Rattle.otel_sdk_span.specs.SpanData.{SpanRecord}
 
@@ -105,3 +105,31 @@ module _ {E : Type 0} where
       → (old new : Collecting E) → Type 0
   LosesNothing accepted numbers left old new = (earlier ends : List SpanRecord)
       → NothingLost accepted earlier ends old numbers → NothingLost accepted earlier ends new left
+
+  -- The first batches of the queue were accepted, and the table stays.
+  pub record OnlyFlushes (accepted : E → List (List SpanRecord)) (old new : Collecting E)
+      : Type 0 where
+    pub flushed : IsFlushed accepted old.processor new.processor
+    pub spans : new.spans ≡ old.spans
+
+  -- The span under the number was handed in, and then the queue was flushed.
+  abbrev pub IsHandedOn : (E → List (List SpanRecord)) → ℕ → Collecting E → Collecting E → Type 0
+  IsHandedOn accepted number old new = OnlyFlushes accepted (after_end_of old number) new
+
+  -- The queue was flushed, and each of the spans under the numbers was handed in to an empty queue
+  -- that was then flushed.
+  abbrev pub EachIsHandedOn : (E → List (List SpanRecord)) → List ℕ → Collecting E → Collecting E
+      → Type 0
+  EachIsHandedOn accepted [] old new = OnlyFlushes accepted old new
+  EachIsHandedOn accepted (number ∷ numbers) old new = (between : Collecting E)
+      × OnlyFlushes accepted old between × (between.processor.queue ≡ [])
+      × EachIsHandedOn accepted numbers (after_end_of between number) new
+
+  -- The first of the numbers were handed on, in order and each once, and the others are left.
+  pub record AreHandedOn (accepted : E → List (List SpanRecord)) (numbers left : List ℕ)
+      (old new : Collecting E) : Type 0 where
+    -- how many
+    pub count : ℕ
+    pub within : count ≤ length numbers
+    pub rest : left ≡ drop count numbers
+    pub handed_on : EachIsHandedOn accepted (take count numbers) old new

@@ -1,6 +1,7 @@
 pub mod Ended
 pub mod Export
 pub mod LiveState
+pub mod Parents
 pub mod Processor
 pub mod Run
 pub mod SpanChange

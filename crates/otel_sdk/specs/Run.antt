@@ -1,109 +1,233 @@
 -- What a run of events over the spans of a program means. Not in the Rust crate.
-use Rattle.std.specs.Prelude.{◌≡◌, ℕ, List, [], ◌∷◌, alloc_error}
-use Rattle.otel_context.specs.Context.{ContextRecord}
-use Rattle.otel_context.specs.Spans.{used_up}
+use Rattle.std.specs.Prelude.{◌≡◌, ◌⊎◌, true, false, List, [], ◌∷◌, alloc_error, IsTrue}
+use Rattle.otel_context.specs.Context.{ContextRecord, with_span}
+use Rattle.otel_context.specs.Spans.{SpansState, insert, starting_at, used_up}
+use Rattle.otel_context.specs.Stack as stack
+use Rattle.otel_context.specs.Stack.{Live}
+use Rattle.otel_context.specs.declared.span.spans.SpanCause.{SpanCause}
+use Rattle.otel_context.specs.declared.span.spans.SpanCause.TheVariants as cause_of
 use Rattle.opentelemetry.specs.SpanBuilder.{BuilderRecord}
 use Rattle.opentelemetry.specs.View.{builder_of}
 use Rattle.otel_sdk.specs.Ended.{AreCollected, NothingLost, of, waiting}
 use Rattle.otel_sdk.specs.Export.{spans_of}
 use Rattle.otel_sdk.specs.LiveState.{LiveState, no_spans, with_started, with_changed, with_ended}
-use Rattle.otel_sdk.specs.Processor.{IsFlushed, Limits, ProcessorState, cause, new as new_processor}
+use Rattle.otel_sdk.specs.Parents.{HaveParents, StartChildren, given}
+use Rattle.otel_sdk.specs.Processor.{IsClosed, IsFlushed, Limits, ProcessorState, cause, new as new_processor}
 use Rattle.otel_sdk_span.specs.Span.{SpanState}
 use Rattle.otel_sdk.specs.SpanChange.{change_of}
 use Rattle.otel_sdk_span.specs.SpanData.{SpanRecord}
 use Rattle.otel_sdk_span.specs.declared.error.OTelSdkError.{OTelSdkError}
-use Rattle.otel_sdk_span.specs.declared.error.OTelSdkError.TheVariants.{Memory}
+use Rattle.otel_sdk_span.specs.declared.error.OTelSdkError.TheVariants.{AlreadyShutdown, Memory}
 use Rattle.otel_sdk.specs.declared.trace.program.event.SpanEvent.{SpanEvent}
-use Rattle.otel_sdk.specs.declared.trace.program.event.SpanEvent.TheVariants.{Start, Change, End}
-use Rattle.otel_sdk.specs.declared.trace.program.event.SpanEvent.TheVariants.{Collect, Flush}
+use Rattle.otel_sdk.specs.declared.trace.program.event.SpanEvent.TheVariants.{Start, StartCurrent}
+use Rattle.otel_sdk.specs.declared.trace.program.event.SpanEvent.TheVariants.{StartActive, Attach}
+use Rattle.otel_sdk.specs.declared.trace.program.event.SpanEvent.TheVariants.{Detach, Change, End}
+use Rattle.otel_sdk.specs.declared.trace.program.event.SpanEvent.TheVariants.{Collect, Flush, Shutdown}
 use Rattle.otel_sdk.specs.declared.trace.program.event.EventOutcome.{EventOutcome}
 use Rattle.otel_sdk.specs.declared.trace.program.event.EventOutcome.TheVariants.{Done, NumbersUsedUp}
-use Rattle.otel_sdk.specs.declared.trace.program.event.EventOutcome.TheVariants.{Failed}
+use Rattle.otel_sdk.specs.declared.trace.program.event.EventOutcome.TheVariants.{NotAttached, Failed}
 
 -- The history of a run has each span that was started, also after a processor took it, and the
 -- numbers of all that ended, in the order of their ends. The live spans are those that no processor
--- has taken.
+-- has taken. The stack has the contexts that are attached, each at its position. Under the number of
+-- each span of the history stands the context that it was started under.
 pub record RunState (E : Type 0) : Type 0 where
   pub history : LiveState
+  pub parents : SpansState ContextRecord
   pub live : LiveState
+  pub stack : Live
   pub processor : ProcessorState E
+
+-- the outcome of a start that is refused for that reason
+abbrev pub outcome_of : SpanCause → EventOutcome
+outcome_of cause_of.NumbersUsedUp = NumbersUsedUp
+outcome_of (cause_of.Memory error) = Failed (Memory error)
 
 -- One span was started, of those that may, or an error says why not: then nothing changed.
 abbrev pub StartsOne : (SpanState → Type 0) → LiveState → LiveState → EventOutcome → Type 0
 StartsOne May old new Done = (span : SpanState) × May span × (new ≡ with_started span old)
 StartsOne May old new NumbersUsedUp = (old.spans.next_number ≡ used_up) × (new ≡ old)
+StartsOne May old new NotAttached = ⊥
 StartsOne May old new (Failed error) = (error ≡ Memory alloc_error) × (new ≡ old)
 
+-- The context was attached, or was not, as the greatest position is live or for an error: then
+-- nothing changed.
+abbrev pub AttachesOne : ContextRecord → Live → Live → EventOutcome → Type 0
+AttachesOne context old new Done = new ≡ stack.attach context old
+AttachesOne context old new NumbersUsedUp = ⊥
+AttachesOne context old new NotAttached =
+    (stack.newest_position old ≡ stack.last_position) × (new ≡ old)
+AttachesOne context old new (Failed error) = (error ≡ Memory alloc_error) × (new ≡ old)
+
+-- the current context, with the span as its active one, under the next number of the live spans
+abbrev pub active_context : SpanState → LiveState → Live → ContextRecord
+active_context span live contexts =
+    with_span (stack.current contexts) span.context live.spans.next_number
+
+-- One span was started, of those that may under the current context, and that context was attached
+-- with it, or was not; or an error says why no span was started: then nothing changed.
+abbrev pub StartsActive : (ContextRecord → SpanState → Type 0) → LiveState → Live → LiveState → Live
+    → EventOutcome → Type 0
+StartsActive May old contexts new after Done = (span : SpanState)
+    × May (stack.current contexts) span × (new ≡ with_started span old)
+    × (after ≡ stack.attach (active_context span old contexts) contexts)
+StartsActive May old contexts new after NumbersUsedUp =
+    (old.spans.next_number ≡ used_up) × (new ≡ old) × (after ≡ contexts)
+StartsActive May old contexts new after NotAttached = (span : SpanState)
+    × May (stack.current contexts) span × (new ≡ with_started span old) × (after ≡ contexts)
+StartsActive May old contexts new after (Failed error) =
+    (error ≡ Memory alloc_error) × (new ≡ old) × (after ≡ contexts)
+
 module _ {E : Type 0} where
-  -- these three
-  abbrev pub state_of : LiveState → LiveState → ProcessorState E → RunState E
-  state_of history live processor = record {
+  -- these five
+  abbrev pub state_of : LiveState → SpansState ContextRecord → LiveState → Live → ProcessorState E
+      → RunState E
+  state_of history parents live contexts processor = record {
     history = history;
+    parents = parents;
     live = live;
+    stack = contexts;
     processor = processor;
   }
 
   -- before the first event
   abbrev pub at_start : E → Limits → RunState E
-  at_start exporter config = state_of no_spans no_spans (new_processor exporter config)
+  at_start exporter config =
+      state_of no_spans (starting_at 0) no_spans [] (new_processor exporter config)
 
-  -- the history and the live spans changed so, and the processor stays
+  -- the history and the live spans changed so, and the rest stays
   abbrev pub with_both : (LiveState → LiveState) → RunState E → RunState E
-  with_both change old = state_of (change old.history) (change old.live) old.processor
+  with_both change old = record old { history = change old.history; live = change old.live }
 
-  -- the first of the ended spans were handed to the processor, in the order of their ends
+  -- the span was started under that context
+  abbrev pub with_child : ContextRecord → SpanState → RunState E → RunState E
+  with_child parent span old = record old {
+    history = with_started span old.history;
+    parents = insert old.parents parent;
+    live = with_started span old.live;
+  }
+
+  -- the stack is this one, and the rest stays
+  abbrev pub with_stack : Live → RunState E → RunState E
+  with_stack contexts old = record old { stack = contexts }
+
+  -- the first of the ended spans were handed to the processor, in the order of their ends; none if it
+  -- was shut down
   pub record IsCollected (old new : RunState E) : Type 0 where
-    pub history : new.history ≡ old.history
+    pub same : new ≡ record old { live = new.live; processor = new.processor }
     pub collected : AreCollected old.live.ended new.live.ended
         (of old.processor old.live.spans) (of new.processor new.live.spans)
+    pub closed : IsTrue old.processor.is_shut_down → new ≡ old
 
-  -- the first batches of the queue were accepted, in order
+  -- the first batches of the queue were accepted, in order; none if the processor was shut down
   pub record IsExported (accepted : E → List (List SpanRecord)) (old new : RunState E)
       : Type 0 where
-    pub history : new.history ≡ old.history
-    pub live : new.live ≡ old.live
     pub flushed : IsFlushed accepted old.processor new.processor
+    pub same : new ≡ record old { processor = new.processor }
+    pub closed : IsTrue old.processor.is_shut_down → new ≡ old
 
-  module _ (accepted : E → List (List SpanRecord))
+  -- The queue was exported whole, and the exporter and the processor were shut down.
+  pub record IsShutDown (accepted : E → List (List SpanRecord)) (shuts_down : E → E → Type 0)
+      (old new : RunState E) : Type 0 where
+    pub was_open : old.processor.is_shut_down ≡ false
+    pub closed : IsClosed accepted shuts_down old.processor new.processor
+    pub same : new ≡ record old { processor = new.processor }
+
+  -- A shutdown failed with this error: the processor was shut down before, and nothing changed; or
+  -- the flush failed, and the processor is open; or its exporter failed, and it is shut down.
+  abbrev pub FailsToClose : (E → List (List SpanRecord)) → (E → E → Type 0) → OTelSdkError
+      → RunState E → RunState E → Type 0
+  FailsToClose accepted shuts_down error old new =
+      (IsTrue old.processor.is_shut_down × (error ≡ AlreadyShutdown) × (new ≡ old))
+      ⊎ (((new.processor.is_shut_down ≡ false) × IsExported accepted old new)
+      ⊎ IsShutDown accepted shuts_down old new)
+
+  -- The processor is as it was, and wasn't shut down; or its exporter and it were shut down, with an
+  -- empty queue.
+  abbrev pub WasOpen : (E → E → Type 0) → ProcessorState E → ProcessorState E → Type 0
+  WasOpen shuts_down before processor = (before.is_shut_down ≡ false) × ((processor ≡ before)
+      ⊎ ((before.queue ≡ []) × shuts_down before.exporter processor.exporter
+      × (processor ≡ record before { exporter = processor.exporter; is_shut_down = true })))
+
+  module _ (accepted : E → List (List SpanRecord)) (shuts_down : E → E → Type 0)
       (may_start : BuilderRecord → ContextRecord → SpanState → Type 0) where
     -- the event took effect: each ended span was collected, each queued one exported
     abbrev pub Takes : SpanEvent → RunState E → RunState E → Type 0
     Takes (Start builder parent) old new = (span : SpanState)
-        × may_start (builder_of builder) parent span × (new ≡ with_both (with_started span) old)
+        × may_start (builder_of builder) parent span × (new ≡ with_child parent span old)
+    Takes (StartCurrent builder) old new = (span : SpanState)
+        × may_start (builder_of builder) (stack.current old.stack) span
+        × (new ≡ with_child (stack.current old.stack) span old)
+    Takes (StartActive builder) old new = (span : SpanState)
+        × may_start (builder_of builder) (stack.current old.stack) span
+        × (new ≡ with_stack (stack.attach (active_context span old.live old.stack) old.stack)
+        (with_child (stack.current old.stack) span old))
+    Takes (Attach context) old new = new ≡ with_stack (stack.attach context old.stack) old
+    Takes (Detach position) old new = new ≡ with_stack (stack.detach position old.stack) old
     Takes (Change number change) old new = new ≡ with_both (with_changed (change_of change) number) old
     Takes (End number time) old new = new ≡ with_both (with_ended number time) old
     Takes Collect old new = IsCollected old new × (new.live.ended ≡ [])
     Takes Flush old new = IsExported accepted old new × (new.processor.queue ≡ [])
+    Takes Shutdown old new = IsShutDown accepted shuts_down old new
 
-    -- The event failed with this error: a collection or a flush did the first part, and any other
-    -- event nothing. An end never fails.
+    -- The event failed with this error: a collection or a flush did the first part, a shutdown that
+    -- or the whole, and any other event nothing. An end and a detach never fail.
     abbrev pub Fails : SpanEvent → OTelSdkError → RunState E → RunState E → Type 0
     Fails (Start builder parent) error old new = (error ≡ Memory alloc_error) × (new ≡ old)
+    Fails (StartCurrent builder) error old new = (error ≡ Memory alloc_error) × (new ≡ old)
+    Fails (StartActive builder) error old new = (error ≡ Memory alloc_error) × (new ≡ old)
+    Fails (Attach context) error old new = (error ≡ Memory alloc_error) × (new ≡ old)
+    Fails (Detach position) error old new = ⊥
     Fails (Change number change) error old new = (error ≡ Memory alloc_error) × (new ≡ old)
     Fails (End number time) error old new = ⊥
     Fails Collect error old new = (error ≡ cause new.processor) × IsCollected old new
     Fails Flush error old new = IsExported accepted old new
+    Fails Shutdown error old new = FailsToClose accepted shuts_down error old new
 
     -- no number was left for the span, and nothing changed
     abbrev pub RunsOut : SpanEvent → RunState E → RunState E → Type 0
     RunsOut (Start builder parent) old new = (old.live.spans.next_number ≡ used_up) × (new ≡ old)
+    RunsOut (StartCurrent builder) old new = (old.live.spans.next_number ≡ used_up) × (new ≡ old)
+    RunsOut (StartActive builder) old new = (old.live.spans.next_number ≡ used_up) × (new ≡ old)
+    RunsOut (Attach context) old new = ⊥
+    RunsOut (Detach position) old new = ⊥
     RunsOut (Change number change) old new = ⊥
     RunsOut (End number time) old new = ⊥
     RunsOut Collect old new = ⊥
     RunsOut Flush old new = ⊥
+    RunsOut Shutdown old new = ⊥
+
+    -- the context wasn't attached; a span that was to be its active one was started
+    abbrev pub StaysUnattached : SpanEvent → RunState E → RunState E → Type 0
+    StaysUnattached (Start builder parent) old new = ⊥
+    StaysUnattached (StartCurrent builder) old new = ⊥
+    StaysUnattached (StartActive builder) old new = (span : SpanState)
+        × may_start (builder_of builder) (stack.current old.stack) span
+        × (new ≡ with_child (stack.current old.stack) span old)
+    StaysUnattached (Attach context) old new =
+        (stack.newest_position old.stack ≡ stack.last_position) × (new ≡ old)
+    StaysUnattached (Detach position) old new = ⊥
+    StaysUnattached (Change number change) old new = ⊥
+    StaysUnattached (End number time) old new = ⊥
+    StaysUnattached Collect old new = ⊥
+    StaysUnattached Flush old new = ⊥
+    StaysUnattached Shutdown old new = ⊥
 
     -- the event with this outcome
     abbrev pub Follows : SpanEvent → EventOutcome → RunState E → RunState E → Type 0
     Follows event Done old new = Takes event old new
     Follows event NumbersUsedUp old new = RunsOut event old new
+    Follows event NotAttached old new = StaysUnattached event old new
     Follows event (Failed error) old new = Fails event error old new
 
-    -- the event with this outcome, whatever the history is
-    abbrev pub Applies : SpanEvent → EventOutcome → LiveState → ProcessorState E
-        → LiveState → ProcessorState E → Type 0
-    Applies event outcome live processor after_live after_processor = (history : LiveState)
-        → (after : LiveState) × Follows event outcome (state_of history live processor)
-        (state_of after after_live after_processor)
+    -- the event with this outcome, whatever the history and the parents are
+    abbrev pub Applies : SpanEvent → EventOutcome → LiveState → Live → ProcessorState E
+        → LiveState → Live → ProcessorState E → Type 0
+    Applies event outcome live contexts processor after_live after_contexts after_processor =
+        (history : LiveState) (parents : SpansState ContextRecord)
+        → (after : LiveState) × (after_parents : SpansState ContextRecord)
+        × Follows event outcome (state_of history parents live contexts processor)
+        (state_of after after_parents after_live after_contexts after_processor)
 
     -- the events, in order, each with its outcome
     abbrev pub Plays : List SpanEvent → List EventOutcome → RunState E → RunState E → Type 0
@@ -113,13 +237,20 @@ module _ {E : Type 0} where
     Plays (event ∷ events) (outcome ∷ outcomes) old new = (between : RunState E)
         × Follows event outcome old between × Plays events outcomes between new
 
-    -- Each sampled span that ended in the history is in exactly one place: accepted by the exporter,
-    -- queued, ended and not collected, or dropped by a full queue and counted. The first three, in
-    -- this order, follow the order of the ends.
+    -- Each sampled span that ended in the history is in exactly one place: accepted by the exporter
+    -- before it was shut down, queued, ended and not collected, or dropped by a full queue and
+    -- counted. The first three, in this order, follow the order of the ends.
     pub record HasRun (exporter : E) (config : Limits) (events : List SpanEvent)
-        (outcomes : List EventOutcome) (live : LiveState) (processor : ProcessorState E)
-        : Type 0 where
+        (outcomes : List EventOutcome) (live : LiveState) (contexts : Live)
+        (processor : ProcessorState E) : Type 0 where
       pub history : LiveState
-      pub plays : Plays events outcomes (at_start exporter config) (state_of history live processor)
+      pub parents : SpansState ContextRecord
+      pub plays : Plays events outcomes (at_start exporter config)
+          (state_of history parents live contexts processor)
+      -- the processor before its shutdown, if it was shut down
+      pub before : ProcessorState E
+      pub was_open : WasOpen shuts_down before processor
       pub nothing_lost : NothingLost accepted (spans_of (accepted exporter))
-          (waiting history.spans history.ended) (of processor live.spans) live.ended
+          (waiting history.spans history.ended) (of before live.spans) live.ended
+      -- each span has the trace id of its parent, and its parent's span id, if the tracer starts such
+      pub have_parents : StartChildren may_start → HaveParents (given events) history.spans parents

@@ -2,6 +2,7 @@
 //! resources, and the way of ended spans to an exporter.
 #![tactic(auto)]
 
+pub mod laws;
 pub mod trace;
 
 pub use otel_sdk_logs as logs;

@@ -2,8 +2,8 @@
 use crate::processor::{Planned, report, span};
 use opentelemetry::trace::{Span, SpanContext, Spans};
 use otel_sdk::trace::{
-    BatchConfigBuilder, BatchSpanProcessor, InMemorySpanExporter, SdkSpan, SpanLimits,
-    SpanProcessor,
+    BatchConfigBuilder, BatchSpanProcessor, InMemorySpanExporter, SdkSpan, SimpleSpanProcessor,
+    SpanLimits, SpanProcessor,
 };
 use std::alloc::Global;
 use std::test::Fail;
@@ -192,5 +192,56 @@ fn an_ended_span_is_taken_by_its_number(rt: HostRuntime) -> Result<(), Fail> {
     assert!(rt; processor.collect(&mut spans, &mut ended).is_ok());
     assert!(rt; ended.is_empty());
     assert_eq!(rt; processor.queued_spans(), 1);
+    Ok(())
+}
+
+/// A table of three sampled spans that have ended, from number 1 on, and their numbers.
+fn three_ended(alloc: Global) -> Result<(Spans<SdkSpan>, Vec<u64>), Fail> {
+    let mut spans = Spans::starting_at(alloc, 1);
+    let mut ended = Vec::new(alloc);
+    for number in 1..4 {
+        if spans.insert(recording(alloc, number, 1)?).is_err() {
+            return Err(Fail::from("no room for the span"));
+        }
+        end(&mut spans, &mut ended, number)?;
+    }
+    Ok((spans, ended))
+}
+
+#[test]
+fn each_ended_span_is_exported_by_itself(rt: HostRuntime) -> Result<(), Fail> {
+    let alloc = rt.alloc();
+    let (mut spans, mut ended) = three_ended(alloc)?;
+    let mut processor = SimpleSpanProcessor::new(alloc, Planned::new(alloc, "+-+++"));
+    assert!(rt; processor.collect(&mut spans, &mut ended).is_err());
+    assert_eq!(rt; processor.exporter().log.as_str(), "[1][2]!");
+    assert_eq!(rt;
+        (ended.len(), spans.len(), processor.queued_spans()),
+        (1, 1, 1)
+    );
+    assert!(rt; processor.collect(&mut spans, &mut ended).is_ok());
+    assert_eq!(rt; processor.exporter().log.as_str(), "[1][2]![2][3]");
+    assert_eq!(rt;
+        (ended.len(), spans.len(), processor.queued_spans()),
+        (0, 0, 0)
+    );
+    assert_eq!(rt; processor.dropped_spans(), 0);
+    Ok(())
+}
+
+#[test]
+fn an_ended_span_is_exported_by_its_number(rt: HostRuntime) -> Result<(), Fail> {
+    let alloc = rt.alloc();
+    let (mut spans, mut ended) = three_ended(alloc)?;
+    let mut processor = SimpleSpanProcessor::new(alloc, Planned::new(alloc, "-++"));
+    assert!(rt; processor.on_end_of(&mut spans, 2).is_err());
+    assert_eq!(rt; (spans.len(), processor.queued_spans()), (2, 1));
+    assert!(rt; processor.on_end_of(&mut spans, 1).is_ok());
+    assert!(rt; processor.on_end_of(&mut spans, 1).is_ok());
+    assert_eq!(rt; processor.exporter().log.as_str(), "[2]![2][1]");
+    assert!(rt; processor.shutdown().is_ok());
+    assert!(rt; processor.on_end_of(&mut spans, 3).is_err());
+    assert!(rt; processor.collect(&mut spans, &mut ended).is_err());
+    assert_eq!(rt; (spans.len(), ended.len()), (1, 3));
     Ok(())
 }

@@ -26,10 +26,14 @@ fn under(alloc: Global, flags: u8) -> Result<Context, Fail> {
     Ok(Context::new().with_remote_span_context(alloc, parent)?)
 }
 
+/// A builder of a span named `work`.
+fn work() -> SpanBuilder {
+    SpanBuilder::from_name(StringValue::from("work"))
+}
+
 /// The start of a span named `work` under a remote parent with these flags.
 fn start(alloc: Global, flags: u8) -> Result<SpanEvent, Fail> {
-    let builder = SpanBuilder::from_name(StringValue::from("work"));
-    Ok(SpanEvent::Start(builder, under(alloc, flags)?))
+    Ok(SpanEvent::Start(work(), under(alloc, flags)?))
 }
 
 /// The attribute with that key and number.
@@ -38,13 +42,20 @@ fn attribute(key: &'static str, number: i64) -> SpanChange {
 }
 
 /// The events of a script: `s` and `d` start the next span, from number 0 on, under a parent that is
-/// sampled or not, `a0` sets an attribute of span 0, `e0` ends it, `c` collects, and `f` flushes.
+/// sampled or not, `n` under the current context, and `p` also attaches it; `r` attaches a sampled
+/// remote parent, and `x1` detaches position 1; `a0` sets an attribute of span 0, `e0` ends it, `c`
+/// collects, `f` flushes, and `q` shuts down.
 fn events(alloc: Global, script: &'static str) -> Result<Vec<SpanEvent>, Fail> {
     let mut events = Vec::new(alloc);
     for call in script.split(' ') {
         events.push(match call.as_bytes() {
             [b's'] => start(alloc, 0x01)?,
             [b'd'] => start(alloc, 0x00)?,
+            [b'n'] => SpanEvent::StartCurrent(work()),
+            [b'p'] => SpanEvent::StartActive(work()),
+            [b'r'] => SpanEvent::Attach(under(alloc, 0x01)?),
+            [b'x', position] => SpanEvent::Detach((*position - b'0') as u16),
+            [b'q'] => SpanEvent::Shutdown,
             [b'a', number] => SpanEvent::Change((*number - b'0') as u64, attribute("k", 1)),
             [b'e', number] => SpanEvent::End((*number - b'0') as u64, 90),
             [b'c'] => SpanEvent::Collect,
@@ -155,6 +166,22 @@ const RUNS: &[Row] = &[
     (4, 2, "", "s s e1", "", 0, 0, 0, 1, 2),
     (4, 2, "", "e0 a0 s e5 a5 c", "", 0, 0, 0, 0, 1),
     (4, 2, "+", "s e0 c e0 a0 c f", "[1]", 0, 0, 0, 0, 0),
+    (4, 2, "+", "r n x1 n e0 e1 c f", "[1]", 0, 0, 0, 0, 0),
+    (
+        4,
+        2,
+        "+",
+        "r p x1 n e1 n e2 x2 n e3 c f",
+        "[2 3]",
+        0,
+        0,
+        0,
+        0,
+        1,
+    ),
+    (4, 2, "+", "x0 x1 x9 s e0 c f", "[1]", 0, 0, 0, 0, 0),
+    (4, 2, "+", "s s e0 c q e1 c f q", "[1]", 3, 0, 0, 1, 1),
+    (4, 2, "-+", "s s e0 c q e1 c q", "[1]![1 2]", 1, 0, 0, 0, 0),
 ];
 
 #[test]
@@ -221,6 +248,32 @@ fn an_exported_span_is_as_it_was_recorded_at_its_end(rt: HostRuntime) -> Result<
     assert_eq!(rt; (span.start_time, span.end_time), (50, 90));
     assert_eq!(rt; span.attributes.len(), 1);
     assert_eq!(rt; span.name.as_str(), "work");
+    Ok(())
+}
+
+#[test]
+fn a_span_under_the_current_context_is_a_child_of_its_span(rt: HostRuntime) -> Result<(), Fail> {
+    let alloc = rt.alloc();
+    let exporter = InMemorySpanExporter::new(alloc);
+    let script = "p p n x2 n x1 n r n e0 e1 e2 e3 e4 e5 c f";
+    let config = BatchConfig::default();
+    let report = played(rt, Sampler::AlwaysOn, exporter, config, script)?;
+    let spans = report.processor.exporter().get_finished_spans()?;
+    assert_eq!(rt; spans.len(), 6);
+    let parents = [0, 1, 2, 1, 0, 70];
+    for (span, parent) in spans.iter().zip(parents) {
+        assert_eq!(rt; span.parent_span_id, SpanId::from(parent));
+    }
+    let trace = spans[0].span_context.trace_id();
+    for (number, span) in spans.iter().enumerate() {
+        assert_eq!(rt;
+            span.span_context.span_id(),
+            SpanId::from(number as u64 + 1)
+        );
+        assert_eq!(rt; span.span_context.trace_id() == trace, number < 4);
+    }
+    assert_eq!(rt; spans[5].span_context.trace_id(), TraceId::from(7));
+    assert_eq!(rt; report.stack.newest_position(), 1);
     Ok(())
 }
 

@@ -1,6 +1,10 @@
 //! The spans of a program until a processor takes them.
-ghost use Rattle.std.specs.Prelude.{◌≡◌, [], OnOk, OnErr, IfOk, IfErr, IsErr, None, Some, option_copied};
+ghost use Rattle.std.specs.Prelude.{◌≡◌, ◌≤◌, false, [], OnOk, OnErr, IfOk, IfErr, IsErr};
+ghost use Rattle.std.specs.Prelude.{IsTrue, None, Some, option_copied};
+ghost use Rattle.std.specs.Vec.{vec_capacity};
+ghost use Rattle.otel_context.specs.Context.{with_span};
 ghost use Rattle.otel_context.specs.Spans.{get, used_up};
+ghost use Rattle.otel_context.specs.Stack.{current};
 ghost use Rattle.otel_context.specs.declared.span.spans.SpanCause.TheVariants.{NumbersUsedUp};
 ghost use Rattle.otel_sdk.specs.SpanChange.{change_of};
 ghost use Rattle.otel_sdk.specs.LiveState.{no_spans, with_started, with_changed, with_ended};
@@ -9,6 +13,8 @@ ghost use Rattle.otel_sdk.specs.Ended.{of, AreCollected};
 
 use crate::trace::change::{SpanChange, change_in, end_in};
 use crate::trace::processor::batch::BatchSpanProcessor;
+use opentelemetry::Context;
+use opentelemetry::context::ContextStack;
 use opentelemetry::trace::{SpanCause, SpanRefused, Spans};
 use otel_sdk_span::error::OTelSdkResult;
 use otel_sdk_span::{SdkSpan, SpanExporter};
@@ -47,6 +53,19 @@ impl Model for LiveSpans {
       listed : AreListed live.spans live.ended.items;
       has_room : len live.spans ≤ vec_capacity live.ended;
     } };
+}
+
+/// Makes room for so many numbers in all.
+///
+/// # Errors
+///
+/// Returns an error if memory runs out.
+fn make_room(ended: &mut Vec<u64>, room: usize) -> Result<(), AllocError>
+    ensures same { ended.new.items ≡ ended.old.items }
+    ensures kept { vec_capacity ended.old ≤ vec_capacity ended.new }
+    ensures ok { OnOk result (room ≤ vec_capacity ended.new) }
+{
+    ended.reserve(room.saturating_sub(ended.len()))
 }
 
 impl LiveSpans {
@@ -94,13 +113,43 @@ impl LiveSpans {
             refused.cause ≡ NumbersUsedUp → self.old.spans.next_number ≡ used_up) }
         ensures refused { self.old.spans.next_number ≡ used_up → IsErr result }
     {
+        let room = self.spans.len() + 1;
         let _ = self.spans.next_number();
-        let more = (self.spans.len() + 1).saturating_sub(self.ended.len());
-        if let Err(error) = self.ended.reserve(more) {
+        if let Err(error) = make_room(&mut self.ended, room) {
             let cause = SpanCause::Memory(error);
             return Err(SpanRefused { span, cause });
         }
         self.spans.insert(span)
+    }
+
+    /// Puts a span under the next number, and returns a copy of the current context whose active
+    /// span it is.
+    ///
+    /// # Errors
+    ///
+    /// As [`LiveSpans::start`]: nothing changes, and the span comes back.
+    pub fn start_in(
+        &mut self,
+        stack: &ContextStack,
+        span: SdkSpan,
+    ) -> Result<Context, SpanRefused<SdkSpan>>
+        ensures made { IfOk result (λ context. context ≡ with_span (current stack.now.live)
+            span.context self.old.spans.next_number) }
+        ensures fresh { get self.old.spans self.old.spans.next_number ≡ None }
+        ensures ok { OnOk result (self.new ≡ with_started span self.old) }
+        ensures err { OnErr result (self.new ≡ self.old) }
+        ensures back { IfErr result (λ refused. refused.span ≡ span) }
+        ensures used_up { IfErr result (λ refused.
+            refused.cause ≡ NumbersUsedUp → self.old.spans.next_number ≡ used_up) }
+        ensures refused { self.old.spans.next_number ≡ used_up → IsErr result }
+    {
+        let room = self.spans.len() + 1;
+        let _ = self.spans.next_number();
+        if let Err(error) = make_room(&mut self.ended, room) {
+            let cause = SpanCause::Memory(error);
+            return Err(SpanRefused { span, cause });
+        }
+        stack.current_with_span(&mut self.spans, span)
     }
 
     /// Changes the span with the number. Does nothing if there is no such span, if it has ended, or
@@ -144,7 +193,10 @@ impl LiveSpans {
         ensures collected { AreCollected self.old.ended self.new.ended
             (of processor.old self.old.spans) (of processor.new self.new.spans) }
         ensures ok { OnOk result (self.new.ended ≡ []) }
+        ensures open { OnOk result (processor.old.is_shut_down ≡ false) }
         ensures refused { IfErr result (λ error. error ≡ cause processor.new) }
+        ensures closed { IsTrue processor.old.is_shut_down
+            → (self.new ≡ self.old) × (processor.new ≡ processor.old) }
     {
         processor.collect(&mut self.spans, &mut self.ended)
     }

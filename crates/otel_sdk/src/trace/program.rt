@@ -1,7 +1,8 @@
 //! A run of events over the spans of a program, from their starts to an exporter.
-ghost use Rattle.std.specs.Prelude.{IfOk};
+ghost use Rattle.std.specs.Prelude.{◌≡◌, IfOk};
 ghost use Rattle.opentelemetry.specs.View.{builder_of};
-ghost use Rattle.otel_sdk.specs.Run.{Applies, HasRun, StartsOne};
+ghost use Rattle.otel_sdk.specs.Run.{Applies, AttachesOne, HasRun, StartsActive, StartsOne};
+ghost use Rattle.otel_sdk.specs.Run.{outcome_of};
 
 mod event;
 
@@ -12,10 +13,14 @@ use crate::trace::processor::config::BatchConfig;
 use crate::trace::tracer::{Pipeline, SdkTracer};
 pub use event::{EventOutcome, SpanEvent};
 use opentelemetry::Context;
+use opentelemetry::context::ContextStack;
 use opentelemetry::trace::{SpanBuilder, SpanCause, Tracer};
 use otel_sdk_span::SpanExporter;
 use otel_sdk_span::error::OTelSdkError;
 use std::alloc::{AllocError, Global};
+
+/// The greatest position of an attachment.
+const LAST_POSITION: u16 = 65534;
 
 /// The result of a run.
 ///
@@ -24,10 +29,22 @@ use std::alloc::{AllocError, Global};
 pub struct RunReport<E> {
     /// The spans that the processor hasn't taken.
     pub live: LiveSpans,
+    /// The contexts that are attached.
+    pub stack: ContextStack,
     /// The processor, which has the exporter and the spans that are queued.
     pub processor: BatchSpanProcessor<E>,
     /// The outcome of each event, in order.
     pub outcomes: Vec<EventOutcome>,
+}
+
+/// Returns the outcome of a start that was refused.
+fn not_started(cause: SpanCause) -> EventOutcome
+    ensures { result ≡ outcome_of cause }
+{
+    match cause {
+        SpanCause::NumbersUsedUp => EventOutcome::NumbersUsedUp,
+        SpanCause::Memory(error) => EventOutcome::Failed(OTelSdkError::Memory(error)),
+    }
 }
 
 /// Starts a span, and returns the outcome.
@@ -47,10 +64,45 @@ fn start<P: Pipeline>(
     };
     match live.start(span) {
         Ok(_) => EventOutcome::Done,
-        Err(refused) => match refused.cause {
-            SpanCause::NumbersUsedUp => EventOutcome::NumbersUsedUp,
-            SpanCause::Memory(error) => EventOutcome::Failed(OTelSdkError::Memory(error)),
+        Err(refused) => not_started(refused.cause),
+    }
+}
+
+/// Attaches the context, and returns the outcome.
+fn attach(stack: &mut ContextStack, context: Context) -> EventOutcome
+    ensures { AttachesOne context stack.old.live stack.new.live result }
+{
+    if stack.newest_position() == LAST_POSITION {
+        return EventOutcome::NotAttached;
+    }
+    match stack.push(context) {
+        Ok(_position) => EventOutcome::Done,
+        Err(error) => EventOutcome::Failed(OTelSdkError::Memory(error)),
+    }
+}
+
+/// Starts a span under the current context and attaches a copy of that with the span, and returns
+/// the outcome.
+fn start_active<P: Pipeline>(
+    alloc: Global,
+    tracer: &SdkTracer<P>,
+    live: &mut LiveSpans,
+    stack: &mut ContextStack,
+    builder: SpanBuilder,
+) -> EventOutcome
+    ensures { StartsActive (P.may_start tracer.now (builder_of builder))
+        live.old stack.old.live live.new stack.new.live result }
+{
+    let span = match tracer.build_with_context(alloc, builder, stack.current()) {
+        Ok(span) => span,
+        Err(error) => return EventOutcome::Failed(OTelSdkError::Memory(error)),
+    };
+    match live.start_in(stack, span) {
+        Ok(context) => match attach(stack, context) {
+            EventOutcome::Done => EventOutcome::Done,
+            _ => EventOutcome::NotAttached,
         },
+        Err(refused) => not_started(refused.cause),
     }
 }
 
@@ -59,14 +111,22 @@ fn apply<P: Pipeline, E: SpanExporter>(
     alloc: Global,
     tracer: &SdkTracer<P>,
     live: &mut LiveSpans,
+    stack: &mut ContextStack,
     processor: &mut BatchSpanProcessor<E>,
     event: SpanEvent,
 ) -> EventOutcome
-    ensures { Applies E.accepted (P.may_start tracer.now) event result
-        live.old processor.old live.new processor.new }
+    ensures { Applies E.accepted E.shuts_down (P.may_start tracer.now) event result
+        live.old stack.old.live processor.old live.new stack.new.live processor.new }
 {
     match event {
         SpanEvent::Start(builder, parent) => start(alloc, tracer, live, builder, &parent),
+        SpanEvent::StartCurrent(builder) => start(alloc, tracer, live, builder, stack.current()),
+        SpanEvent::StartActive(builder) => start_active(alloc, tracer, live, stack, builder),
+        SpanEvent::Attach(context) => attach(stack, context),
+        SpanEvent::Detach(position) => {
+            let _ = stack.pop_id(position);
+            EventOutcome::Done
+        }
         SpanEvent::Change(number, change) => match live.change(alloc, number, change) {
             Ok(()) => EventOutcome::Done,
             Err(error) => EventOutcome::Failed(OTelSdkError::Memory(error)),
@@ -83,14 +143,20 @@ fn apply<P: Pipeline, E: SpanExporter>(
             Ok(()) => EventOutcome::Done,
             Err(error) => EventOutcome::Failed(error),
         },
+        SpanEvent::Shutdown => match processor.shutdown() {
+            Ok(()) => EventOutcome::Done,
+            Err(error) => EventOutcome::Failed(error),
+        },
     }
 }
 
 /// Applies the events in order, to spans that a tracer starts and a processor with this exporter
-/// takes. Parts that fail lose nothing, and the run goes on. Not in the Rust crate.
+/// takes, and to a stack of contexts. Parts that fail lose nothing, and the run goes on. Not in the
+/// Rust crate.
 ///
 /// The spans are numbered from 0, in the order of their starts. Nothing is exported but in a
-/// [`SpanEvent::Flush`], and an exported span is as it was recorded at its end. The report holds the
+/// [`SpanEvent::Flush`] and a [`SpanEvent::Shutdown`], and an exported span is as it was recorded at
+/// its end. After a shutdown the ended spans stay where they are. The report holds the
 /// spans that weren't collected, and the processor with those that weren't exported.
 ///
 /// # Errors
@@ -103,17 +169,21 @@ pub fn run<P: Pipeline, E: SpanExporter>(
     config: BatchConfig,
     events: Vec<SpanEvent>,
 ) -> Result<RunReport<E>, AllocError>
-    ensures { IfOk result (λ report. HasRun E.accepted (P.may_start tracer.now) exporter config
-        events.items report.outcomes.items report.live report.processor) }
+    ensures { IfOk result (λ report. HasRun E.accepted E.shuts_down
+        (P.may_start tracer.now) exporter config events.items report.outcomes.items
+        report.live report.stack.live report.processor) }
 {
     let mut outcomes = Vec::with_capacity(alloc, events.len())?;
+    let mut stack = ContextStack::new(alloc)?;
     let mut live = LiveSpans::new(alloc);
     let mut processor = BatchSpanProcessor::new(alloc, exporter, config);
     for event in events {
-        outcomes.push_reserved(apply(alloc, tracer, &mut live, &mut processor, event));
+        let outcome = apply(alloc, tracer, &mut live, &mut stack, &mut processor, event);
+        outcomes.push_reserved(outcome);
     }
     Ok(RunReport {
         live,
+        stack,
         processor,
         outcomes,
     })

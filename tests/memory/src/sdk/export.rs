@@ -33,6 +33,12 @@ pub fn play<R: Print>(alloc: Global, lines: &Lines<'_, R>) {
     if lines.begin("simple-processor-on-end") {
         lines.end(end_exported(alloc, lines));
     }
+    if lines.begin("simple-processor-on-end-of") {
+        lines.end(export_numbered(alloc, lines));
+    }
+    if lines.begin("simple-processor-collect") {
+        lines.end(export_each(alloc, lines));
+    }
     if lines.begin("simple-processor-force-flush") {
         lines.end(again(alloc, lines, |processor| processor.force_flush()));
     }
@@ -139,6 +145,27 @@ fn collect<R: Print>(alloc: Global, lines: &Lines<'_, R>) -> Result<(), AllocErr
     let taken = if answer.is_ok() { 2 } else { 0 };
     lines.answer_named("collected", answer);
     lines.due(processor.queued_spans() == taken && spans.len() == ended.len());
+    Ok(())
+}
+
+fn export_numbered<R: Print>(alloc: Global, lines: &Lines<'_, R>) -> Result<(), AllocError> {
+    let mut spans = ended_spans(alloc)?;
+    let mut processor = SimpleSpanProcessor::new(alloc, InMemorySpanExporter::new(alloc));
+    let answer = processor.on_end_of(&mut spans, 1);
+    let exported = if answer.is_ok() { 1 } else { 0 };
+    lines.answer_named("exported", answer);
+    lines.due(spans.len() + processor.queued_spans() + exported == 2);
+    Ok(())
+}
+
+fn export_each<R: Print>(alloc: Global, lines: &Lines<'_, R>) -> Result<(), AllocError> {
+    let mut spans = ended_spans(alloc)?;
+    let mut ended = vec![in alloc; 1, 0]?;
+    let mut processor = SimpleSpanProcessor::new(alloc, InMemorySpanExporter::new(alloc));
+    let answer = processor.collect(&mut spans, &mut ended);
+    let left = if answer.is_ok() { 0 } else { 2 };
+    lines.answer_named("collected", answer);
+    lines.due(spans.len() == ended.len() && processor.queued_spans() + ended.len() <= left);
     Ok(())
 }
 

@@ -1,5 +1,6 @@
 //! The spans of a program, and runs of events.
 use crate::lines::Lines;
+use opentelemetry::context::ContextStack;
 use opentelemetry::trace::{SpanBuilder, SpanContext, TracerProvider};
 use opentelemetry::{Context, Key, KeyValue, StringValue, Value};
 use otel_sdk::error::OTelSdkError;
@@ -14,6 +15,9 @@ pub fn play<R: Print>(rt: HostRuntime, lines: &Lines<'_, R>) {
     let alloc = rt.alloc();
     if lines.begin("live-spans-start") {
         start(alloc, lines);
+    }
+    if lines.begin("live-spans-start-in") {
+        lines.end(start_in(alloc, lines));
     }
     if lines.begin("live-spans-change") {
         lines.end(change(alloc, lines));
@@ -38,6 +42,22 @@ fn start<R: Print>(alloc: Global, lines: &Lines<'_, R>) {
             lines.due(live.spans().is_empty());
         }
     }
+}
+
+fn start_in<R: Print>(alloc: Global, lines: &Lines<'_, R>) -> Result<(), AllocError> {
+    let stack = ContextStack::new(alloc)?;
+    let mut live = LiveSpans::new(alloc);
+    match live.start_in(&stack, SdkSpan::without_data(SpanContext::NONE)) {
+        Ok(context) => {
+            lines.answer(&context.span_number().unwrap_or(9));
+            lines.due(live.spans().len() == 1);
+        }
+        Err(_) => {
+            lines.answer(&AllocError);
+            lines.due(live.spans().is_empty());
+        }
+    }
+    Ok(())
 }
 
 /// Live spans with one sampled span, which has the number 0.
@@ -73,16 +93,25 @@ fn collect<R: Print>(alloc: Global, lines: &Lines<'_, R>) -> Result<(), AllocErr
     Ok(())
 }
 
-/// A span that starts, is changed, ends, and is collected and exported.
+fn work() -> SpanBuilder {
+    SpanBuilder::from_name(StringValue::from("work"))
+}
+
+/// A span that starts, is changed, ends, and is collected and exported, and two more, one of which
+/// is active.
 fn events(alloc: Global) -> Result<Vec<SpanEvent>, AllocError> {
     let attribute = KeyValue::new(Key::from("k"), Value::from("v"));
-    let builder = SpanBuilder::from_name(StringValue::from("work"));
     Ok(vec![in alloc;
-        SpanEvent::Start(builder, Context::new()),
+        SpanEvent::Start(work(), Context::new()),
         SpanEvent::Change(0, SpanChange::SetAttribute(attribute)),
         SpanEvent::End(0, 9),
+        SpanEvent::Attach(Context::new()),
+        SpanEvent::StartActive(work()),
+        SpanEvent::StartCurrent(work()),
+        SpanEvent::Detach(2),
         SpanEvent::Collect,
         SpanEvent::Flush,
+        SpanEvent::Shutdown,
     ]?)
 }
 
@@ -115,7 +144,7 @@ fn played<R: Print>(rt: HostRuntime, lines: &Lines<'_, R>) -> Result<(), AllocEr
     match answer {
         Ok(report) => {
             let kept = report.live.spans().len() + report.processor.queued_spans();
-            lines.due(kept < 2 && report.processor.dropped_spans() == 0);
+            lines.due(kept < 4 && report.processor.dropped_spans() == 0);
             lines.answer_named("ran", failure(report));
         }
         Err(error) => {

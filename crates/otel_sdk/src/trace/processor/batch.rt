@@ -84,6 +84,12 @@ impl<E: SpanExporter> BatchSpanProcessor<E> {
         self.queue.len()
     }
 
+    pub(crate) fn is_shut_down(&self) -> bool
+        ensures { result ≡ self.now.is_shut_down }
+    {
+        self.is_shut_down
+    }
+
     // Exports what is queued. The batches that were accepted leave the queue.
     fn export_queue(&mut self) -> OTelSdkResult
         ensures flushed { IsFlushed E.accepted self.old self.new }

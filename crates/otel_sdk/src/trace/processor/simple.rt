@@ -4,6 +4,8 @@ ghost use Rattle.otel_sdk.specs.Processor as spec;
 ghost use Rattle.otel_sdk.specs.Processor.{IsFlushed, IsHandedIn, taken_of};
 ghost use Rattle.otel_sdk.specs.Processor.{IsRefusedIfClosed, FailedIfOpen, FlushedIfClosed};
 
+mod ended;
+
 use crate::trace::processor::batch::BatchSpanProcessor;
 use crate::trace::processor::config::BatchConfigBuilder;
 use crate::trace::processor::{EndRefused, SpanProcessor};

@@ -84,7 +84,8 @@ impl<E: SpanExporter> BatchSpanProcessor<E> {
         ensures ok { OnOk result (ended.new.items ≡ []) }
         ensures open { OnOk result (self.old.is_shut_down ≡ false) }
         ensures refused { IfErr result (λ error. error ≡ cause self.new) }
-        ensures closed { IsTrue self.old.is_shut_down → ended.new.items ≡ ended.old.items }
+        ensures closed { IsTrue self.old.is_shut_down → (ended.new.items ≡ ended.old.items)
+            × (spans.new ≡ spans.old) × (self.new ≡ self.old) }
         ensures room { vec_capacity ended.new ≡ vec_capacity ended.old }
     {
         if self.is_shut_down {

@@ -1,4 +1,3 @@
-use Rattle.std.proofs.Common.{arith, rules}
 use Rattle.otel_sdk.proofs.LiveLemmas.{change-listed, change-fits}
 use Rattle.otel_sdk.proofs.trace.live.LiveSpans.change.Goals as goal
 

@@ -1,4 +1,4 @@
-use Rattle.std.proofs.Common.{arith, rules}
+use Rattle.std.proofs.Common.{arith}
 use Rattle.otel_sdk.proofs.LiveLemmas.{collected-fits}
 use Rattle.otel_sdk.proofs.trace.live.LiveSpans.collect.Goals as goal
 

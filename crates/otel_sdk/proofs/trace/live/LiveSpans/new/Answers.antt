@@ -1,5 +1,3 @@
-use Rattle.std.proofs.Common.{arith, rules, [], length, subst, sym, ◌≡◌, List, ℕ}
-use Rattle.std.proofs.lemmas.Grind.{common_steps}
 use Rattle.otel_sdk.proofs.LiveLemmas.{none-listed, none-fit}
 use Rattle.otel_sdk.proofs.trace.live.LiveSpans.new.Goals as goal
 

@@ -5,7 +5,7 @@ use Rattle.otel_sdk.proofs.trace.live.LiveSpans.start.Goals as goal
 pub invariant_of-self-2 : goal.invariant_of-self-2
 invariant_of-self-2 c = record {
   listed = start-listed c.insert.result c.self.inside.spans c.insert.new.self c.args.span c.self.inside.ended.items
-      c.reserve.new.self.items c.insert.ensures.inserted c.insert.ensures.unchanged (search rules) c.reserve.ensures.items
+      c.make_room.new.ended.items c.insert.ensures.inserted c.insert.ensures.unchanged (search rules) c.make_room.ensures.same
       c.self.invariant.listed;
   has_room = start-fits c.insert.result c.self.inside.spans c.insert.new.self c.args.span _
       c.insert.ensures.inserted c.insert.ensures.unchanged (omega (arith, c.in_default.ensures.ok));

@@ -1,0 +1,159 @@
+-- A span has the ids of its parent from its start on.
+use Rattle.std.proofs.Common.{◌≡◌, ℕ, Bool, true, false, List, [], ◌∷◌, fold, Option, Some, None, refl, sym, ap, subst, ◌∙◌, inl, inr}
+use Rattle.std.specs.Prelude.{◌⊎◌, if◌then◌else◌, option_map}
+use Rattle.std.specs.Option.{unwrap_or}
+use Rattle.otel_base.specs.InstrumentationScope.{Scope}
+use Rattle.otel_base.specs.KeyValue.{Attribute}
+use Rattle.otel_context.specs.Context.{ContextRecord}
+use Rattle.otel_context.specs.SpanEffects.{attributes_of}
+use Rattle.otel_ids.specs.SpanContext.{SpanContextRecord}
+use Rattle.opentelemetry.specs.Event.{LinkRecord}
+use Rattle.opentelemetry.specs.SpanBuilder.{BuilderRecord}
+use Rattle.otel_sdk_sampling.specs.Sampler.{Asked, Answer}
+use Rattle.otel_sdk_span.specs.Span.{SpanState, after_end, recording, says_nothing, started, unrecorded, with_attribute, with_event}
+use Rattle.otel_sdk_span.specs.Span.{with_kept_link, with_link, within}
+use Rattle.otel_sdk_span.specs.SpanData.{SpanRecord}
+use Rattle.otel_sdk_span.specs.declared.limits.SpanLimits.{SpanLimits}
+use Rattle.otel_sdk.specs.Parents.{IsChild, IsChildIfRecorded, IsInTrace, IsUnder}
+use Rattle.otel_sdk.specs.SpanChange.{change_of}
+use Rattle.otel_sdk.specs.Tracer.{IsTraceId, MayBuild, MayStart, asked, given_data, has_random_id, parent_of, records, silent, span_context_of, without_ids}
+use Rattle.otel_sdk.specs.declared.trace.change.SpanChange.{SpanChange}
+use Rattle.otel_sdk.specs.declared.trace.change.SpanChange.TheVariants.{SetAttribute, AddEvent}
+use Rattle.otel_sdk.specs.declared.trace.change.SpanChange.TheVariants.{AddLink, SetStatus, UpdateName}
+
+-- ---- what is recorded keeps its ids
+
+pub record SameIds (d e : SpanRecord) : Type 0 where
+  pub own : e.span_context ≡ d.span_context
+  pub parent : e.parent_span_id ≡ d.parent_span_id
+  pub remote : e.parent_span_is_remote ≡ d.parent_span_is_remote
+
+same-ids : (d : SpanRecord) → SameIds d d
+same-ids d = record { own = refl; parent = refl; remote = refl }
+
+then-ids : (d e f : SpanRecord) → SameIds d e → SameIds e f → SameIds d f
+then-ids d e f s t = record {
+  own = t.own ∙ s.own;
+  parent = t.parent ∙ s.parent;
+  remote = t.remote ∙ s.remote;
+}
+
+child-same : (p : Option SpanContextRecord) (d e : SpanRecord) → SameIds d e → IsChild p d → IsChild p e
+child-same None d e s h = (s.parent ∙ h.0, s.remote ∙ h.1)
+child-same (Some p) d e s h = (ap (λ (c : SpanContextRecord). c.trace_id) s.own ∙ h.0, s.parent ∙ h.1, s.remote ∙ h.2)
+
+link-same_of : (b : Bool) (limits : SpanLimits) (d : SpanRecord) (l : LinkRecord)
+    → SameIds d (if b then d else with_kept_link limits d l)
+link-same_of true limits d l = same-ids d
+link-same_of false limits d l = record { own = refl; parent = refl; remote = refl }
+
+link-same : (limits : SpanLimits) (d : SpanRecord) (l : LinkRecord) → SameIds d (with_link limits d l)
+link-same limits d l = link-same_of (says_nothing l) limits d l
+
+fold-same : {X : Type 0} (f : SpanRecord → X → SpanRecord) → ((d : SpanRecord) (x : X) → SameIds d (f d x))
+    → (xs : List X) (d : SpanRecord) → SameIds d (fold f d xs)
+fold-same f h [] d = same-ids d
+fold-same f h (x ∷ xs) d = then-ids d (f d x) _ (h d x) (fold-same f h xs (f d x))
+
+within-same : (limits : SpanLimits) (d : SpanRecord) → SameIds d (within limits d)
+within-same limits d =
+    let empty : SpanRecord = record d { attributes = []; events = []; links = [] } in
+    let a : SpanRecord = fold (with_attribute limits) empty d.attributes in
+    let e : SpanRecord = fold (with_event limits) a d.events in
+    then-ids d empty _ (record { own = refl; parent = refl; remote = refl })
+    (then-ids empty a _
+    (fold-same (with_attribute limits) (λ x y. record { own = refl; parent = refl; remote = refl }) d.attributes empty)
+    (then-ids a e _ (fold-same (with_event limits) (λ x y. record { own = refl; parent = refl; remote = refl }) d.events a)
+    (fold-same (with_link limits) (λ x y. link-same limits x y) d.links e)))
+
+-- ---- changes and the end
+
+module _ (p : Option SpanContextRecord) where
+  if-child : (b : Bool) (own : SpanContextRecord) (g : SpanRecord → SpanRecord) → ((d : SpanRecord) → SameIds d (g d))
+      → (o : Option SpanRecord) → IsChildIfRecorded p own o → IsChildIfRecorded p own (if b then o else option_map g o)
+  if-child true own g same o h = h
+  if-child false own g same None h = h
+  if-child false own g same (Some d) h = ((same d).own ∙ h.0, child-same p d (g d) (same d) h.1)
+
+  recording-under : (s : SpanState) (g : SpanRecord → SpanRecord) → ((d : SpanRecord) → SameIds d (g d))
+      → IsUnder p s → IsUnder p (recording s g)
+  recording-under s g same h = record {
+    trace = h.trace;
+    child = if-child s.has_ended s.context g same s.recorded h.child;
+  }
+
+  pub change-under : (c : SpanChange) (s : SpanState) → IsUnder p s → IsUnder p (change_of c s)
+  change-under (SetAttribute attribute) s h = recording-under s _ (λ d. record { own = refl; parent = refl; remote = refl }) h
+  change-under (AddEvent name time attributes) s h =
+      recording-under s _ (λ d. record { own = refl; parent = refl; remote = refl }) h
+  change-under (AddLink context attributes) s h = recording-under s _ (λ d. link-same s.limits d (record {
+    span_context = context;
+    attributes = attributes_of attributes;
+    dropped_attributes_count = 0;
+  })) h
+  change-under (SetStatus status) s h = recording-under s _ (λ d. record { own = refl; parent = refl; remote = refl }) h
+  change-under (UpdateName name) s h = recording-under s _ (λ d. record { own = refl; parent = refl; remote = refl }) h
+
+  pub end-under : (s : SpanState) (time : ℕ) → IsUnder p s → IsUnder p (after_end s time)
+  end-under s time h = record {
+    trace = h.trace;
+    child = if-child s.has_ended s.context (λ d. record d { end_time = time })
+        (λ d. record { own = refl; parent = refl; remote = refl }) s.recorded h.child;
+  }
+
+pub change-context : (c : SpanChange) (s : SpanState) → (change_of c s).context ≡ s.context
+change-context (SetAttribute attribute) s = refl
+change-context (AddEvent name time attributes) s = refl
+change-context (AddLink context attributes) s = refl
+change-context (SetStatus status) s = refl
+change-context (UpdateName name) s = refl
+
+-- ---- starts
+
+decided-under : (b : Bool) (p : Option SpanContextRecord) (limits : SpanLimits) (d : SpanRecord)
+    → IsInTrace p d.span_context → IsChild p d → IsUnder p (if b then started limits d else unrecorded d.span_context)
+decided-under true p limits d t c = record {
+  trace = t;
+  child = ((within-same limits d).own, child-same p d (within limits d) (within-same limits d) c);
+}
+decided-under false p limits d t c = record { trace = t; child = tt }
+
+in-trace : (p : Option SpanContextRecord) (own : SpanContextRecord) → IsTraceId p own.trace_id → IsInTrace p own
+in-trace None own h = tt
+in-trace (Some p) own h = inr h
+
+data-child : (scope : Scope) (builder : BuilderRecord) (p : Option SpanContextRecord) (own : SpanContextRecord)
+    (sampled : List Attribute) (start : ℕ) → IsTraceId p own.trace_id
+    → IsChild p (given_data scope builder p own sampled start)
+data-child scope builder None own sampled start h = (refl, refl)
+data-child scope builder (Some p) own sampled start h = (h, refl, refl)
+
+silent-under : (p : Option SpanContextRecord) → IsUnder p silent
+silent-under None = record { trace = tt; child = tt }
+silent-under (Some p) = record { trace = inl refl; child = tt }
+
+without_ids-under : (p : Option SpanContextRecord) → IsUnder p (without_ids p)
+without_ids-under None = record { trace = tt; child = tt }
+without_ids-under (Some p) = record { trace = inr refl; child = tt }
+
+module _ (answer : Asked → Answer) (random : Bool) (limits : SpanLimits) (scope : Scope) (builder : BuilderRecord)
+    (context : ContextRecord) (span : SpanState) where
+  start-under : MayStart answer random limits scope builder context span → IsUnder (parent_of context) span
+  start-under m =
+      let p : Option SpanContextRecord = parent_of context in
+      let a : Answer = answer (asked builder context m.0) in
+      let own : SpanContextRecord = span_context_of m.0 m.1 a.decision (has_random_id p random) a.trace_state in
+      let start : ℕ = unwrap_or builder.start_time m.4.0 in
+      subst (λ (s : SpanState). IsUnder p s) (sym m.4.1)
+      (decided-under (records a.decision) p limits (given_data scope builder p own a.attributes start)
+      (in-trace p own m.2) (data-child scope builder p own a.attributes start m.2))
+
+  build-under_of : ((span ≡ silent) ⊎ ((span ≡ without_ids (parent_of context))
+      ⊎ MayStart answer random limits scope builder context span)) → IsUnder (parent_of context) span
+  build-under_of (inl e) = subst (λ (s : SpanState). IsUnder (parent_of context) s) (sym e) (silent-under (parent_of context))
+  build-under_of (inr (inl e)) =
+      subst (λ (s : SpanState). IsUnder (parent_of context) s) (sym e) (without_ids-under (parent_of context))
+  build-under_of (inr (inr m)) = start-under m
+
+  pub build-under : MayBuild answer random limits scope builder context span → IsUnder (parent_of context) span
+  build-under h = build-under_of h.1
