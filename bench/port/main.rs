@@ -15,20 +15,22 @@ mod operation;
 mod random;
 mod rounds;
 mod runs;
+mod sdk;
 mod spans;
 mod stacks;
 mod state_member;
 mod states;
 
 use operation::Task;
-use std::alloc::{AllocError, Global};
+use std::alloc::AllocError;
 use std::io::{self, Read};
 
 /// The longest line that is read.
 const ROOM: usize = 128;
 
 /// What the operation of that name gave, where there is one.
-fn play(task: &Task<'_>, alloc: Global) -> Result<Option<u64>, AllocError> {
+fn play(task: &Task<'_>, rt: HostRuntime) -> Result<Option<u64>, AllocError> {
+    let alloc = rt.alloc();
     let (group, _) = task.name.split_once('_').unwrap_or((task.name, ""));
     match group {
         "context" => contexts::play(task, alloc),
@@ -39,6 +41,7 @@ fn play(task: &Task<'_>, alloc: Global) -> Result<Option<u64>, AllocError> {
         "baggage" => baggages::play(task, alloc),
         "inject" => injections::play(task, alloc),
         "run" => runs::play(task, alloc),
+        "sdk" => sdk::play(task, alloc, rt),
         "id" => ids::play(task, alloc),
         "header" => headers::play(task, alloc),
         "table" | "span" => spans::play(task, alloc),
@@ -53,7 +56,7 @@ fn main(rt: HostRuntime) -> io::Result<()> {
     let Some(task) = Task::read(line) else {
         return rt.println("NAME TIMES SIZE");
     };
-    match play(&task, rt.alloc())? {
+    match play(&task, rt)? {
         Some(sum) => println!(rt; "{sum}"),
         None => rt.println("no such operation"),
     }

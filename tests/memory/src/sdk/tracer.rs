@@ -1,6 +1,6 @@
 //! Providers and tracers.
 use crate::lines::Lines;
-use opentelemetry::trace::{SpanBuilder, Tracer, TracerProvider};
+use opentelemetry::trace::{Span, SpanBuilder, Tracer, TracerProvider};
 use opentelemetry::{Context, InstrumentationScope, Key, KeyValue, StringValue, Value};
 use otel_sdk::resource::Resource;
 use otel_sdk::trace::{
@@ -29,6 +29,9 @@ pub fn play<R: Print>(rt: HostRuntime, lines: &Lines<'_, R>) {
     if lines.begin("sdk-tracer-start-suppressed") {
         lines.end(start_suppressed(rt, lines));
     }
+    if lines.begin("sdk-tracer-start-unsampled") {
+        lines.end(start_unsampled(rt, lines));
+    }
 }
 
 /// A resource of one attribute.
@@ -49,11 +52,11 @@ fn with_resource<R: Print>(rt: HostRuntime, lines: &Lines<'_, R>) -> Result<(), 
     Ok(())
 }
 
-fn provider(rt: HostRuntime) -> Result<Provider, AllocError> {
+fn provider(rt: HostRuntime, sampler: Sampler) -> Result<Provider, AllocError> {
     let alloc = rt.alloc();
     SdkTracerProvider::builder(rt)
         .with_resource(Resource::builder_empty(alloc).build())?
-        .with_sampler(Sampler::AlwaysOn)
+        .with_sampler(sampler)
         .with_id_generator(CountedIdGenerator::new())
         .with_clock(ManualClock::new(1))
         .build(alloc)
@@ -61,19 +64,19 @@ fn provider(rt: HostRuntime) -> Result<Provider, AllocError> {
 
 fn tracer_of_scope<R: Print>(rt: HostRuntime, lines: &Lines<'_, R>) -> Result<(), AllocError> {
     let alloc = rt.alloc();
-    let provider = provider(rt)?;
+    let provider = provider(rt, Sampler::AlwaysOn)?;
     let scope = InstrumentationScope::builder(StringValue::from("lib")).build(alloc)?;
     lines.answer_named("given", provider.tracer_with_scope(alloc, scope));
     Ok(())
 }
 
-fn tracer(rt: HostRuntime) -> Result<SdkTracer<Pipeline>, AllocError> {
-    provider(rt)?.tracer(rt.alloc(), StringValue::from("lib"))
+fn tracer(rt: HostRuntime, sampler: Sampler) -> Result<SdkTracer<Pipeline>, AllocError> {
+    provider(rt, sampler)?.tracer(rt.alloc(), StringValue::from("lib"))
 }
 
 fn start<R: Print>(rt: HostRuntime, lines: &Lines<'_, R>) -> Result<(), AllocError> {
     let alloc = rt.alloc();
-    let tracer = tracer(rt)?;
+    let tracer = tracer(rt, Sampler::AlwaysOn)?;
     let mut attributes = Vec::new(alloc);
     attributes.push(KeyValue::new(Key::from("k"), Value::from("v")))?;
     let builder = SpanBuilder::from_name(StringValue::from("work")).with_attributes(attributes);
@@ -84,10 +87,22 @@ fn start<R: Print>(rt: HostRuntime, lines: &Lines<'_, R>) -> Result<(), AllocErr
 
 fn start_suppressed<R: Print>(rt: HostRuntime, lines: &Lines<'_, R>) -> Result<(), AllocError> {
     let alloc = rt.alloc();
-    let tracer = tracer(rt)?;
+    let tracer = tracer(rt, Sampler::AlwaysOn)?;
     let parent = Context::new().with_telemetry_suppressed(alloc)?;
     let builder = SpanBuilder::from_name(StringValue::from("work"));
     let answer = tracer.build_with_context(alloc, builder, &parent);
+    lines.free_ok("SdkTracer::build_with_context", answer);
+    Ok(())
+}
+
+fn start_unsampled<R: Print>(rt: HostRuntime, lines: &Lines<'_, R>) -> Result<(), AllocError> {
+    let alloc = rt.alloc();
+    let tracer = tracer(rt, Sampler::AlwaysOff)?;
+    let builder = SpanBuilder::from_name(StringValue::from("work"));
+    let mut answer = tracer.build_with_context(alloc, builder, &Context::new());
+    if let Ok(span) = &mut answer {
+        span.end(2);
+    }
     lines.free_ok("SdkTracer::build_with_context", answer);
     Ok(())
 }

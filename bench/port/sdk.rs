@@ -1,0 +1,196 @@
+//! Operations on spans of the SDK: their start and end, and their way to an exporter.
+use crate::operation::{Operation, Task, add, repeat};
+use opentelemetry::trace::noop::NoopTracer;
+use opentelemetry::trace::{Span, Tracer, TracerProvider};
+use opentelemetry::{Context, Key, KeyValue, StringValue, Value};
+use otel_sdk::error::OTelSdkError;
+use otel_sdk::trace::{
+    BatchConfig, BatchSpanProcessor, CountedIdGenerator, InMemorySpanExporter, LiveSpans,
+    ManualClock, Sampler, SdkTracer, SdkTracerProvider, SpanProcessor, TracerPipeline,
+};
+use std::alloc::{AllocError, Global};
+
+type Pipeline = TracerPipeline<Sampler, CountedIdGenerator, ManualClock>;
+
+pub fn play(task: &Task<'_>, alloc: Global, rt: HostRuntime) -> Result<Option<u64>, AllocError> {
+    match task.name {
+        "sdk_span_sampled" => {
+            let tracer = tracer(alloc, rt, Sampler::AlwaysOn)?;
+            repeat(Recording { alloc, tracer }, task.times)
+        }
+        "sdk_span_unsampled" => {
+            let tracer = tracer(alloc, rt, Sampler::AlwaysOff)?;
+            repeat(Starting { alloc, tracer }, task.times)
+        }
+        "sdk_span_noop" => {
+            let tracer = NoopTracer::new();
+            repeat(Starting { alloc, tracer }, task.times)
+        }
+        "sdk_make" => way(task, alloc, rt, Until::Made),
+        "sdk_make_collect" => way(task, alloc, rt, Until::Collected),
+        "sdk_make_collect_flush" => way(task, alloc, rt, Until::Flushed),
+        _ => Ok(None),
+    }
+}
+
+/// A tracer with that sampler, whose ids are counted and whose clock stands still.
+fn tracer(
+    alloc: Global,
+    rt: HostRuntime,
+    sampler: Sampler,
+) -> Result<SdkTracer<Pipeline>, AllocError> {
+    let provider = SdkTracerProvider::builder(rt)
+        .with_sampler(sampler)
+        .with_id_generator(CountedIdGenerator::new())
+        .with_clock(ManualClock::new(1))
+        .build(alloc)?;
+    provider.tracer(alloc, StringValue::from("bench"))
+}
+
+fn way(
+    task: &Task<'_>,
+    alloc: Global,
+    rt: HostRuntime,
+    until: Until,
+) -> Result<Option<u64>, AllocError> {
+    let tracer = tracer(alloc, rt, Sampler::AlwaysOn)?;
+    let size = task.size;
+    repeat(
+        Exporting {
+            alloc,
+            tracer,
+            size,
+            until,
+        },
+        task.times,
+    )
+}
+
+#[inline(never)]
+fn start<T: Tracer>(alloc: Global, tracer: &T) -> Result<T::Span, AllocError> {
+    tracer.start_with_context(alloc, StringValue::from("work"), &Context::new())
+}
+
+/// Sets two attributes and adds an event.
+#[inline(never)]
+fn fill<S: Span>(alloc: Global, span: &mut S) -> Result<(), AllocError> {
+    let method = KeyValue::new(Key::from("http.request.method"), Value::from("GET"));
+    let status = KeyValue::new(Key::from("http.response.status_code"), Value::I64(200));
+    span.set_attribute(alloc, method)?;
+    span.set_attribute(alloc, status)?;
+    span.add_event(alloc, StringValue::from("cache miss"), Vec::new(alloc), 2)
+}
+
+#[inline(never)]
+fn end<S: Span>(mut span: S, sum: &mut u64) {
+    add(sum, 1 + usize::from(span.is_recording()));
+    span.end(3);
+}
+
+/// Spans in the table, each with two attributes and an event, that have ended.
+#[inline(never)]
+fn make(
+    alloc: Global,
+    tracer: &SdkTracer<Pipeline>,
+    size: usize,
+    live: &mut LiveSpans,
+) -> Result<(), AllocError> {
+    for _ in 0..size {
+        let mut span = start(alloc, tracer)?;
+        fill(alloc, &mut span)?;
+        let number = live.start(span).map_err(|_| AllocError)?;
+        live.end(number, 3);
+    }
+    Ok(())
+}
+
+fn no_memory(_error: OTelSdkError) -> AllocError {
+    AllocError
+}
+
+#[inline(never)]
+fn collect(
+    live: &mut LiveSpans,
+    processor: &mut BatchSpanProcessor<InMemorySpanExporter>,
+    sum: &mut u64,
+) -> Result<(), AllocError> {
+    live.collect(processor).map_err(no_memory)?;
+    add(sum, processor.queued_spans());
+    Ok(())
+}
+
+#[inline(never)]
+fn flush(
+    processor: &mut BatchSpanProcessor<InMemorySpanExporter>,
+    sum: &mut u64,
+) -> Result<(), AllocError> {
+    processor.force_flush().map_err(no_memory)?;
+    add(sum, processor.queued_spans());
+    Ok(())
+}
+
+/// A span that records starts and ends.
+#[derive(Drop)]
+struct Recording {
+    alloc: Global,
+    tracer: SdkTracer<Pipeline>,
+}
+
+impl Operation for Recording {
+    fn once(&mut self, sum: &mut u64) -> Result<(), AllocError> {
+        let mut span = start(self.alloc, &self.tracer)?;
+        fill(self.alloc, &mut span)?;
+        end(span, sum);
+        Ok(())
+    }
+}
+
+/// A span that doesn't record starts and ends.
+#[derive(Drop)]
+struct Starting<T: Tracer> {
+    alloc: Global,
+    tracer: T,
+}
+
+impl<T: Tracer + Drop> Operation for Starting<T> {
+    fn once(&mut self, sum: &mut u64) -> Result<(), AllocError> {
+        let span = start(self.alloc, &self.tracer)?;
+        end(span, sum);
+        Ok(())
+    }
+}
+
+/// How far spans go.
+#[derive(Clone, Copy, PartialEq, Eq, Drop)]
+enum Until {
+    Made,
+    Collected,
+    Flushed,
+}
+
+/// Spans are made, collected, and exported to memory.
+#[derive(Drop)]
+struct Exporting {
+    alloc: Global,
+    tracer: SdkTracer<Pipeline>,
+    size: usize,
+    until: Until,
+}
+
+impl Operation for Exporting {
+    fn once(&mut self, sum: &mut u64) -> Result<(), AllocError> {
+        let mut live = LiveSpans::new(self.alloc);
+        make(self.alloc, &self.tracer, self.size, &mut live)?;
+        add(sum, live.ended().len());
+        let exporter = InMemorySpanExporter::new(self.alloc);
+        let config = BatchConfig::default();
+        let mut processor = BatchSpanProcessor::new(self.alloc, exporter, config);
+        if self.until != Until::Made {
+            collect(&mut live, &mut processor, sum)?;
+        }
+        if self.until == Until::Flushed {
+            flush(&mut processor, sum)?;
+        }
+        Ok(())
+    }
+}

@@ -1,0 +1,2 @@
+pub mod LogLine
+pub mod Traced

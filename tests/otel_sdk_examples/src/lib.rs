@@ -1,0 +1,8 @@
+//! The callers at work, once each with ample memory.
+#![tactic(auto)]
+
+// Depends on: otel_recording
+
+mod log_line;
+mod request;
+mod traced;
