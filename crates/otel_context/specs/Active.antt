@@ -20,9 +20,9 @@ abbrev pub OnSpan : Type 0 → Type 0 → Type 0 → Type 1
 OnSpan F T S = Once F (MutBor (SpanRef S) × Unit {0}) (T × (MutBor (SpanRef S) × Unit {0}))
 
 module _ {F T S : Type 0} (g : OnSpan F T S) (f : F) where
-  -- f was called once, on a reference to the context's span in the table, and returned that. Where
-  -- it left a reference into the same table, as each call of a `SpanRef` does, the table is as f
-  -- left it, and no other span changed
+  -- f was called once, on a reference to the context's span in the table, and returned that. If it
+  -- left a reference into the same table, as each call of a `SpanRef` does, the table is as f left
+  -- it, and no other span changed
   pub record CallsOnce (context : ContextRecord) (old : SpansState S) (returned : T)
       (new : SpansState S) : Type 0 where
     pub before : SpanRef S

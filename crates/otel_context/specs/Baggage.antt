@@ -39,8 +39,8 @@ get ms key = option_map (λ m. m.value) (member_at ms key)
 abbrev pub get_with_metadata : List Member → List ℕ → Option (List ℕ × List ℕ)
 get_with_metadata ms key = option_map (λ m. (m.value, m.metadata)) (member_at ms key)
 
--- The list with m in the place of the member of its key, or else with m last.
--- The order is own: the Rust crate's map has none.
+-- The list with m in the place of the member with its key, or with m last if there is none. The
+-- order is own: the Rust crate's map has none.
 abbrev pub put : List Member → Member → List Member
 put ms m =
     if list_any (has_key m.key) ms
@@ -52,15 +52,16 @@ put_example : put (member_of (codes "a") (codes "1") [] ∷ member_of (codes "b"
     ≡ member_of (codes "a") (codes "3") (codes "m") ∷ member_of (codes "b") (codes "2") [] ∷ []
 put_example = refl
 
--- Whether m may be put: the bytes are not too many then, and a new key is valid and finds fewer
--- than 64 members. A present key isn't checked again (the Rust crate's `insert_with_metadata`).
+-- Whether m may be put: the bytes then don't exceed the limit, and a new key is valid and finds
+-- fewer than 64 members. A present key isn't checked again (the Rust crate's
+-- `insert_with_metadata`).
 abbrev pub accepts : List Member → Member → Bool
 accepts ms m =
     nat_le (weight (put ms m)) max_len_of_all_pairs
     && (list_any (has_key m.key) ms || (is_key m.key && nat_lt (length ms) max_key_value_pairs))
 
--- The list after an insert of m: m is put where it is accepted, and else nothing changes (the
--- Rust crate's `insert_with_metadata`, and `insert`, whose metadata is empty).
+-- The list after an insert of m: m is put if it is accepted, otherwise nothing changes (the Rust
+-- crate's `insert_with_metadata`, and `insert`, whose metadata is empty).
 abbrev pub insert : List Member → Member → List Member
 insert ms m = if accepts ms m then put ms m else ms
 
@@ -72,8 +73,8 @@ replaced ms m = if accepts ms m then get_with_metadata ms m.key else None
 abbrev pub replaced_value : List Member → Member → Option (List ℕ)
 replaced_value ms m = if accepts ms m then get ms m.key else None
 
--- What the two inserts do to the list and return, where `given` is what m takes the place of.
--- An error leaves the list, and comes only where m is accepted and its key is new.
+-- What the two inserts do to the list and return, where `given` is what m takes the place of. An
+-- error leaves the list unchanged, and comes only if m is accepted and its key is new.
 pub record Inserts {X E : Type 0} (old new : List Member) (m : Member) (given : X)
     (result : Result X E) : Type 0 where
   pub ok : OnOk result (new ≡ insert old m)
@@ -82,7 +83,7 @@ pub record Inserts {X E : Type 0} (old new : List Member) (m : Member) (given : 
   pub err_accepted : OnErr result (accepts old m ≡ true)
   pub err_new : OnErr result (member_at old m.key ≡ None)
 
--- The others, in their order (the Rust crate's `remove`).
+-- The other members, in their order (the Rust crate's `remove`).
 abbrev pub remove : List Member → List ℕ → List Member
 remove ms key = filter (λ m. not (has_key key m)) ms
 

@@ -5,8 +5,8 @@ use Rattle.std.specs.List.{list_all, list_any, flat_map}
 use Rattle.std.specs.Fmt.{digit_glyph}
 use Rattle.std.specs.Str.{trim}
 
--- A delimiter: one of the visible ASCII characters that stand in no token (RFC 7230,
--- section 3.2.6).
+-- A delimiter: one of the visible ASCII characters that can't be in a token (RFC 7230, section
+-- 3.2.6).
 abbrev pub is_delimiter : ℕ → Bool
 is_delimiter b = list_any (λ d. d == b) (codes "(),/:;<=>?@[\\]{}\"")
 

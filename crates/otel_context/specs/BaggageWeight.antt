@@ -1,4 +1,4 @@
--- What the code finds from the sum that it keeps. Private: no public contract cites it.
+-- What the code computes from the sum that it keeps. Private: no public contract cites it.
 use Rattle.std.specs.Prelude.{ℕ, ◌-◌, List, length, ◌&&◌, nat_lt, Option, Some, None, if◌then◌else◌}
 use Rattle.std.specs.Option.{option_map_or}
 use Rattle.otel_context.specs.BaggageText.{is_key}

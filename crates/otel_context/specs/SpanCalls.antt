@@ -5,14 +5,13 @@ use Rattle.std.specs.Coded.{Coded, Coded-set, coded_ℕ, coded_option, ×_prop, 
 use Rattle.otel_context.specs.Spans.{SpansState, get, find, replace_found}
 
 module _ {S : Type 0} where
-  -- the table after an effect on the span under the number, if there are both; else the table as
-  -- it is
+  -- the table after an effect on the span under the number, if there is one; otherwise the table
   abbrev pub after_effect : (S → S) → SpansState S → Option ℕ → SpansState S
   after_effect effect table number =
       option_map_or (λ span. replace_found table number (effect span)) (find table number) table
 
-  -- the span under the number became one that it is in relation with, if there are both; else
-  -- the table is as it was
+  -- the span under the number became one related to it, if there is one; otherwise the table is
+  -- unchanged
   abbrev pub BecomesOne : (S → S → Type 0) → SpansState S → Option ℕ → SpansState S → Type 0
   BecomesOne Relation old number new =
       MatchOption (find old number) (new ≡ old)

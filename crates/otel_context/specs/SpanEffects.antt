@@ -22,14 +22,14 @@ module _ {S : Type 0} where
   abbrev pub each_set : (S → Attribute → S) → S → List Attribute → S
   each_set after_attribute span attributes = fold after_attribute span attributes
 
-  -- if the span records, each attribute is set in order; else it is as it was (the Rust crate's
-  -- `set_attributes`)
+  -- if the span records, each attribute is set in order; otherwise it is unchanged (the Rust
+  -- crate's `set_attributes`)
   abbrev pub SetsAttributes : (S → Bool) → (S → Attribute → S) → S → List Attribute → S
       → Type 0
   SetsAttributes is_recording after_attribute old attributes new =
       MatchBool (is_recording old) (new ≡ each_set after_attribute old attributes) (new ≡ old)
 
-  -- some first ones of the attributes were set, in order, and not all
+  -- the first of the attributes were set, in order, but not all
   pub record SetsBeginning (after_attribute : S → Attribute → S) (old : S)
       (attributes : List Attribute) (new : S) : Type 0 where
     pub count : ℕ
@@ -44,14 +44,14 @@ module _ {S : Type 0} where
     pub prints : IfSome output (λ bytes. printed ≡ bytes)
     pub added : new ≡ after_event (codes "exception") time (message printed)
 
-  -- if the span records, the error's event is added; else it is as it was (the Rust crate's
+  -- if the span records, the error's event is added; otherwise it is unchanged (the Rust crate's
   -- `record_error`)
   abbrev pub RecordsError : (S → Bool) → (S → List ℕ → ℕ → List Attribute → S) → S
       → Option (List ℕ) → ℕ → S → Type 0
   RecordsError is_recording after_event old output time new =
       MatchBool (is_recording old) (AddsException (after_event old) output time new) (new ≡ old)
 
-  -- these first ones were set, and the others are left
+  -- the first ones were set, and the others are left
   pub record SetSoFar (after_attribute : S → Attribute → S) (old : S)
       (attributes : List Attribute) (new : S) (done left : List Attribute) : Type 0 where
     pub set : new ≡ each_set after_attribute old done

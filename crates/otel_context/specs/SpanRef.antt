@@ -32,8 +32,7 @@ module _ {S : Type 0} where
   table_after effect reference =
       calls.after_effect effect (table_of reference) (number_of reference)
 
-  -- the span became one that it is in relation with, if the table has it; else the table is as
-  -- it was
+  -- the span became one related to it, if the table has it; otherwise the table is unchanged
   abbrev pub Becomes : (S → S → Type 0) → SpanRef S → SpanRef S → Type 0
   Becomes Relation old new = calls.BecomesOne Relation (table_of old) (number_of old) (table_of new)
 

@@ -13,7 +13,7 @@ pub record SpansState (S : Type 0) : Type 0 where
   pub spans : map.FinMap nat_cmp S
   pub next_number : ℕ
 
--- what stands for the next number once each number was given out: the greatest `u64`
+-- the next number once all numbers were given out: the greatest `u64`
 abbrev pub used_up : ℕ
 used_up = 18446744073709551615
 
@@ -26,7 +26,7 @@ module _ {S : Type 0} where
   abbrev pub get : SpansState S → ℕ → Option S
   get table number = map.get table.spans number
 
-  -- how many spans stand in the table
+  -- the number of spans in the table
   abbrev pub len : SpansState S → ℕ
   len table = map.len table.spans
 
@@ -46,7 +46,7 @@ module _ {S : Type 0} where
   abbrev pub replace : SpansState S → ℕ → S → SpansState S
   replace table number span = record table { spans = map.insert table.spans number span }
 
-  -- the span under the number of a context, if there are both
+  -- the span under the number of a context, if there is one
   abbrev pub find : SpansState S → Option ℕ → Option S
   find table None = None
   find table (Some number) = get table number
@@ -60,7 +60,7 @@ module _ {S : Type 0} where
   abbrev pub take : SpansState S → ℕ → SpansState S
   take table number = record table { spans = map.remove table.spans number }
 
-  -- why the table takes no span: its numbers are used up, or else memory ran out
+  -- why the table takes no span: its numbers are used up, or memory ran out
   abbrev pub cause_of : SpansState S → SpanCause
   cause_of table = if table.next_number == used_up then NumbersUsedUp else Memory alloc_error
 

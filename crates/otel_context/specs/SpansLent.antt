@@ -1,4 +1,4 @@
--- What a span table ends as after one of its spans was lent for writing. Not in the Rust crate.
+-- The span table after one of its spans was lent for writing. Not in the Rust crate.
 use Rattle.std.specs.Prelude.{◌≡◌, ℕ, Option, OnSome}
 use Rattle.std.specs.Borrow.{LendsSo, follows_so, Fml, RattleType, MutBor}
 use Rattle.std.specs.Option.{ghost_name_of}

@@ -84,7 +84,7 @@ abbrev pub RisesAbove : ℕ → List ℕ → Type 0
 RisesAbove p [] = Unit {0}
 RisesAbove p (x ∷ xs) = (p < x) × RisesAbove x xs
 
--- what is so of every stack at any time
+-- what holds of every stack at any time
 pub record IsLawful (stack : StackState) : Type 0 where
   -- positions rise from 1 on
   pub rising : RisesAbove 0 (positions stack.live)
@@ -101,7 +101,7 @@ pub record Attaches {E : Type 0} (context : ContextRecord) (old new : StackState
   -- if the greatest position is live, nothing changes
   pub full : newest_position old.live ≡ last_position
       → IfOk result (λ position. (position ≡ no_position) × (new ≡ old))
-  -- else the context is attached at the position above the newest
+  -- otherwise the context is attached at the position above the newest
   pub accepted : newest_position old.live < last_position → IfOk result (λ position.
       (position ≡ newest_position old.live + 1)
       × (new ≡ record {
@@ -109,7 +109,7 @@ pub record Attaches {E : Type 0} (context : ContextRecord) (old new : StackState
         accepted = old.accepted + 1;
         stepped = old.stepped;
       }))
-  -- after an error the stack is as it was
+  -- after an error the stack is unchanged
   pub err : OnErr result (new ≡ old)
   pub lawful : IsLawful new
 

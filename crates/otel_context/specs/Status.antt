@@ -13,7 +13,7 @@ rank Unset = 0
 rank (Error _) = 1
 rank Ok = 2
 
--- what an error says; the other statuses say nothing
+-- the description of an error; the other statuses have none
 abbrev pub description : Status → List ℕ
 description Unset = []
 description (Error said) = said

@@ -31,7 +31,8 @@ pub fn shown_name(alloc: Global, is_ascii: bool, name: &str) -> Result<Vec<char>
     Ok(chars)
 }
 
-/// Cuts a name to `columns` columns, without allocating. If it was longer, the last one holds `…` or `~`.
+/// Cuts a name to `columns` columns, without allocating. If it was longer, the last one holds `…`
+/// or `~`.
 pub(crate) fn fit(is_ascii: bool, columns: usize, name: &mut Vec<char>)
     requires { 0 < columns }
     ensures { name.new.items ≡ spec.fitted is_ascii columns name.old.items }

@@ -24,7 +24,7 @@ abbrev pub is_exported : Option SpanRecord → Bool
 is_exported None = false
 is_exported (Some span) = is_sampled span
 
--- the table without the span under the number if that has ended, and else as it is
+-- the table without the span under the number if it has ended, otherwise unchanged
 abbrev pub without_ended : SpansState SpanState → ℕ → SpansState SpanState
 without_ended spans number =
     if is_ended (table.get spans number) then table.take spans number else spans
@@ -34,18 +34,18 @@ abbrev pub exported : Option SpanRecord → Option SpanRecord
 exported None = None
 exported (Some span) = if is_sampled span then Some span else None
 
--- The sampled spans that have ended and aren't collected: those of the table under these numbers, in
--- this order.
+-- The sampled spans that have ended and aren't collected: those of the table under these numbers,
+-- in this order.
 abbrev pub waiting : SpansState SpanState → List ℕ → List SpanRecord
 waiting spans numbers =
     filter_map (λ number. exported (ended_data (table.get spans number))) numbers
 
--- each of the numbers is that of a span that has ended, and none stands twice
+-- each number is that of a span that has ended, and no number occurs twice
 pub record AreListed (spans : SpansState SpanState) (numbers : List ℕ) : Type 0 where
   pub ended : AllByRecursion (λ number. is_ended (table.get spans number) ≡ true) numbers
   pub distinct : IsDistinct ◌==◌ numbers
 
--- a sampled span that was collected, and whether it was dropped, as it met a full queue
+-- a sampled span that was collected, and whether it was dropped because the queue was full
 pub record Fate : Type 0 where
   pub span : SpanRecord
   pub is_dropped : Bool
@@ -88,10 +88,10 @@ module _ {E : Type 0} where
     pub rest : left ≡ drop count numbers
     pub handed_in : new ≡ fold after_end_of old (take count numbers)
 
-  -- Of the sampled spans that ended, in the order of their ends, each is in exactly one place: taken
-  -- (accepted by the exporter after what that had accepted earlier, or queued), waiting, or dropped
-  -- and counted. Those taken, followed by those that wait, are in that order (OpenTelemetry trace
-  -- SDK, "Span processor").
+  -- Of the sampled spans that ended, in the order of their ends, each is in exactly one place:
+  -- taken (accepted by the exporter after what that had accepted earlier, or queued), waiting, or
+  -- dropped and counted. Those taken, followed by those that wait, are in that order (OpenTelemetry
+  -- trace SDK, "Span processor").
   pub record NothingLost (accepted : E → List (List SpanRecord)) (earlier ends : List SpanRecord)
       (c : Collecting E) (numbers : List ℕ) : Type 0 where
     -- what became of those that were collected
@@ -100,7 +100,7 @@ module _ {E : Type 0} where
     pub taken : (taken_of accepted c.processor).spans ≡ earlier ++ filter_map kept fates
     pub counted : c.processor.dropped_spans ≡ min (length (filter_map dropped fates)) (2 ^ 64 - 1)
 
-  -- what lost nothing before loses nothing after
+  -- if nothing was lost before, nothing is lost after
   abbrev pub LosesNothing : (E → List (List SpanRecord)) → (numbers left : List ℕ)
       → (old new : Collecting E) → Type 0
   LosesNothing accepted numbers left old new = (earlier ends : List SpanRecord)

@@ -8,7 +8,7 @@ use Rattle.otel_sdk_span.specs.SpanData.{SpanRecord}
 abbrev pub spans_of : List (List SpanRecord) → List SpanRecord
 spans_of batches = flat_map (λ batch. batch) batches
 
--- the first batches of a list, so many: each has this size, and the last one of the list what is
+-- the first `count` batches of a list: each has this size, but the last of the list has what is
 -- left; a, b, c in batches of 2 are [a, b] and [c]
 abbrev pub batches : {X : Type 0} → ℕ → ℕ → List X → List (List X)
 batches size zero xs = []

@@ -13,7 +13,7 @@ pub record LiveState : Type 0 where
   pub spans : SpansState SpanState
   pub ended : List ℕ
 
--- a code of these: that of the pair of the two fields
+-- a code of live states: that of the pair of the two fields
 abbrev pub live_code : Coded SpanState → Coded LiveState
 live_code span_code = code_by (SpansState SpanState × List ℕ)
     (coded× (spans_code span_code) (coded_list coded_ℕ))
@@ -29,14 +29,14 @@ no_spans = record { spans = table.starting_at 0; ended = [] }
 abbrev pub with_started : SpanState → LiveState → LiveState
 with_started span live = record live { spans = table.insert live.spans span }
 
--- the span under the number was changed so, if there is one
+-- the span under the number was changed, if there is one
 abbrev pub with_changed : (SpanState → SpanState) → ℕ → LiveState → LiveState
 with_changed change number live = record live {
   spans = after_effect change live.spans (Some number);
 }
 
--- this span, which stands under the number, has ended at that moment, and is the last that did; if
--- it had ended before, or if there is none, nothing changed
+-- the span, which stands under the number, ended at that moment, after all others; if it had
+-- already ended, or if there is none, nothing changed
 abbrev pub with_end_of : Option SpanState → ℕ → ℕ → LiveState → LiveState
 with_end_of None number time live = live
 with_end_of (Some s) number time live = if s.has_ended then live else record {

@@ -72,14 +72,14 @@ pub record IsOwn (spans : SpansState SpanState) (bound : ℕ) (part : Option Spa
   pub found : table.get spans number ≡ Some span
   pub same : part ≡ Some (record { context = span.context; number = Some number })
 
--- The active span of a context: none, that of a given context, or a span of the run that was started
--- earlier.
+-- The active span of a context: none, that of a given context, or a span of the run that was
+-- started earlier.
 abbrev pub ComesFrom : List ContextRecord → SpansState SpanState → ℕ → ContextRecord → Type 0
 ComesFrom contexts spans bound context = (context.span ≡ None)
     ⊎ (IsActiveIn contexts context.span ⊎ IsOwn spans bound context.span)
 
--- The span under the number was started under a context of the list of parents, and is a child of its
--- active span.
+-- The span under the number was started under a context of the list of parents, and is a child of
+-- its active span.
 pub record IsStartedUnder (contexts : List ContextRecord) (spans : SpansState SpanState)
     (parents : SpansState ContextRecord) (number : ℕ) (span : SpanState) : Type 0 where
   pub parent : ContextRecord

@@ -14,7 +14,7 @@ is_sampled span = flags.is_sampled span.span_context.trace_flags
 
 -- ---- what every processor owes
 -- The sampled spans that a processor took, in order: those that its exporter accepted, followed by
--- those that are queued; and how many it dropped for want of room.
+-- those that are queued; and how many it dropped because the queue was full.
 pub record Taken : Type 0 where
   pub spans : List SpanRecord
   pub dropped : ℕ
@@ -31,7 +31,7 @@ with_last span taken = record taken { spans = taken.spans ++ span ∷ [] }
 abbrev pub with_dropped : Taken → Taken
 with_dropped taken = record taken { dropped = one_more taken.dropped }
 
--- A sampled span is taken, as the last one, or dropped and counted; any other is let go.
+-- A sampled span is taken, as the last one, or dropped and counted; any other is dropped.
 abbrev pub IsHandedIn : SpanRecord → Taken → Taken → Type 0
 IsHandedIn span old new =
     MatchBool (is_sampled span) ((new ≡ with_last span old) ⊎ (new ≡ with_dropped old)) (new ≡ old)
@@ -95,14 +95,14 @@ module _ {E : Type 0} where
   counted p = record p { dropped_spans = one_more p.dropped_spans }
 
   -- after the end of a span: a sampled one is queued last, or dropped and counted if the queue is
-  -- full; any other is let go (OpenTelemetry trace SDK, "Batching processor")
+  -- full; any other is dropped (OpenTelemetry trace SDK, "Batching processor")
   abbrev pub after_end : SpanRecord → ProcessorState E → ProcessorState E
   after_end span p =
       if is_sampled span
       then (if nat_lt (length p.queue) p.config.max_queue_size then queued span p else counted p)
       else p
 
-  -- why a span isn't taken: the processor was shut down, or else out of memory
+  -- why a span isn't taken: the processor was shut down, or memory ran out
   abbrev pub cause : ProcessorState E → OTelSdkError
   cause p = if p.is_shut_down then AlreadyShutdown else Memory alloc_error
 

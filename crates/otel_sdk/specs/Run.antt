@@ -29,8 +29,8 @@ use Rattle.otel_sdk.specs.declared.trace.program.event.EventOutcome.TheVariants.
 
 -- The history of a run has each span that was started, also after a processor took it, and the
 -- numbers of all that ended, in the order of their ends. The live spans are those that no processor
--- has taken. The stack has the contexts that are attached, each at its position. Under the number of
--- each span of the history stands the context that it was started under.
+-- has taken. The stack has the contexts that are attached, each at its position. Under the number
+-- of each span of the history stands the context that it was started under.
 pub record RunState (E : Type 0) : Type 0 where
   pub history : LiveState
   pub parents : SpansState ContextRecord
@@ -43,7 +43,7 @@ abbrev pub outcome_of : SpanCause → EventOutcome
 outcome_of cause_of.NumbersUsedUp = NumbersUsedUp
 outcome_of (cause_of.Memory error) = Failed (Memory error)
 
--- One span was started, of those that may, or an error says why not: then nothing changed.
+-- One of the spans that may start was started, or an error says why not; then nothing changed.
 abbrev pub StartsOne : (SpanState → Type 0) → LiveState → LiveState → EventOutcome → Type 0
 StartsOne May old new Done = (span : SpanState) × May span × (new ≡ with_started span old)
 StartsOne May old new NumbersUsedUp = (old.spans.next_number ≡ used_up) × (new ≡ old)
@@ -111,8 +111,8 @@ module _ {E : Type 0} where
   abbrev pub with_stack : Live → RunState E → RunState E
   with_stack contexts old = record old { stack = contexts }
 
-  -- the first of the ended spans were handed to the processor, in the order of their ends; none if it
-  -- was shut down
+  -- the first of the ended spans were handed to the processor, in the order of their ends; none if
+  -- it was shut down
   pub record IsCollected (old new : RunState E) : Type 0 where
     pub same : new ≡ record old { live = new.live; processor = new.processor }
     pub collected : AreCollected old.live.ended new.live.ended
@@ -142,8 +142,8 @@ module _ {E : Type 0} where
       ⊎ (((new.processor.is_shut_down ≡ false) × IsExported accepted old new)
       ⊎ IsShutDown accepted shuts_down old new)
 
-  -- The processor is as it was, and wasn't shut down; or its exporter and it were shut down, with an
-  -- empty queue.
+  -- The processor is as it was, and wasn't shut down; or its exporter and it were shut down, with
+  -- an empty queue.
   abbrev pub WasOpen : (E → E → Type 0) → ProcessorState E → ProcessorState E → Type 0
   WasOpen shuts_down before processor = (before.is_shut_down ≡ false) × ((processor ≡ before)
       ⊎ ((before.queue ≡ []) × shuts_down before.exporter processor.exporter
@@ -252,5 +252,6 @@ module _ {E : Type 0} where
       pub was_open : WasOpen shuts_down before processor
       pub nothing_lost : NothingLost accepted (spans_of (accepted exporter))
           (waiting history.spans history.ended) (of before live.spans) live.ended
-      -- each span has the trace id of its parent, and its parent's span id, if the tracer starts such
+      -- each span has the trace id of its parent, and its parent's span id, if the tracer starts
+      -- such
       pub have_parents : StartChildren may_start → HaveParents (given events) history.spans parents

@@ -21,13 +21,13 @@ use Rattle.otel_sdk_sampling.specs.declared.sampler.SamplingDecision.TheVariants
 
 -- ---- parents, ids and flags
 
--- the span context of the parent if neither of its ids is 0; without such a parent the span is a root
+-- the span context of the parent if neither of its ids is 0; otherwise the span is a root
 -- [OpenTelemetry trace API, "Determining the Parent Span from a Context"]
 abbrev pub parent_of : ContextRecord → Option SpanContextRecord
 parent_of context =
     if has_parent (span_context context) then Some (span_context context) else None
 
--- The trace id of a span: its parent's, and of a root any but 0.
+-- The trace id of a span: its parent's, or for a root any but 0.
 abbrev pub IsTraceId : Option SpanContextRecord → ℕ → Type 0
 IsTraceId None id = id ≢ 0
 IsTraceId (Some parent) id = id ≡ parent.trace_id
@@ -46,7 +46,7 @@ parent_is_remote (Some parent) = parent.is_remote
 abbrev pub is_random : ℕ → Bool
 is_random flags = flags / 2 % 2 == 1
 
--- Whether the trace id is random: as the parent's flags say, and for a root as its generator says.
+-- Whether the trace id is random: as the parent's flags say, or for a root as the generator says.
 abbrev pub has_random_id : Option SpanContextRecord → Bool → Bool
 has_random_id None random = random
 has_random_id (Some parent) random = is_random parent.trace_flags
@@ -63,8 +63,8 @@ samples Drop = false
 samples RecordOnly = false
 samples RecordAndSample = true
 
--- The flags of a span: bit 0 is set if it is exported, bit 1 if its trace id is random, and no other
--- bit is [W3C trace-context-2, "trace-flags"].
+-- The flags of a span: bit 0 is set if it is exported, bit 1 if its trace id is random, and no
+-- other bit is [W3C trace-context-2, "trace-flags"].
 abbrev pub flags_of : SamplingDecision → Bool → ℕ
 flags_of decision random = (if samples decision then 1 else 0) + (if random then 2 else 0)
 
@@ -99,8 +99,8 @@ span_context_of trace_id span_id decision random trace_state = record {
   trace_state = trace_state;
 }
 
--- What a span starts with at that moment: what its builder gives, the sampler's attributes after the
--- builder's [the Rust crate's `build_recording_span`].
+-- What a span starts with at that moment: what its builder gives, the sampler's attributes after
+-- the builder's [the Rust crate's `build_recording_span`].
 abbrev pub given_data : Scope → BuilderRecord → Option SpanContextRecord → SpanContextRecord
     → List Attribute → ℕ → SpanRecord
 given_data scope builder parent context sampled start = record {
@@ -137,15 +137,16 @@ decided decision limits d =
 
 -- ---- tracers
 
--- what of a tracer counts for its spans: the sampler, the generator of ids, the limits, the scope
+-- the parts of a tracer that its spans depend on: the sampler, the generator of ids, the limits,
+-- the scope
 pub record TracerState (S G : Type 0) : Type 0 where
   pub sampler : S
   pub id_generator : G
   pub limits : SpanLimits
   pub scope : Scope
 
--- The span of these ids that starts from a builder under a parent context, where the clock shows that
--- moment, if a sampler answers so and the ids of the generator are random or aren't.
+-- The span with these ids that starts from a builder under a parent context at the moment `now`,
+-- given the sampler's answers and whether the generator's ids are random.
 abbrev pub started_span : (Asked → Answer) → Bool → SpanLimits → Scope → BuilderRecord
     → ContextRecord → ℕ → ℕ → ℕ → SpanState
 started_span answer random limits scope builder context trace_id span_id now =
@@ -157,29 +158,29 @@ started_span answer random limits scope builder context trace_id span_id now =
     decided answered.decision limits
     (given_data scope builder parent own answered.attributes start)
 
--- some moment that the clock may show makes this span that records
+-- the span records, and started at some moment
 abbrev pub Records : SpanLimits → Scope → BuilderRecord → Option SpanContextRecord
     → SpanContextRecord → List Attribute → SpanState → Type 0
 Records limits scope builder parent context sampled span = (now : ℕ)
     × (span ≡ started limits
     (given_data scope builder parent context sampled (unwrap_or builder.start_time now)))
 
--- some moment that the clock may show makes this span of these ids
+-- the span has these ids, and started at some moment
 abbrev pub StartsWith : (Asked → Answer) → Bool → SpanLimits → Scope → BuilderRecord
     → ContextRecord → ℕ → ℕ → SpanState → Type 0
 StartsWith answer random limits scope builder context trace_id span_id span = (now : ℕ)
     × (span ≡ started_span answer random limits scope builder context trace_id span_id now)
 
--- some ids that the generator may give make this span
+-- the span has some ids that the generator may return
 abbrev pub MayStart : (Asked → Answer) → Bool → SpanLimits → Scope → BuilderRecord → ContextRecord
     → SpanState → Type 0
 MayStart answer random limits scope builder context span = (trace_id : ℕ) × (span_id : ℕ)
     × IsTraceId (parent_of context) trace_id × (span_id ≢ 0)
     × StartsWith answer random limits scope builder context trace_id span_id span
 
--- The spans that a tracer may start: under suppressed telemetry the silent one only. Else also
--- the silent one if the provider is shut down, and one without new ids if the generator fails, neither
--- of which a contract sees; or the one that starts.
+-- The spans that a tracer may start. Under suppressed telemetry: only the silent one. Otherwise:
+-- the silent one if the provider is shut down, one without new ids if the generator fails (no
+-- contract sees either), or one that starts.
 abbrev pub MayBuild : (Asked → Answer) → Bool → SpanLimits → Scope → BuilderRecord → ContextRecord
     → SpanState → Type 0
 MayBuild answer random limits scope builder context span =
@@ -189,14 +190,14 @@ MayBuild answer random limits scope builder context span =
 
 -- ---- providers
 
--- what of a provider counts for its tracers, and its resource
+-- the parts of a provider that its tracers depend on, and its resource
 pub record ProviderState (S G : Type 0) : Type 0 where
   pub sampler : S
   pub id_generator : G
   pub limits : SpanLimits
   pub resource : Parts
 
--- a provider that is being made; no resource stands for the default one
+-- a provider under construction; `None` stands for the default resource
 pub record ProviderParts (S G : Type 0) : Type 0 where
   pub sampler : S
   pub id_generator : G

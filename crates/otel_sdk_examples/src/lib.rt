@@ -1,5 +1,5 @@
-//! Small callers of the SDK, of the headers of HTTP and of the bridge from the crate `log`, each proved
-//! from public contracts.
+//! Small callers of the SDK, of the headers of HTTP and of the bridge from the crate `log`, each
+//! proved from public contracts.
 #![tactic(auto)]
 
 pub mod log_line;

@@ -19,17 +19,17 @@ pub record Held : Type 0 where
 abbrev pub place : List ℕ → List Attribute → Option ℕ
 place key held = position (λ a. bytes_eq a.0 key) held
 
--- the list with the attribute in the place of its key, or else with it last (OpenTelemetry
+-- the list with the attribute in the place of its key, or last if the key is new (OpenTelemetry
 -- specification, "Attribute Collections"; the order is own)
 abbrev pub put : List Attribute → Attribute → List Attribute
 put held a = option_map_or (λ i. slice_set held i a) (place a.0 held) (held ++ a ∷ [])
 
--- whether the attribute is kept: its key is there, or fewer than 128 are (OpenTelemetry
+-- whether the attribute is kept: its key is present, or there are fewer than 128 (OpenTelemetry
 -- specification, "Attribute Limits")
 abbrev pub keeps : List Attribute → Attribute → Bool
 keeps held a = is_some (place a.0 held) || nat_lt (length held) 128
 
--- the list after the attribute is set: it is put if it is kept, and else nothing changes
+-- the list after the attribute is set: it is put if it is kept, otherwise nothing changes
 abbrev pub set : List Attribute → Attribute → List Attribute
 set held a = if keeps held a then put held a else held
 

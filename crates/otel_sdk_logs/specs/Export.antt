@@ -8,7 +8,7 @@ use Rattle.otel_sdk_logs.specs.LogRecord.{LogEntry}
 abbrev pub records_of : List (List LogEntry) → List LogEntry
 records_of batches = flat_map (λ batch. batch) batches
 
--- the first batches of a list, so many: each has this size, and the last one of the list what is
+-- the first `count` batches of a list: each has this size, but the last of the list has what is
 -- left; a, b, c in batches of 2 are [a, b] and [c]
 abbrev pub batches : {X : Type 0} → ℕ → ℕ → List X → List (List X)
 batches size zero xs = []
@@ -25,8 +25,8 @@ pub record AreExported (size : ℕ) (queue : List LogEntry) (old new : List (Lis
   pub accepted : new ≡ old ++ batches size count queue
   pub rest : left ≡ drop (count * size) queue
 
--- What an exporter that keeps log records in memory has: the batches that it accepted since it was last
--- emptied, and whether it was shut down (the Rust crate's `InMemoryLogExporter`).
+-- What an exporter that keeps log records in memory has: the batches that it accepted since it was
+-- last emptied, and whether it was shut down (the Rust crate's `InMemoryLogExporter`).
 pub record InMemory : Type 0 where
   pub accepted : List (List LogEntry)
   pub is_shut_down : Bool

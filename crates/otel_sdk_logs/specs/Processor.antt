@@ -9,7 +9,7 @@ use Rattle.otel_sdk_span.specs.declared.error.OTelSdkError.TheVariants.{AlreadyS
 
 -- ---- what every processor owes
 -- The records that a processor took, in order: those that its exporter accepted, followed by those
--- that are queued; and how many it dropped, having no room or being closed.
+-- that are queued; and how many it dropped because it had no room or was closed.
 pub record Taken : Type 0 where
   pub records : List LogEntry
   pub dropped : ℕ

@@ -19,7 +19,7 @@ fn place(held: &[(Key, AnyValue)], key: &str) -> Option<usize>
     held.iter().position(|pair| pair.0.as_str() == key)
 }
 
-// Puts the attribute in the place of the one with its key, or else last.
+// Puts the attribute in the place of the one with its key, or last if there is none.
 fn put(held: &mut Pairs, key: Key, value: AnyValue)
     requires { vec_len held.old < vec_capacity held.old }
     ensures put { pairs_view held.new.items

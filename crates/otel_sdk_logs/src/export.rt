@@ -1,4 +1,4 @@
-//! What takes log records out of the program.
+//! Exporters, which take log records out of the program.
 ghost use Rattle.std.specs.Prelude.{◌≡◌, [], ◌∷◌, ◌++◌, OnOk, OnErr};
 
 use crate::record::SdkLogRecord;
@@ -59,8 +59,8 @@ impl Clone for LogData {
 /// A batch is accepted whole or refused whole. An exporter names, by ghost members, the batches
 /// that it has accepted, `accepted`, and what a shutdown may make of it, `shuts_down`.
 ///
-/// An exporter that can never write a record has to accept it and count it itself: a processor hands
-/// in a refused batch again.
+/// An exporter that can never write a record must accept it and count it itself, since a processor
+/// hands in a refused batch again.
 ///
 /// See [`crate::InMemoryLogExporter`].
 pub trait LogExporter: Drop {
@@ -84,7 +84,7 @@ pub trait LogExporter: Drop {
     ///
     /// # Errors
     ///
-    /// Some of it isn't written. Whatever was accepted stays so.
+    /// Some of it isn't written. What was accepted stays accepted.
     fn force_flush(&mut self) -> OTelSdkResult
         ensures { accepted self.new ≡ accepted self.old };
 
@@ -92,12 +92,11 @@ pub trait LogExporter: Drop {
     ///
     /// # Errors
     ///
-    /// The exporter's own. It is shut down all the same.
+    /// The exporter's own error. It is shut down all the same.
     fn shutdown(&mut self) -> OTelSdkResult
         ensures { shuts_down self.old self.new };
 
-    /// Tells the exporter the resource of the records to come. Does nothing unless an exporter says
-    /// otherwise.
+    /// Tells the exporter the resource of the records to come. Does nothing by default.
     fn set_resource(&mut self, _resource: Rc<Resource>)
         ensures { accepted self.new ≡ accepted self.old }
     {}

@@ -15,8 +15,8 @@ use std::rc::Rc;
 /// Takes log records, and hands them to an exporter (the Rust crate's `LogProcessor`). There are no
 /// threads: records are exported in the calls only.
 ///
-/// A processor names, by ghost members, the records that it took, in order, with how many it dropped,
-/// `taken`, and whether it takes any, `takes`.
+/// A processor names, by ghost members, the records that it took, in order, with how many it
+/// dropped, `taken`, and whether it takes any, `takes`.
 ///
 /// See [`crate::BatchLogProcessor`].
 pub trait LogProcessor: Drop {
@@ -37,8 +37,8 @@ pub trait LogProcessor: Drop {
     ///
     /// # Errors
     ///
-    /// `AlreadyShutdown` after [`LogProcessor::shutdown`], or the exporter's. What it didn't accept
-    /// stays queued, in order.
+    /// `AlreadyShutdown` after [`LogProcessor::shutdown`], or the exporter's error. What it didn't
+    /// accept stays queued, in order.
     fn force_flush(&mut self) -> OTelSdkResult
         ensures { taken self.new ≡ taken self.old };
 
@@ -47,7 +47,7 @@ pub trait LogProcessor: Drop {
     ///
     /// # Errors
     ///
-    /// `AlreadyShutdown` after an earlier call, or the exporter's. If the flush failed, the
+    /// `AlreadyShutdown` after an earlier call, or the exporter's error. If the flush failed, the
     /// processor stays open for another try.
     fn shutdown(&mut self) -> OTelSdkResult;
 
@@ -59,8 +59,7 @@ pub trait LogProcessor: Drop {
     fn dropped_records(&self) -> u64
         ensures { result ≡ (taken self.now).dropped };
 
-    /// Tells the exporter the resource of the records to come. Does nothing unless a processor says
-    /// otherwise.
+    /// Tells the exporter the resource of the records to come. Does nothing by default.
     fn set_resource(&mut self, _resource: Rc<Resource>)
         ensures { taken self.new ≡ taken self.old }
     {}

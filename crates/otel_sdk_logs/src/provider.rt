@@ -98,8 +98,8 @@ impl<P, C> Model for SdkLoggerProvider<P, C> {
 }
 
 impl<R: std::time::Clock + Copy + Drop> SdkLoggerProvider<(), SystemClock<R>> {
-    /// Starts a provider with the defaults: the clock is the system's. It needs a processor. Takes no
-    /// memory.
+    /// Starts a provider with the defaults: the clock is the system's. It needs a processor. Takes
+    /// no memory.
     pub fn builder(rt: R) -> LoggerProviderBuilder<(), SystemClock<R>>
         ensures { result.resource ≡ None }
     {
@@ -119,7 +119,8 @@ impl<P: LogProcessor, C: Clock> SdkLoggerProvider<P, C> {
         &self.inner.resource
     }
 
-    /// Returns the processor, to look at. A record that is emitted meanwhile is dropped and counted.
+    /// Returns the processor, to look at. A record that is emitted meanwhile is dropped and
+    /// counted.
     ///
     /// # Errors
     ///
@@ -138,8 +139,8 @@ impl<P: LogProcessor, C: Clock> SdkLoggerProvider<P, C> {
     ///
     /// # Errors
     ///
-    /// Those of [`LogProcessor::force_flush`], and `InternalFailure` from within the processor's own
-    /// work.
+    /// Those of [`LogProcessor::force_flush`], and `InternalFailure` from within the processor's
+    /// own work.
     pub fn force_flush(&self) -> OTelSdkResult {
         match self.inner.processor.try_borrow_mut() {
             Ok(mut processor) => processor.force_flush(),
@@ -147,8 +148,8 @@ impl<P: LogProcessor, C: Clock> SdkLoggerProvider<P, C> {
         }
     }
 
-    /// Shuts the processor down: from now on its loggers enable no event, and each record is dropped
-    /// and counted.
+    /// Shuts the processor down: from now on its loggers enable no event, and each record is
+    /// dropped and counted.
     ///
     /// # Errors
     ///

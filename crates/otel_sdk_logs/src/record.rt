@@ -26,8 +26,8 @@ pub struct TraceContext {
 
 /// A log record, as processors and exporters get it (the Rust crate's `SdkLogRecord`).
 ///
-/// Its attributes have unique keys: an attribute whose key is there gets its value in its place,
-/// and one whose key is new is dropped and counted if there are 128.
+/// Its attributes have unique keys: an attribute whose key is present replaces the value in its
+/// place, and one whose key is new is dropped and counted if there are 128.
 ///
 /// ```
 /// let mut record = SdkLogRecord::new(alloc);
@@ -194,7 +194,7 @@ impl LogRecord for SdkLogRecord {
         self.body = Some(body);
     }
 
-    /// Sets each attribute in turn, in the place of the one with its key, or else last, up to 128.
+    /// Sets each attribute in turn, in the place of the one with its key, or last, up to 128.
     ///
     /// # Errors
     ///
@@ -208,7 +208,7 @@ impl LogRecord for SdkLogRecord {
         set_all(&mut self.attributes, dropped, attributes)
     }
 
-    /// Sets the attribute in the place of the one with its key, or else last, up to 128.
+    /// Sets the attribute in the place of the one with its key, or last, up to 128.
     ///
     /// # Errors
     ///
@@ -223,7 +223,7 @@ impl LogRecord for SdkLogRecord {
         set_one(&mut self.attributes, dropped, key, value)
     }
 
-    /// Sets the span, in place of the one before.
+    /// Sets the span, replacing an earlier one.
     fn set_trace_context(
         &mut self,
         trace_id: TraceId,

@@ -7,8 +7,8 @@ use crate::data::SpanData;
 use std::marker::Model;
 use std::mem::size_of;
 
-/// The batches that an exporter has accepted. It is of size zero: they exist only in contracts. Only
-/// [`Accepted::and`] makes a longer list. Not in the Rust crates.
+/// The batches that an exporter has accepted. It is of size zero: they exist only in contracts.
+/// Only [`Accepted::and`] makes a longer list. Not in the Rust crates.
 #[derive(Debug, Drop)]
 pub struct Accepted {
     ghost batches: { List (List SpanRecord) },

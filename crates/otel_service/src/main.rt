@@ -1,5 +1,5 @@
-//! A service at work: it reads the headers of requests from standard input, does the work of each in
-//! a span with two child spans, under the span that the headers name, prints the headers of the
+//! A service at work: it reads the headers of requests from standard input, does the work of each
+//! in a span with two child spans, under the span that the headers name, prints the headers of the
 //! request that it sends on, and logs that it was served.
 #![tactic(auto)]
 

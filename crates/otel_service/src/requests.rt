@@ -6,8 +6,8 @@ use opentelemetry::logs::Logger;
 use otel_sdk::trace::{BatchSpanProcessor, Clock, Pipeline, SpanExporter};
 use std::io::Write;
 
-/// Serves the requests of the bytes, which are parted by empty lines, and writes what is sent on for
-/// each, parted likewise. Without any line there is one request, without headers.
+/// Serves the requests of the bytes, which are parted by empty lines, and writes what is sent on
+/// for each, parted likewise. Without any line there is one request, without headers.
 ///
 /// # Errors
 ///

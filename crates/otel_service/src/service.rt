@@ -73,8 +73,8 @@ impl<P: Pipeline, C: Clock, L: Logger> SpanBody<SdkSpan> for Request<'_, P, C, L
 
 impl<P: Pipeline, C: Clock, L: Logger> Service<'_, P, C, L> {
     /// Serves a request: in a span under the one that its headers name, or in a trace of its own if
-    /// they name none, it does the work, and sets the headers to be sent on. Then it hands the spans
-    /// to the exporter.
+    /// they name none, it does the work, and sets the headers to be sent on. Then it hands the
+    /// spans to the exporter.
     ///
     /// # Errors
     ///
@@ -94,7 +94,8 @@ impl<P: Pipeline, C: Clock, L: Logger> Service<'_, P, C, L> {
         Ok(sent)
     }
 
-    /// Does the work of a request in a span under the parent. Ends the span, whose number goes last.
+    /// Does the work of a request in a span under the parent. Ends the span, whose number goes
+    /// last.
     fn work(&self, parent: &Context, spans: &mut Spans<SdkSpan>) -> Result<Answer, Failure> {
         let mut stack = ContextStack::new(self.alloc)?;
         let builder = self

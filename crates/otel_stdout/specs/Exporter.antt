@@ -21,8 +21,9 @@ pub record SpanLines (W : Type 0) : Type 0 where
 abbrev pub owed_end : Bool → List ℕ
 owed_end owes = if owes then 10 ∷ [] else []
 
--- The writer took these lines: what it took, with the line end that is owed from then on, is the line
--- end that was owed before, and then the lines. Of one that isn't known to hold bytes it says nothing.
+-- The writer took these lines: what it took, with the line end that is owed from then on, is the
+-- line end that was owed before, and then the lines. Of one that isn't known to hold bytes it says
+-- nothing.
 pub record Takes (old new : Option (List ℕ)) (owed owes : Bool) (lines : List ℕ) : Type 0 where
   pub taken : List ℕ
   pub appended : Appends old new taken

@@ -12,8 +12,8 @@ pub record IsInRange (s : SpanRecord) : Type 0 where
   pub end : s.end_time < 2 ^ 64
   pub flags : s.span_context.trace_flags < 256
 
--- both spans have the same ids, flags, kind, name, times and status, the same trace state in a header,
--- and either both have a remote parent or neither
+-- both spans have the same ids, flags, kind, name, times and status, the same trace state in a
+-- header, and either both have a remote parent or neither
 pub record SaysSame (s t : SpanRecord) : Type 0 where
   pub trace_id : s.span_context.trace_id ≡ t.span_context.trace_id
   pub span_id : s.span_context.span_id ≡ t.span_context.span_id

@@ -21,8 +21,8 @@ use std::rc::Rc;
 ///
 /// A line is made in memory, and handed to the writer, which should have no buffer. The batch is
 /// accepted exactly if the writer took every byte of its object. If it took some bytes of a line
-/// and not the `\n`, the exporter owes that one, and pays it before the next line, at a flush and
-/// at a shutdown, so a torn line stands alone, and no span is there twice.
+/// but not the `\n`, the exporter writes that one before the next line, at a flush and at a
+/// shutdown. So a torn line is a line of its own, and no span can be read twice.
 ///
 /// Contracts see the batches that it has accepted, the writer, the resource of the spans to come,
 /// whether it owes the end of a line, and whether it was shut down.
@@ -52,7 +52,7 @@ impl<W> Model for OtlpJsonSpanExporter<W> {
 }
 
 impl<W: Write> OtlpJsonSpanExporter<W> {
-    /// Returns an exporter to the writer, whose spans have no resource until one is set.
+    /// Returns an exporter to the writer. Spans have no resource until one is set.
     ///
     /// # Errors
     ///
@@ -86,7 +86,7 @@ impl<W: Write> OtlpJsonSpanExporter<W> {
         &self.writer
     }
 
-    // Pays the line end that is owed, and returns whether none is owed any more.
+    // Writes the missing line end, and returns whether none is missing any more.
     fn pay(&mut self) -> bool
         ensures rest { self.new ≡ record self.old {
           writer = self.new.writer;
@@ -183,7 +183,7 @@ impl<W: Write + Drop> SpanExporter for OtlpJsonSpanExporter<W> {
     /// # Errors
     ///
     /// `AlreadyShutdown` after [`SpanExporter::shutdown`]; `Memory` if out of memory: nothing is
-    /// written then. `InternalFailure` if the writer didn't take the line end that is owed, or every
+    /// written then. `InternalFailure` if the writer didn't take the missing line end, or every
     /// byte of the object. What it took stays there as a torn line.
     fn export(&mut self, batch: &[SpanData]) -> OTelSdkResult
         ensures ok { OnOk result (self.new.accepted ≡ self.old.accepted ++ batch.now ∷ []) }
@@ -247,7 +247,7 @@ impl<W: Write + Drop> SpanExporter for OtlpJsonSpanExporter<W> {
         self.settle()
     }
 
-    /// Pays the line end that is owed, flushes the writer, and refuses every later call.
+    /// Writes the missing line end, flushes the writer, and refuses every later call.
     ///
     /// # Errors
     ///

@@ -14,8 +14,8 @@ outcome_of status.Unset = outcome.Unset
 outcome_of status.Ok = outcome.Ok
 outcome_of (status.Error description) = outcome.Error
 
--- what is drawn of a span: its ids, its parent and whether that is remote, its name as it is shown, its
--- start and its end, the moments of its events, and what its row says of its status
+-- what is drawn of a span: its ids, its parent and whether that is remote, its name as it is shown,
+-- its start and its end, the moments of its events, and what its row says of its status
 pub record Look : Type 0 where
   pub trace_id : ℕ
   pub span_id : ℕ

@@ -14,8 +14,8 @@ use std::marker::Model;
 
 /// Draws each batch of spans for a terminal, and writes the picture to `W`.
 ///
-/// Contracts see the batches that it has accepted, the writer, the width in columns, whether it draws in
-/// ASCII, and whether it was shut down.
+/// Contracts see the batches that it has accepted, the writer, the width in columns, whether it
+/// draws in ASCII, and whether it was shut down.
 ///
 /// ```
 /// let exporter = WaterfallExporter::new(alloc, output).with_width(120);
@@ -63,7 +63,7 @@ impl<W> WaterfallExporter<W> {
         }
     }
 
-    /// Sets the width in columns, and 40 if that is less.
+    /// Sets the width in columns, at least 40.
     pub fn with_width(mut self, width: u16) -> WaterfallExporter<W>
         ensures { result ≡ record self { width = picture_width width } }
     {
@@ -122,7 +122,7 @@ impl<W: Write + Drop> SpanExporter for WaterfallExporter<W> {
     /// # Errors
     ///
     /// `AlreadyShutdown` after [`SpanExporter::shutdown`]. `Memory` if out of memory: nothing is
-    /// written then. `InternalFailure` if the writer fails: it may have taken a part of the picture.
+    /// written. `InternalFailure` if the writer fails: it may have taken a part of the picture.
     fn export(&mut self, batch: &[SpanData]) -> OTelSdkResult
         ensures ok { OnOk result (self.new.accepted ≡ self.old.accepted ++ batch.now ∷ []) }
         ensures err { OnErr result (self.new.accepted ≡ self.old.accepted) }

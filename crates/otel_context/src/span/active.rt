@@ -11,8 +11,8 @@ use crate::stack::{ContextGuard, ContextStack};
 /// Puts a span into the table and attaches the current context with that span, and returns the
 /// guard of its position and the number of the span.
 ///
-/// At position 65534 the span goes into the table all the same, nothing is attached, and the guard
-/// isn't attached. The guard is spent as one of [`ContextStack::attach`].
+/// At position 65534 the span still goes into the table, but nothing is attached, and `is_attached`
+/// of the guard is false. The guard is spent as one of [`ContextStack::attach`].
 ///
 /// # Errors
 ///
@@ -52,9 +52,8 @@ pub fn mark_span_as_active<S: Span>(
 
 /// Calls `f` once on a reference to the current context's span, and returns what it returns.
 ///
-/// What `f` does to the span is said by the calls of [`SpanRef`], which change no other span of the
-/// table. If `f` replaces the reference that it is lent by another one, nothing is promised about
-/// the table.
+/// The calls of [`SpanRef`] say what `f` does to the span; they change no other span of the table.
+/// If `f` replaces the reference that it was lent, nothing is promised about the table.
 ///
 /// ```
 /// get_active_span(&stack, &mut spans, |span| span.end(NOW));

@@ -46,7 +46,7 @@ impl<'a, S: Span> SpanRef<'a, S> {
     ghost use Rattle.otel_context.specs.SpanRef.{table_after};
     ghost use Rattle.otel_context.specs.SpanRef.{Becomes, IsSameReference};
 
-    /// Returns the context's span context, also if the table doesn't have the span.
+    /// Returns the context's span context, even if the table doesn't have the span.
     pub fn span_context(&self) -> &SpanContext
         ensures { result.now ≡ span_context self.now }
     {

@@ -1,4 +1,4 @@
-//! What is changed of a span before its end, and its end.
+//! The changes of a span before its end, and its end.
 ghost use Rattle.std.specs.Prelude.{◌≡◌, Some, OnOk, OnErr, MatchBool};
 ghost use Rattle.otel_context.specs.SpanCalls.{after_effect};
 ghost use Rattle.otel_sdk.specs.SpanEnd.{EndsNow, EndsNothing};

@@ -61,7 +61,7 @@ impl InMemorySpanExporter {
         Ok(spans)
     }
 
-    /// Lets go of the spans that it has.
+    /// Drops the spans that it has.
     pub fn reset(&mut self)
         ensures { self.new ≡ record self.old { accepted = [] } }
     {
@@ -80,7 +80,7 @@ impl SpanExporter for InMemorySpanExporter {
     ///
     /// # Errors
     ///
-    /// `AlreadyShutdown` after [`SpanExporter::shutdown`], and else `Memory` if out of memory. The
+    /// `AlreadyShutdown` after [`SpanExporter::shutdown`], otherwise `Memory` if out of memory. The
     /// exporter is unchanged.
     fn export(&mut self, batch: &[SpanData]) -> OTelSdkResult
         ensures ok { OnOk result (self.new.accepted ≡ self.old.accepted ++ batch.now ∷ []) }
@@ -105,7 +105,7 @@ impl SpanExporter for InMemorySpanExporter {
         Ok(())
     }
 
-    /// Lets go of the spans, and refuses every later batch.
+    /// Drops the spans, and refuses every later batch.
     fn shutdown(&mut self) -> OTelSdkResult
         ensures ok { IsOk result }
         ensures emptied { self.new ≡ record { accepted = []; is_shut_down = true } }

@@ -21,8 +21,8 @@ use otel_sdk_span::{SdkSpan, SpanExporter};
 use std::alloc::{AllocError, Global};
 use std::marker::Model;
 
-/// The spans of a program until a processor takes them, and the numbers of those that have ended, in
-/// the order of their ends. Not in the Rust crate, whose spans go to a processor when they end.
+/// The spans of a program until a processor takes them, and the numbers of those that have ended,
+/// in the order of their ends. Not in the Rust crate, whose spans go to a processor when they end.
 ///
 /// Room for the number of a span is taken when it starts, so its end takes no memory.
 ///
@@ -71,7 +71,8 @@ fn make_room(ended: &mut Vec<u64>, room: usize) -> Result<(), AllocError>
 impl LiveSpans {
     ghost use Rattle.otel_sdk.specs.Ended.{AreListed};
 
-    /// Returns no spans. The first one that starts gets the number 0. Takes no memory.
+    /// Returns an empty list of spans. The first span that starts gets the number 0. Takes no
+    /// memory.
     pub fn new(alloc: Global) -> LiveSpans
         ensures { result ≡ no_spans }
     {
@@ -170,8 +171,8 @@ impl LiveSpans {
         change_in(alloc, &mut self.spans, number, change)
     }
 
-    /// Ends the span with the number at the given moment, in nanoseconds since 1970. Does nothing if
-    /// there is no such span or it has ended. Takes no memory.
+    /// Ends the span with the number at the given moment, in nanoseconds since 1970. Does nothing
+    /// if there is no such span or it has ended. Takes no memory.
     pub fn end(&mut self, number: u64, timestamp: u64)
         ensures { self.new ≡ with_ended number timestamp self.old }
     {
@@ -184,8 +185,8 @@ impl LiveSpans {
     ///
     /// # Errors
     ///
-    /// `AlreadyShutdown` if the processor was shut down: nothing changes. Else `Memory` if out of
-    /// memory: the span that wasn't taken, and those that ended after it, stay.
+    /// `AlreadyShutdown` if the processor was shut down: nothing changes. Otherwise `Memory` if out
+    /// of memory: the span that wasn't taken, and those that ended after it, stay.
     pub fn collect<E: SpanExporter>(
         &mut self,
         processor: &mut BatchSpanProcessor<E>,

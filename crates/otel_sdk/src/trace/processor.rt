@@ -17,7 +17,7 @@ use std::rc::Rc;
 /// See [`SpanProcessor::on_end`].
 #[derive(Debug, Drop)]
 pub struct EndRefused {
-    /// The span, if it wasn't taken; else it was, and only its export failed.
+    /// The span, or `None` if it was taken and only its export failed.
     pub span: Option<SpanData>,
     /// What failed.
     pub error: OTelSdkError,
@@ -35,7 +35,7 @@ pub trait SpanProcessor: Drop {
 
     ghost taken: { Self → Taken };
 
-    /// Takes a span that has ended. A span that isn't sampled is let go.
+    /// Takes a span that has ended. A span that isn't sampled is dropped.
     ///
     /// # Errors
     ///
@@ -52,7 +52,7 @@ pub trait SpanProcessor: Drop {
     ///
     /// # Errors
     ///
-    /// `AlreadyShutdown` after [`SpanProcessor::shutdown`], or the exporter's. What it didn't
+    /// `AlreadyShutdown` after [`SpanProcessor::shutdown`], or the exporter's error. What it didn't
     /// accept stays queued, in order.
     fn force_flush(&mut self) -> OTelSdkResult
         ensures { taken self.new ≡ taken self.old };
@@ -62,12 +62,11 @@ pub trait SpanProcessor: Drop {
     ///
     /// # Errors
     ///
-    /// `AlreadyShutdown` after an earlier call, or the exporter's. If the flush failed, the
+    /// `AlreadyShutdown` after an earlier call, or the exporter's error. If the flush failed, the
     /// processor stays open for another try.
     fn shutdown(&mut self) -> OTelSdkResult;
 
-    /// Tells the exporter the resource of the spans to come. Does nothing unless a processor says
-    /// otherwise.
+    /// Tells the exporter the resource of the spans to come. Does nothing by default.
     fn set_resource(&mut self, _resource: Rc<Resource>)
         ensures { taken self.new ≡ taken self.old }
     {}

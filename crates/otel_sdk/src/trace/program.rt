@@ -155,9 +155,9 @@ fn apply<P: Pipeline, E: SpanExporter>(
 /// Rust crate.
 ///
 /// The spans are numbered from 0, in the order of their starts. Nothing is exported but in a
-/// [`SpanEvent::Flush`] and a [`SpanEvent::Shutdown`], and an exported span is as it was recorded at
-/// its end. After a shutdown the ended spans stay where they are. The report holds the
-/// spans that weren't collected, and the processor with those that weren't exported.
+/// [`SpanEvent::Flush`] and a [`SpanEvent::Shutdown`], and an exported span is as it was recorded
+/// at its end. After a shutdown the ended spans stay where they are. The report holds the spans
+/// that weren't collected, and the processor with those that weren't exported.
 ///
 /// # Errors
 ///

@@ -68,9 +68,9 @@ impl<R> SdkTracerProvider<ParentBased<Sampler>, RandomIdGenerator<R>, SystemCloc
 where
     R: RandomSource + std::time::Clock + Copy + Drop,
 {
-    /// Starts a provider with the defaults: roots are sampled and other spans as their parent is, ids
-    /// are random, the clock is the system's, and the limits are those of [`SpanLimits::default`].
-    /// Takes no memory.
+    /// Starts a provider with the defaults: roots are sampled and other spans as their parent is,
+    /// ids are random, the clock is the system's, and the limits are those of
+    /// [`SpanLimits::default`]. Takes no memory.
     pub fn builder(
         rt: R,
     ) -> TracerProviderBuilder<ParentBased<Sampler>, RandomIdGenerator<R>, SystemClock<R>>
@@ -133,7 +133,7 @@ impl<S: ShouldSample, G: IdGenerator, C: Clock> TracerProvider for SdkTracerProv
         Ok(SdkTracer { pipeline })
     }
 
-    // As the trait has it: the toolchain doesn't cover a default method for this type.
+    // The same body as the trait's: the toolchain doesn't cover a default method for this type.
     fn tracer(
         &self,
         alloc: Global,
@@ -144,7 +144,7 @@ impl<S: ShouldSample, G: IdGenerator, C: Clock> TracerProvider for SdkTracerProv
     }
 }
 
-/// The parts of a provider while they are given (the Rust crate's `TracerProviderBuilder`).
+/// Builds a provider (the Rust crate's `TracerProviderBuilder`).
 ///
 /// See [`SdkTracerProvider`].
 #[derive(Drop)]
@@ -201,7 +201,7 @@ impl<S: ShouldSample, G: IdGenerator, C: Clock> TracerProviderBuilder<S, G, C> {
         })
     }
 
-    /// Sets what decides which spans record.
+    /// Sets the sampler, which decides which spans record.
     pub fn with_sampler<T: ShouldSample>(self, sampler: T) -> TracerProviderBuilder<T, G, C>
         ensures { result ≡ record {
           sampler = sampler;
@@ -219,7 +219,7 @@ impl<S: ShouldSample, G: IdGenerator, C: Clock> TracerProviderBuilder<S, G, C> {
         }
     }
 
-    /// Sets what makes the ids.
+    /// Sets the generator of ids.
     pub fn with_id_generator<T: IdGenerator>(
         self,
         id_generator: T,
@@ -240,7 +240,7 @@ impl<S: ShouldSample, G: IdGenerator, C: Clock> TracerProviderBuilder<S, G, C> {
         }
     }
 
-    /// Sets what reads the moments at which spans start.
+    /// Sets the clock, which reads the moments at which spans start.
     pub fn with_clock<T: Clock>(self, clock: T) -> TracerProviderBuilder<S, G, T>
         ensures { result ≡ self }
     {

@@ -81,9 +81,9 @@ impl<P: Pipeline> Tracer for SdkTracer<P> {
 /// by. Not in the Rust crate.
 ///
 /// A span has its parent's trace id, or a new one if it is a root, and a new span id. Its sampler
-/// decides whether it records. Under suppressed telemetry, or once its provider is shut down, a span
-/// has no ids and doesn't record. If the generator of ids fails, a span doesn't record and has the
-/// span context of its parent, and the provider counts it.
+/// decides whether it records. Under suppressed telemetry, or once its provider is shut down, a
+/// span has no ids and doesn't record. If the generator of ids fails, a span doesn't record and has
+/// the span context of its parent, and the provider counts it.
 ///
 /// See [`crate::trace::SdkTracerProvider`].
 #[derive(Drop)]
@@ -121,7 +121,7 @@ fn without_ids(parent: Option<&SpanContext>) -> Result<SdkSpan, AllocError>
 }
 
 impl<S: ShouldSample, G: IdGenerator, C: Clock> TracerPipeline<S, G, C> {
-    /// Returns the given moment, or else the clock's.
+    /// Returns the given moment, or the clock's if there is none.
     fn start_time(&self, given: Option<u64>) -> u64
         ensures { result ≡ unwrap_or given result }
     {

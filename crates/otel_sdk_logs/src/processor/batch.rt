@@ -39,7 +39,7 @@ impl<E: LogExporter> BatchLogProcessor<E> {
     ///
     /// # Errors
     ///
-    /// `AllocError` if out of memory. The exporter is let go.
+    /// `AllocError` if out of memory. The exporter is dropped.
     pub fn new(
         alloc: Global,
         exporter: E,
@@ -117,8 +117,8 @@ impl<E: LogExporter> LogProcessor for BatchLogProcessor<E> {
     ///
     /// # Errors
     ///
-    /// `AlreadyShutdown` after [`LogProcessor::shutdown`]: nothing changes. Else that of the first
-    /// batch that is refused, or of the exporter's flush. What was accepted left the queue.
+    /// `AlreadyShutdown` after [`LogProcessor::shutdown`]: nothing changes. Otherwise the error of
+    /// the first refused batch, or of the exporter's flush. What was accepted has left the queue.
     fn force_flush(&mut self) -> OTelSdkResult
         ensures flushed { IsFlushed E.accepted (state self.old) (state self.new) }
         ensures taken { taken_of E.accepted (state self.new)
@@ -145,7 +145,7 @@ impl<E: LogExporter> LogProcessor for BatchLogProcessor<E> {
         outcome
     }
 
-    /// Returns whether it wasn't shut down.
+    /// Returns `true` until it is shut down.
     fn is_open(&self) -> bool
         ensures { result ≡ not (state self.now).is_shut_down }
     {

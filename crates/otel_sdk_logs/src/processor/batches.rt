@@ -5,8 +5,8 @@ ghost use Rattle.otel_sdk_logs.specs.Export.{AreExported};
 use crate::export::{LogData, LogExporter};
 use otel_sdk_span::error::OTelSdkResult;
 
-/// Exports the records in batches of the size until one is refused. Returns how many records are left,
-/// and the error if there are some.
+/// Exports the records in batches of the size until one is refused. Returns how many records are
+/// left, and the error if there are some.
 pub(crate) fn export_batches<E: LogExporter>(
     exporter: &mut E,
     records: &[LogData],

@@ -39,7 +39,7 @@ impl Default for BatchConfig {
     }
 }
 
-/// The limits while they are given (the Rust crate's `BatchConfigBuilder`).
+/// Builds a [`BatchConfig`] (the Rust crate's `BatchConfigBuilder`).
 ///
 /// ```
 /// let config = BatchConfigBuilder::default().with_max_queue_size(4096).build();
@@ -83,8 +83,8 @@ impl BatchConfigBuilder {
         self
     }
 
-    /// Sets how many records a batch has at most; 0 counts as 1, and what is greater than the queue's
-    /// limit counts as that limit.
+    /// Sets how many records a batch has at most; 0 counts as 1, and what is greater than the
+    /// queue's limit counts as that limit.
     pub fn with_max_export_batch_size(mut self, max_export_batch_size: usize) -> BatchConfigBuilder
         ensures { result ≡ record self { max_export_batch_size = max_export_batch_size } }
     {
@@ -92,7 +92,7 @@ impl BatchConfigBuilder {
         self
     }
 
-    /// Returns the limits that count.
+    /// Returns the limits.
     pub fn build(self) -> BatchConfig
         ensures { result ≡ effective self }
     {

@@ -33,7 +33,7 @@ impl<E: LogExporter> SimpleLogProcessor<E> {
     ///
     /// # Errors
     ///
-    /// `AllocError` if out of memory. The exporter is let go.
+    /// `AllocError` if out of memory. The exporter is dropped.
     pub fn new(alloc: Global, exporter: E) -> Result<SimpleLogProcessor<E>, AllocError>
         ensures { IfOk result (λ p. simple_state p ≡ spec.new exporter spec.single_limits) }
     {
@@ -52,7 +52,7 @@ impl<E: LogExporter> SimpleLogProcessor<E> {
         self.inner.exporter()
     }
 
-    /// Returns the number of records that are queued, as the exporter refused them.
+    /// Returns the number of records that are queued because the exporter refused them.
     pub fn queued_records(&self) -> usize
         ensures { result ≡ length (simple_state self.now).queue }
     {
@@ -104,7 +104,7 @@ impl<E: LogExporter> LogProcessor for SimpleLogProcessor<E> {
         self.inner.shutdown()
     }
 
-    /// Returns whether it wasn't shut down.
+    /// Returns `true` until it is shut down.
     fn is_open(&self) -> bool
         ensures { result ≡ not (simple_state self.now).is_shut_down }
     {

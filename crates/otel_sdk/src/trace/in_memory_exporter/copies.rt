@@ -8,7 +8,7 @@ use opentelemetry::trace::{Event, Link};
 use otel_sdk_span::{SpanData, SpanEvents, SpanLinks};
 use std::alloc::AllocError;
 
-// The attributes are the same one by one, as that of a copy of each is.
+// Each attribute of the copy means the same as the original's.
 fn copy_attributes(attributes: &Vec<KeyValue>) -> Result<Vec<KeyValue>, AllocError>
     ensures { IfOk result (λ copy.
         map attribute_of copy.items ≡ map attribute_of attributes.now.items) }
@@ -59,11 +59,11 @@ fn copy(span: &SpanData) -> Result<SpanData, AllocError>
     })
 }
 
-/// Puts copies of the spans behind those that are there, in order.
+/// Appends copies of the spans, in order.
 ///
 /// # Errors
 ///
-/// `AllocError` if out of memory. Some of the copies are there.
+/// `AllocError` if out of memory. Some of the copies may have been appended.
 pub(crate) fn append(copies: &mut Vec<SpanData>, spans: &[SpanData]) -> Result<(), AllocError>
     ensures { OnOk result (copies.new.items ≡ copies.old.items ++ spans.now) }
 {

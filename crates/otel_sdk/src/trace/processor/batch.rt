@@ -109,12 +109,12 @@ impl<E: SpanExporter> SpanProcessor for BatchSpanProcessor<E> {
     ghost taken = { taken_of E.accepted };
 
     /// Queues a sampled span, or drops and counts it if the queue is full. A span that isn't
-    /// sampled is let go.
+    /// sampled is dropped.
     ///
     /// # Errors
     ///
-    /// `AlreadyShutdown` after [`SpanProcessor::shutdown`], else `Memory` if out of memory. Nothing
-    /// changes, and the span comes back.
+    /// `AlreadyShutdown` after [`SpanProcessor::shutdown`], otherwise `Memory` if out of memory.
+    /// Nothing changes, and the span comes back.
     fn on_end(&mut self, span: SpanData) -> Result<(), EndRefused>
         ensures ok { OnOk result (self.new ≡ spec.after_end span self.old) }
         ensures open { OnOk result (self.old.is_shut_down ≡ false) }
@@ -152,8 +152,8 @@ impl<E: SpanExporter> SpanProcessor for BatchSpanProcessor<E> {
     ///
     /// # Errors
     ///
-    /// `AlreadyShutdown` after [`SpanProcessor::shutdown`]: nothing changes. Else that of the first
-    /// batch that is refused, or of the exporter's flush. What was accepted left the queue.
+    /// `AlreadyShutdown` after [`SpanProcessor::shutdown`]: nothing changes. Otherwise the error of
+    /// the first refused batch, or of the exporter's flush. What was accepted has left the queue.
     fn force_flush(&mut self) -> OTelSdkResult
         ensures flushed { IsFlushed E.accepted self.old self.new }
         ensures taken { taken_of E.accepted self.new ≡ taken_of E.accepted self.old }

@@ -39,7 +39,7 @@ impl Default for BatchConfig {
     }
 }
 
-/// The limits while they are given (the Rust crate's `BatchConfigBuilder`).
+/// Builds a [`BatchConfig`] (the Rust crate's `BatchConfigBuilder`).
 ///
 /// ```
 /// let config = BatchConfigBuilder::default().with_max_queue_size(4096).build();
@@ -92,7 +92,7 @@ impl BatchConfigBuilder {
         self
     }
 
-    /// Returns the limits that count.
+    /// Returns the limits.
     pub fn build(self) -> BatchConfig
         ensures { result ≡ effective self }
     {

@@ -66,7 +66,7 @@ impl<E: SpanExporter> SimpleSpanProcessor<E> {
         self.inner.dropped_spans()
     }
 
-    /// Returns the number of spans that are queued, as the exporter refused them.
+    /// Returns the number of spans that are queued because the exporter refused them.
     pub fn queued_spans(&self) -> usize
         ensures { result ≡ length self.now.queue }
     {
@@ -79,13 +79,13 @@ impl<E: SpanExporter> SpanProcessor for SimpleSpanProcessor<E> {
 
     ghost taken = { taken_of E.accepted };
 
-    /// Queues a sampled span, and flushes the processor. A span that isn't sampled is let go.
+    /// Queues a sampled span, and flushes the processor. A span that isn't sampled is dropped.
     ///
     /// # Errors
     ///
-    /// `AlreadyShutdown` after [`SpanProcessor::shutdown`], else `Memory` if out of memory: nothing
-    /// changes, and the span comes back. Else that of the flush, and no span comes back: what the
-    /// exporter didn't accept stays queued, in order.
+    /// `AlreadyShutdown` after [`SpanProcessor::shutdown`], or `Memory` if out of memory: nothing
+    /// changes, and the span comes back. Otherwise the error of the flush, and no span comes back:
+    /// what the exporter didn't accept stays queued, in order.
     fn on_end(&mut self, span: SpanData) -> Result<(), EndRefused>
         ensures ok { OnOk result (IsFlushed E.accepted (spec.after_end span self.old) self.new
             × (self.new.queue ≡ [])) }

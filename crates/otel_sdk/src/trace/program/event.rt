@@ -14,8 +14,8 @@ pub enum SpanEvent {
     Start(SpanBuilder, Context),
     /// Start a span from the builder, under the current context.
     StartCurrent(SpanBuilder),
-    /// Start a span from the builder, under the current context, and attach the current context with
-    /// the span as its active one.
+    /// Start a span from the builder, under the current context, and attach the current context
+    /// with the span as its active one.
     StartActive(SpanBuilder),
     /// Attach the context.
     Attach(Context),
@@ -41,7 +41,7 @@ pub enum SpanEvent {
 pub enum EventOutcome {
     /// The event took effect.
     Done,
-    /// The span wasn't started, as every number was given out. Nothing changed.
+    /// The span wasn't started, because every number was given out. Nothing changed.
     NumbersUsedUp,
     /// The context wasn't attached, as the greatest position is live. A span that was to be active
     /// was started all the same; then it may also be that memory ran out.

@@ -28,8 +28,8 @@ impl<E: SpanExporter> BatchSpanProcessor<E> {
     ///
     /// # Errors
     ///
-    /// `AlreadyShutdown` after [`SpanProcessor::shutdown`], else `Memory` if out of memory. Nothing
-    /// changes, and the span stays in the table.
+    /// `AlreadyShutdown` after [`SpanProcessor::shutdown`], otherwise `Memory` if out of memory.
+    /// Nothing changes, and the span stays in the table.
     ///
     /// [`SpanProcessor::shutdown`]: crate::trace::SpanProcessor::shutdown
     pub fn on_end_of(&mut self, spans: &mut Spans<SdkSpan>, number: u64) -> OTelSdkResult
@@ -68,8 +68,8 @@ impl<E: SpanExporter> BatchSpanProcessor<E> {
     ///
     /// # Errors
     ///
-    /// `AlreadyShutdown` after [`SpanProcessor::shutdown`]: nothing changes. Else `Memory` if out
-    /// of memory: the numbers of the span that wasn't taken, and of those after it, stay in the
+    /// `AlreadyShutdown` after [`SpanProcessor::shutdown`]: nothing changes. Otherwise `Memory` if
+    /// out of memory: the numbers of the span that wasn't taken, and of those after it, stay in the
     /// list, and these spans in the table.
     ///
     /// [`SpanProcessor::shutdown`]: crate::trace::SpanProcessor::shutdown

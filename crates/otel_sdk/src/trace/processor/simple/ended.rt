@@ -16,8 +16,8 @@ use opentelemetry::trace::Spans;
 use otel_sdk_span::error::{OTelSdkError, OTelSdkResult};
 use otel_sdk_span::{SdkSpan, SpanExporter};
 
-/// Flushes the processor, and takes the spans with these numbers and flushes it after each, until one
-/// isn't taken or a flush fails. Returns how many were taken.
+/// Flushes the processor, and takes the spans with these numbers and flushes it after each, until
+/// one isn't taken or a flush fails. Returns how many were taken.
 fn export_each<E: SpanExporter>(
     processor: &mut BatchSpanProcessor<E>,
     spans: &mut Spans<SdkSpan>,
@@ -69,8 +69,8 @@ impl<E: SpanExporter> SimpleSpanProcessor<E> {
     /// # Errors
     ///
     /// `AlreadyShutdown` after [`SpanProcessor::shutdown`]: nothing changes. Else `Memory` if out
-    /// of memory, or that of the first flush that fails. The numbers of the spans that weren't taken
-    /// stay in the list, and these spans in the table.
+    /// of memory, or that of the first flush that fails. The numbers of the spans that weren't
+    /// taken stay in the list, and these spans in the table.
     pub fn collect(&mut self, spans: &mut Spans<SdkSpan>, ended: &mut Vec<u64>) -> OTelSdkResult
         ensures handed_on { AreHandedOn E.accepted ended.old.items ended.new.items
             (spec.of self.old spans.old) (spec.of self.new spans.new) }
