@@ -54,7 +54,7 @@ example-c:
 	@cd crates/otel_c && rt lib > /dev/null
 	@room=$$(mktemp -d) && trap 'rm -rf "$$room"' EXIT && cc -Icrates/otel_c/include examples/c/forward.c \
 		crates/otel_c/out/libotel_c.a "$$(dirname "$$(rt doc)")/c/liblibc_c.a" -o "$$room/forward" \
-		&& "$$room/forward" 'rojo=00f067aa0ba902b7,congo=t61rcWkgMzE'
+		&& "$$room/forward" < examples/c/received
 
 test:
 	@tests/all

@@ -1,4 +1,4 @@
-/* Prints the tracestate header to send on for the one received, with this vendor's pair in front.
+/* Prints the headers to send on for those received, one `name: value` a line on standard input.
  *
  *     make example-c
  */
@@ -7,20 +7,31 @@
 
 #include "otel.h"
 
-int main(int count, char **words) {
-    const char *received = count > 1 ? words[1] : "";
-    static char sent[16447];
-    size_t length;
-    uint32_t status = otel_trace_state_insert(received, strlen(received), "acme", 4, "7", 1, sent,
-                                              sizeof sent, &length);
+/* Adds the header of a line. One that isn't valid is left out. */
+static uint32_t add(otel_handle *headers, const char *line) {
+    size_t name = strcspn(line, ":"), end = strcspn(line, "\r\n");
+    size_t value = name < end ? name + 1 + strspn(line + name + 1, " \t") : end;
+    uint32_t status = otel_headers_append(headers, line, name, line + value, end - value);
+    return status == OTEL_NO_MEMORY ? status : OTEL_OK;
+}
 
-    /* A header that can't be read is dropped: the list begins anew. */
-    if (status != OTEL_OK && status != OTEL_NO_MEMORY)
-        status = otel_trace_state_insert("", 0, "acme", 4, "7", 1, sent, sizeof sent, &length);
-    if (status != OTEL_OK) {
-        fprintf(stderr, "status %u\n", (unsigned)status);
-        return 1;
-    }
-    printf("tracestate: %.*s\n", (int)length, sent);
-    return 0;
+int main(void) {
+    static const char *const names[] = {"traceparent", "tracestate", "baggage"};
+    static char room[32768];
+    size_t length;
+    otel_handle received = OTEL_NOTHING, context = OTEL_NOTHING, sent = OTEL_NOTHING;
+    uint32_t status = otel_headers_new(&received);
+    while (status == OTEL_OK && fgets(room, sizeof room, stdin) != NULL)
+        status = add(&received, room);
+    if (status == OTEL_OK && (status = otel_context_new(&context)) == OTEL_OK
+        && (status = otel_context_extract(&received, &context)) == OTEL_OK
+        && (status = otel_headers_new(&sent)) == OTEL_OK)
+        status = otel_context_inject(&context, &sent);
+    for (size_t at = 0; at < 3 && status == OTEL_OK; at++)
+        if (otel_headers_get(&sent, names[at], strlen(names[at]), room, sizeof room, &length) == OTEL_OK)
+            printf("%s: %.*s\n", names[at], (int)length, room);
+    otel_free(&received);
+    otel_free(&context);
+    otel_free(&sent);
+    return status != OTEL_OK;
 }

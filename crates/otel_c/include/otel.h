@@ -1,15 +1,21 @@
-/* Trace states (W3C trace-context-2, "tracestate Header"), read and changed as the text of their
- * header. The functions are proved; crates/otel_c/README.md says what.
+/* Contexts of traces and the headers that carry them: traceparent and tracestate (W3C
+ * trace-context-2) and baggage (W3C baggage). The functions are proved; crates/otel_c/README.md
+ * says what.
+ *
+ * Headers and contexts are held by handles. A handle begins as OTEL_NOTHING, calls put objects into
+ * it, and otel_free frees what it holds, after which it is OTEL_NOTHING again. A handle isn't copied
+ * but handed on: two copies of one would be freed twice.
  *
  * A text is a pointer and a length in bytes, with no NUL at its end. It is never null, even if its
- * length is 0: pass "". Each answer is written to room that the caller gives, with no NUL either.
- * No call keeps memory or remembers anything, so calls may run in several threads at once.
- * Reading a header cuts the blanks that end a value.
+ * length is 0: pass "". Each text of an answer is written to room that the caller gives, with no NUL
+ * either. Reading a header cuts the blanks that end a value.
  *
  * The caller promises, at each call, that
  *   - each text points to as many readable bytes as its length says, at most PTRDIFF_MAX;
- *   - the room points to as many bytes, all of them set, and `written` to a size_t, which no other
- *     thread reads or writes, and which overlap nothing else that is passed;
+ *   - each handle is OTEL_NOTHING or as a call left it, and no two of one call are the same;
+ *   - the room points to as many bytes, all of them set, and `written` to a size_t;
+ *   - what a call changes is used by no other thread meanwhile, and overlaps nothing else that is
+ *     passed; a handle stays on one thread;
  *   - it isn't in a signal handler, nor in the forked child of a process with threads.
  */
 #ifndef OTEL_H
@@ -22,18 +28,57 @@
 extern "C" {
 #endif
 
-/* What a call returns. After all but OTEL_OK the room is unchanged, and `written` has a meaning
- * only after OTEL_NO_ROOM. */
+/* What a call returns. After all but OTEL_OK the room is unchanged, and so is each handle unless
+ * the call says more. `written` has a meaning only after OTEL_OK and OTEL_NO_ROOM. */
 enum otel_status {
     OTEL_OK = 0,
     OTEL_NO_MEMORY = 1, /* out of memory */
     OTEL_NOT_TEXT = 2,  /* a text isn't UTF-8 */
     OTEL_NO_ROOM = 3,   /* the room is too short; `written` is the length that is needed */
-    OTEL_ABSENT = 4,    /* no pair has the key */
-    OTEL_KEY = 5,       /* a key isn't valid */
+    OTEL_ABSENT = 4,    /* there is no such entry */
+    OTEL_KEY = 5,       /* a key, or the name of a header, isn't valid */
     OTEL_VALUE = 6,     /* a value isn't valid */
-    OTEL_LIST = 7       /* a member of the header has no `=` */
+    OTEL_LIST = 7,      /* a member of the header has no `=` */
+    OTEL_INVALID = 8,   /* a handle is OTEL_NOTHING, or holds another kind of object */
+    OTEL_REFUSED = 9    /* headers can't carry a text, such as one with a line break */
 };
+
+/* What holds headers, a context, or nothing. */
+typedef struct otel_handle {
+    void *object;
+} otel_handle;
+
+#define OTEL_NOTHING {0}
+
+/* Frees what the handle holds, if anything. */
+void otel_free(otel_handle *handle);
+
+/* ---- headers */
+
+/* Makes empty headers, and frees what the handle held. */
+uint32_t otel_headers_new(otel_handle *headers);
+
+/* Adds a header, after those of the same name. */
+uint32_t otel_headers_append(otel_handle *headers, const char *name, size_t name_length,
+                             const char *value, size_t value_length);
+
+/* Writes the first value of the name. */
+uint32_t otel_headers_get(otel_handle *headers, const char *name, size_t name_length,
+                          char *room, size_t room_length, size_t *written);
+
+/* ---- contexts */
+
+/* Makes the empty context, and frees what the handle held. */
+uint32_t otel_context_new(otel_handle *context);
+
+/* Reads the headers into the context, which keeps what they don't carry. A header that can't be
+ * read is as if it weren't there. */
+uint32_t otel_context_extract(otel_handle *headers, otel_handle *context);
+
+/* Sets the headers that carry the context. After another status than OTEL_OK some may be set. */
+uint32_t otel_context_inject(otel_handle *context, otel_handle *headers);
+
+/* ---- trace states, as texts; no call keeps memory */
 
 /* Writes the value that the trace state of the header has at the key. */
 uint32_t otel_trace_state_get(const char *header, size_t header_length,

@@ -1,5 +1,5 @@
 -- What C gets for the outcome of a call, and what each refusal says.
-use Rattle.std.specs.Prelude.{◌≡◌, ◌<◌, ℕ, List, length, Option, Some, Result, Ok, Err}
+use Rattle.std.specs.Prelude.{◌≡◌, ◌⊎◌, ◌<◌, ℕ, List, length, Option, Some, None, Result, Ok, Err}
 use Rattle.std.specs.Prelude.{IsUtf8}
 use Rattle.otel_ids.specs.TraceStateError.{Fault, KeyFault, ValueFault, ListFault}
 use Rattle.otel_c.specs.declared.status.Status.{Status}
@@ -14,6 +14,8 @@ number status.Absent = 4
 number status.Key = 5
 number status.Value = 6
 number status.List = 7
+number status.Invalid = 8
+number status.Refused = 9
 
 -- the number for an outcome: 0 is success, and only success
 abbrev pub code_of : {A : Type 0} → Result A Status → ℕ
@@ -60,3 +62,23 @@ Blames fault status.Absent = ⊥
 Blames fault status.Key = InKey fault
 Blames fault status.Value = InValue fault
 Blames fault status.List = InList fault
+Blames fault status.Invalid = ⊥
+Blames fault status.Refused = ⊥
+
+-- the status says that a handle is empty or holds something of another kind, and it does
+pub record IsOtherKind {A : Type 0} (wanted : Option A) (s : Status) : Type 0 where
+  pub status : s ≡ status.Invalid
+  pub is : wanted ≡ None
+
+-- the status says that memory ran out
+abbrev pub IsOutOfMemory : Status → Type 0
+IsOutOfMemory s = s ≡ status.NoMemory
+
+-- the status says that memory ran out, or that the headers can't carry a text
+abbrev pub IsOfCarrier : Status → Type 0
+IsOfCarrier s = (s ≡ status.NoMemory) ⊎ (s ≡ status.Refused)
+
+-- the status says that there is no such entry, and there is none
+pub record IsNothing {A : Type 0} (found : Option A) (s : Status) : Type 0 where
+  pub status : s ≡ status.Absent
+  pub none : found ≡ None

@@ -4,6 +4,10 @@
 //! No function keeps memory: what a call allocates, it frees.
 #![tactic(auto)]
 
+pub mod context;
+pub mod handle;
+pub mod headers;
+pub mod object;
 pub mod room;
 pub mod status;
 pub mod trace_state;

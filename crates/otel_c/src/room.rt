@@ -20,6 +20,26 @@ pub fn text_of(bytes: &[u8]) -> Result<&str, Status>
     }
 }
 
+/// Writes the bytes to the front of the room, and their number to `written`.
+///
+/// # Errors
+///
+/// `NoRoom` if the room is too short. It is unchanged, and `written` has the length that is needed.
+pub fn write_bytes(bytes: &[u8], room: &mut [u8], written: &mut usize) -> Result<(), Status>
+    ensures needed { written.new ≡ length bytes.now }
+    ensures bytes { OnOk result (room.new ≡ bytes.now ++ drop (length bytes.now) room.old) }
+    ensures unchanged { OnErr result (room.new ≡ room.old) }
+    ensures refused { IfErr result (λ status. HasNoRoom bytes.now room.old status) }
+{
+    *written = bytes.len();
+    if room.len() < bytes.len() {
+        return Err(Status::NoRoom);
+    }
+    let (front, _) = room.split_at_mut(bytes.len());
+    front.copy_from_slice(bytes);
+    Ok(())
+}
+
 /// Writes the text to the front of the room, and its length to `written`.
 ///
 /// # Errors
@@ -32,12 +52,5 @@ pub fn write(text: &str, room: &mut [u8], written: &mut usize) -> Result<(), Sta
     ensures unchanged { OnErr result (room.new ≡ room.old) }
     ensures refused { IfErr result (λ status. HasNoRoom text.now room.old status) }
 {
-    let bytes = text.as_bytes();
-    *written = bytes.len();
-    if room.len() < bytes.len() {
-        return Err(Status::NoRoom);
-    }
-    let (front, _) = room.split_at_mut(bytes.len());
-    front.copy_from_slice(bytes);
-    Ok(())
+    write_bytes(text.as_bytes(), room, written)
 }

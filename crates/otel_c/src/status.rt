@@ -2,8 +2,9 @@
 ghost use Rattle.std.specs.Prelude.{◌≡◌};
 ghost use Rattle.otel_c.specs.Status.{code_of};
 
+use opentelemetry::propagation::PropagationError;
 use otel_ids::TraceStateError;
-use std::alloc::AllocError;
+use std::alloc::{AllocError, AllocFailed};
 
 /// Why a call did nothing: `enum otel_status` of `include/otel.h`, but for `OTEL_OK`.
 #[derive(Clone, Copy, Debug, PartialEq, Eq)]
@@ -22,6 +23,10 @@ pub enum Status {
     Value,
     /// A member has no `=`.
     List,
+    /// A handle is empty, or holds something of another kind.
+    Invalid,
+    /// The headers can't carry a text.
+    Refused,
 }
 
 impl From<AllocError> for Status {
@@ -31,6 +36,29 @@ impl From<AllocError> for Status {
 
     fn from(_error: AllocError) -> Status {
         Status::NoMemory
+    }
+}
+
+impl<T: Drop> From<AllocFailed<T>> for Status {
+    ghost use Rattle.otel_c.specs.declared.status.Status.TheVariants.{NoMemory};
+
+    ghost from_gives = { λ _ status. status ≡ NoMemory };
+
+    fn from(_failed: AllocFailed<T>) -> Status {
+        Status::NoMemory
+    }
+}
+
+impl From<PropagationError> for Status {
+    ghost use Rattle.otel_c.specs.Status.{IsOfCarrier};
+
+    ghost from_gives = { λ _ status. IsOfCarrier status };
+
+    fn from(error: PropagationError) -> Status {
+        match error {
+            PropagationError::Memory(_) => Status::NoMemory,
+            PropagationError::Refused => Status::Refused,
+        }
     }
 }
 
@@ -65,5 +93,7 @@ pub fn code(outcome: Result<(), Status>) -> u32
         Err(Status::Key) => 5,
         Err(Status::Value) => 6,
         Err(Status::List) => 7,
+        Err(Status::Invalid) => 8,
+        Err(Status::Refused) => 9,
     }
 }

@@ -1,0 +1,53 @@
+-- What the calls on contexts change and write.
+use Rattle.std.specs.Prelude.{◌≡◌, ◌⊎◌, ℕ, List, Option, None, Some, option_map}
+use Rattle.std.specs.Option.{option_and_then}
+use Rattle.otel_context.specs.Baggage.{get}
+use Rattle.otel_context.specs.Context.{ContextRecord, span_context}
+use Rattle.otel_context.specs.BaggageMember.{Member}
+use Rattle.opentelemetry.specs.Carrier.{TextMap, Sets}
+use Rattle.otel_http.specs.Headers.{Headers, texts}
+use Rattle.otel_propagators.specs.TraceContext.{trace_pairs, trace_extracted}
+use Rattle.otel_propagators.specs.BaggagePropagator.{baggage_pairs, baggage_extracted, members}
+use Rattle.otel_c.specs.declared.object.Object.{Object}
+use Rattle.otel_c.specs.declared.status.Status.{Status}
+use Rattle.otel_c.specs.Object.{headers_of, context_of}
+use Rattle.otel_c.specs.Status.{IsOutOfMemory, IsOfCarrier, IsOtherKind}
+use Rattle.otel_c.specs.TraceState.{Holds}
+
+-- the context with what the texts of `traceparent`, `tracestate` and `baggage` say
+abbrev pub extracted : ContextRecord → TextMap → ContextRecord
+extracted context texts = baggage_extracted (trace_extracted context texts) texts
+
+-- the context has what the headers carry
+pub record Extracts (object old new : Option Object) : Type 0 where
+  pub headers : Headers
+  pub context : ContextRecord
+  pub carrier : headers_of object ≡ Some headers
+  pub from : context_of old ≡ Some context
+  pub into : context_of new ≡ Some (extracted context (texts headers))
+
+-- why nothing was extracted
+abbrev pub ExtractRefused : Option Object → Option Object → Status → Type 0
+ExtractRefused object old s =
+    IsOutOfMemory s ⊎ (IsOtherKind (headers_of object) s ⊎ IsOtherKind (context_of old) s)
+
+-- the texts have those of the context's span, and then that of its baggage
+pub record SetsBoth (context : ContextRecord) (old new : TextMap) : Type 0 where
+  pub middle : TextMap
+  pub trace : Sets old (trace_pairs context) middle
+  pub baggage : Sets middle (baggage_pairs context) new
+
+-- the headers carry the context
+pub record Injects (object old new : Option Object) : Type 0 where
+  pub context : ContextRecord
+  pub from : context_of object ≡ Some context
+  pub before : Headers
+  pub after : Headers
+  pub had : headers_of old ≡ Some before
+  pub has : headers_of new ≡ Some after
+  pub sets : SetsBoth context (texts before) (texts after)
+
+-- why not all was injected
+abbrev pub InjectRefused : Option Object → Option Object → Status → Type 0
+InjectRefused object old s =
+    IsOfCarrier s ⊎ (IsOtherKind (context_of object) s ⊎ IsOtherKind (headers_of old) s)

@@ -1,0 +1,53 @@
+//! What a handle of C can hold.
+ghost use Rattle.std.specs.Prelude.{◌≡◌, IfOk, IfErr, Some};
+ghost use Rattle.otel_c.specs.Object.{headers_of, context_of, stack_of};
+ghost use Rattle.otel_c.specs.Status.{IsOtherKind};
+
+use crate::status::Status;
+use opentelemetry::Context;
+use opentelemetry::context::ContextStack;
+use otel_http::HeaderInjector;
+
+/// What a handle holds.
+#[derive(Drop)]
+pub enum Object {
+    /// The headers of a request.
+    Headers(HeaderInjector),
+    /// What travels with a request.
+    Context(Context),
+    /// The attached contexts.
+    Stack(ContextStack),
+}
+
+impl Object {
+    /// Returns the headers.
+    ///
+    /// # Errors
+    ///
+    /// `Invalid` if it is something else.
+    pub fn headers(&self) -> Result<&HeaderInjector, Status>
+        ensures headers { IfOk result (λ injector.
+            headers_of (Some self.now) ≡ Some injector.now.headers) }
+        ensures refused { IfErr result (λ status. IsOtherKind (headers_of (Some self.now)) status) }
+    {
+        match self {
+            Object::Headers(headers) => Ok(headers),
+            _ => Err(Status::Invalid),
+        }
+    }
+
+    /// Returns the context.
+    ///
+    /// # Errors
+    ///
+    /// `Invalid` if it is something else.
+    pub fn context(&self) -> Result<&Context, Status>
+        ensures context { IfOk result (λ context. context_of (Some self.now) ≡ Some context.now) }
+        ensures refused { IfErr result (λ status. IsOtherKind (context_of (Some self.now)) status) }
+    {
+        match self {
+            Object::Context(context) => Ok(context),
+            _ => Err(Status::Invalid),
+        }
+    }
+}
