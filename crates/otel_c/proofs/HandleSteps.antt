@@ -19,7 +19,6 @@ use denote.Struct.Owning.{shape}
 use Rattle.core.specs.Ptr.{points_to}
 use Rattle.core.specs.declared.option.Option.{Option}
 use Rattle.core.specs.declared.option.Option.TheVariants.{None, Some}
-use Rattle.libc.specs.Heap.{chunk}
 use Rattle.std_alloc.proofs.BoxSteps.Form.{Bx}
 use Rattle.std_alloc.specs.Box.Ownership.{box_owns}
 use Rattle.std_heap.specs.declared.Global.{Global}
@@ -27,7 +26,7 @@ use Rattle.std_heap.specs.contracts.Global as Heap
 use Rattle.std_heap.specs.contracts.GlobalAllocator.TheImpl.{ghosts, dict}
 use Rattle.std_heap.proofs.Global.TheLaws as heap
 use Rattle.std_heap.proofs.GlobalToken.{dealloc_token-Testable}
-use Rattle.otel_c.specs.Handle.{handle_owns}
+use Rattle.otel_c.specs.Handle.{freeable, handle_owns}
 use Rattle.otel_c.specs.contracts.object.Object as object
 use Rattle.otel_c.proofs.object.Object.TheLaws as laws
 use Rattle.otel_c.specs.contracts.handle.Handle as handle
@@ -52,9 +51,9 @@ abbrev pub handle_val : Ptr → Val
 handle_val p = vstruct (vcons (ptr_val p) vnil)
 
 module _ {M : Type 1} {𝓤 : Ura M} (𝓛 : Logic 𝓤) where
-  tested : (a : Global) (p : Ptr) (x : (object.the_row).Denot) → ent 𝓤 (sem 𝓛 (box_owns chunk object.the_row p x)) (guard 𝓤 (Testable p) (sem 𝓛 (box_owns chunk object.the_row p x)))
+  tested : (a : Global) (p : Ptr) (x : (object.the_row).Denot) → ent 𝓤 (sem 𝓛 (box_owns freeable object.the_row p x)) (guard 𝓤 (Testable p) (sem 𝓛 (box_owns freeable object.the_row p x)))
   tested a p x = let τ = bare (lone (object.the_row).mir) in fact_use 𝓤 (Testable p)
-      (via 𝓤 _ (snd∗ 𝓤 (sem 𝓛 (points_to object.the_row p x)) (sem 𝓛 (chunk τ p))) (dealloc_token-Testable 𝓛 a τ p)) (guard_i 𝓤 (Testable p) (sem 𝓛 (box_owns chunk object.the_row p x)))
+      (via 𝓤 _ (snd∗ 𝓤 (sem 𝓛 (points_to object.the_row p x)) (sem 𝓛 (freeable τ p))) (dealloc_token-Testable 𝓛 a τ p)) (guard_i 𝓤 (Testable p) (sem 𝓛 (box_owns freeable object.the_row p x)))
 
 module _ {M : Type 1} {𝓤 : Ura M} {𝓛 : Logic 𝓤} {K : Type 0} {Γ : List (Item 𝓤)} {G : Goal 𝓤 𝓛.H} where
   pub handle_out : K → (d : (handle.the_row).Denot) (vs : List Val)
@@ -72,8 +71,8 @@ module _ {M : Type 1} {𝓤 : Ura M} {𝓛 : Logic 𝓤} {K : Type 0} {Γ : List
   -- by the object: none, and the pointer is null; or one in a block, and the pointer may be compared with null
   pub either_owned : K → (a : Global) (x : Option (object.the_row).Denot) (p : Ptr)
       → (p ≡ null_ptr → x ≡ None → Seq K 𝓛 Γ G)
-      → ((b o : ℕ) (y : (object.the_row).Denot) → p ≡ block_ptr b o → x ≡ Some y → Testable p → Seq K 𝓛 (‵ (box_owns chunk object.the_row (block_ptr b o) y) ∷ Γ) G)
+      → ((b o : ℕ) (y : (object.the_row).Denot) → p ≡ block_ptr b o → x ≡ Some y → Testable p → Seq K 𝓛 (‵ (box_owns freeable object.the_row (block_ptr b o) y) ∷ Γ) G)
       → Seq K 𝓛 (‵ (handle_owns x p) ∷ Γ) G
   either_owned t a None p k l = feq_l t (λ e. k e refl)
-  either_owned t a (Some y) p k l = use1 𝓛 (given (Testable p) (‵ (box_owns chunk object.the_row p y))) (tested 𝓛 a p y) $ learn t (λ ok.
-      in_a_block t p (λ q. box_owns chunk object.the_row q y) (fst∗ 𝓤 (never 𝓤) (sem 𝓛 (chunk (bare (lone (object.the_row).mir)) null_ptr))) (λ b o e. l b o y e refl ok))
+  either_owned t a (Some y) p k l = use1 𝓛 (given (Testable p) (‵ (box_owns freeable object.the_row p y))) (tested 𝓛 a p y) $ learn t (λ ok.
+      in_a_block t p (λ q. box_owns freeable object.the_row q y) (fst∗ 𝓤 (never 𝓤) (sem 𝓛 (freeable (bare (lone (object.the_row).mir)) null_ptr))) (λ b o e. l b o y e refl ok))

@@ -27,8 +27,8 @@ use Rattle.std_alloc.proofs.BoxSteps.Form.{D, B, word, box_typed}
 use Rattle.std_alloc.proofs.BoxSteps.Steps.{box_out, box_in}
 use denote.RawPtr.{block_ptr}
 use Rattle.core.specs.declared.option.Option.TheVariants.{Some}
-use Rattle.libc.specs.Heap.{chunk}
 use Rattle.std.specs.Box.Ownership.{box_owns}
+use Rattle.otel_c.specs.Handle.{freeable}
 use Rattle.otel_c.specs.contracts.object.Object.{the_row}
 use Rattle.otel_c.proofs.HandleSteps.{E, FromParts as From, handle_val, handle_in}
 use Rattle.otel_c.specs.contracts.handle.Handle.of_parts as F
@@ -48,7 +48,7 @@ module _ {M : Type 1} {𝓤 : Ura M} (𝓛 : Logic 𝓤) (at_mem : Memory → SP
       let Post = (walk_of 𝓛 F.ended stayed (F.clauses 𝓛 at_mem run)).post z in
       let v : D E = record { ptr = z.0.3.0.ptr; alloc = z.0.3.0.alloc; value = z.0.3.0.value } in
       qed 𝓛 ((‵ ftrue ⊛ ‵ (fsep ((B E).own_val v z.0.4.0) ftrue)) ∷ raw (emp 𝓤) ∷ []) ∵ split ! $ drop ! $ fsplit ! $
-      box_out E ! v z.0.4.0 (λ b o hv e ws fa. fjoin ! $ use1 𝓛 (‵ (box_owns chunk the_row (block_ptr b o) v.value)) (id⊢ 𝓤 _) $ handle_in ! (block_ptr b o) (Some v.value) $
+      box_out E ! v z.0.4.0 (λ b o hv e ws fa. fjoin ! $ use1 𝓛 (‵ (box_owns freeable the_row (block_ptr b o) v.value)) (id⊢ 𝓤 _) $ handle_in ! (block_ptr b o) (Some v.value) $
       move ! (1 ∷ 2 ∷ 3 ∷ []) $ drop ! $ drop ! $ drop ! $
       let To = type_at (F.signature).result tt in
       let made : To.Denot = record { at = block_ptr b o; object = Some v.value } in
