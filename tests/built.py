@@ -1,0 +1,49 @@
+"""The crates of the repository, and the libraries that `rt ci` built of them, for scripts that call the kit's compiler themselves."""
+import glob
+import os
+import subprocess
+
+TOP = os.path.dirname(os.path.dirname(os.path.abspath(__file__)))
+# `rt doc` names a page of the kit.
+KIT = os.path.dirname(subprocess.run(["rt", "doc"], stdout=subprocess.PIPE, text=True, check=True).stdout.strip())
+PARTS = "src", "specs", "proofs"
+
+
+def crates():
+    """The lines of crates.txt: what each crate depends on, by its name."""
+    with open(f"{TOP}/crates.txt", encoding="utf-8") as file:
+        lines = [line.split("#", 1)[0].split(":", 1) for line in file]
+    return {line[0].split()[0]: line[1].split() for line in lines if len(line) == 2}
+
+
+def below(crate, known):
+    """The crates of the repository that the crate depends on, lowest first."""
+    found = []
+    for it in known[crate]:
+        if it in known:
+            found += [dep for dep in [*below(it, known), it] if dep not in found]
+    return found
+
+
+def rlib(root, crate):
+    return f"{root}/crates/{crate}/out/rlib/{crate}.rlib"
+
+
+def is_of_ci(crate):
+    """Whether `rt ci` built the library, and it is newer than its sources. What rt builds otherwise has a stamp, by which rt knows its age."""
+    built = rlib(TOP, crate)
+    if not os.path.isdir(built) or os.path.exists(f"{os.path.dirname(built)}/stamp"):
+        return False
+    files = (it for part in PARTS for it in glob.glob(f"{TOP}/crates/{crate}/{part}/**/*", recursive=True))
+    return os.path.getmtime(built) > max(map(os.path.getmtime, files))
+
+
+def words(root, crate, known):
+    """The words of a call of `rattle` over the crate: its source, the libraries that it names and those below them, and the logic."""
+    of_kit = f"{KIT}/rlibs"
+    found = ["--crate-name", crate, f"src/{'main' if os.path.isfile(f'{root}/crates/{crate}/src/main.rt') else 'lib'}.rt"]
+    for name in ["std", *known[crate]]:
+        found += ["--extern", f"{name}={rlib(root, name) if name in known else f'{of_kit}/{name}.rlib'}"]
+    for folder in [of_kit, *(os.path.dirname(rlib(root, it)) for it in below(crate, known))]:
+        found += ["-L", f"dependency={folder}"]
+    return [*found, "--antt-project", f"{KIT}/rattle/logic/antt-project.json", "--logic-built", f"{KIT}/logic_built"]
