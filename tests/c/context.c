@@ -1,56 +1,5 @@
-/* Calls the functions of include/otel.h on headers, contexts and stacks. In a second pass each
- * request for memory is refused in turn, by the number in `refused`: the call that makes it then
- * returns OTEL_NO_MEMORY, what it was given is as it was, and the run goes on from there. */
-#include <stdio.h>
-#include <stdlib.h>
-#include <string.h>
-
-#include "otel.h"
-
-void *__real_malloc(size_t size);
-void *__real_realloc(void *block, size_t size);
-
-static long requests, refused;
-static int starved, failed, passed;
-
-/* The linker puts these in the place of malloc and realloc (`-Wl,--wrap`). */
-void *__wrap_malloc(size_t size) {
-    return ++requests == refused ? NULL : __real_malloc(size);
-}
-
-void *__wrap_realloc(void *block, size_t size) {
-    return ++requests == refused ? NULL : __real_realloc(block, size);
-}
-
-#define TEXT(text) text, strlen(text)
-
-static void check(int good, const char *what) {
-    passed += good;
-    failed += !good;
-    if (!good)
-        printf("%s: wrong (request %ld refused)\n", what, refused);
-}
-
-/* Whether the call is as wanted. One that had a request refused is made again, which then has it. */
-#define CALL(wanted, call)                                                                         \
-    do {                                                                                           \
-        uint32_t status = call;                                                                    \
-        if (status == OTEL_NO_MEMORY && (wanted) != OTEL_NO_MEMORY && refused != 0) {              \
-            starved++;                                                                             \
-            status = call;                                                                         \
-        }                                                                                          \
-        check(status == (wanted), #call);                                                          \
-    } while (0)
-
-/* Whether the headers have the value. */
-static void has(otel_handle *headers, const char *name, const char *value) {
-    char room[512];
-    size_t written = 0;
-    memset(room, '#', sizeof room);
-    CALL(OTEL_OK, otel_headers_get(headers, TEXT(name), room, strlen(value), &written));
-    check(written == strlen(value) && memcmp(room, value, written) == 0, name);
-    check(room[written] == '#', "the rest of the room");
-}
+/* Calls the functions of include/otel.h on headers and contexts. */
+#include "calls.h"
 
 /* Headers of W3C trace-context-2 (sections 2 and 3) and of W3C baggage ("Example"). */
 #define PARENT "00-0af7651916cd43dd8448eb211c80319c-b7ad6b7169203331-01"
@@ -69,10 +18,10 @@ static void there_and_back(void) {
     CALL(OTEL_OK, otel_context_extract(&received, &context));
     CALL(OTEL_OK, otel_headers_new(&sent));
     CALL(OTEL_OK, otel_context_inject(&context, &sent));
-    has(&sent, "traceparent", PARENT);
-    has(&sent, "tracestate", STATE);
-    has(&sent, "baggage", BAGGAGE);
-    has(&received, "host", "example.com");
+    WRITES(PARENT, otel_headers_get, &sent, TEXT("traceparent"));
+    WRITES(STATE, otel_headers_get, &sent, TEXT("tracestate"));
+    WRITES(BAGGAGE, otel_headers_get, &sent, TEXT("baggage"));
+    WRITES("example.com", otel_headers_get, &received, TEXT("host"));
     otel_free(&received);
     otel_free(&context);
     otel_free(&sent);
@@ -104,26 +53,34 @@ static void refusals(void) {
     CALL(OTEL_OK, otel_headers_new(&headers));
     CALL(OTEL_OK, otel_context_inject(&context, &headers));
     CALL(OTEL_ABSENT, otel_headers_get(&headers, TEXT("traceparent"), room, 8, &written));
-    has(&headers, "baggage", "");
+    WRITES("", otel_headers_get, &headers, TEXT("baggage"));
     otel_free(&headers);
     otel_free(&context);
 }
 
-static void (*const runs[])(void) = {there_and_back, refusals};
+/* A clone stays as the context was, whatever becomes of the context. */
+static void clones(void) {
+    otel_handle context = OTEL_NOTHING, clone = OTEL_NOTHING;
+    CALL(OTEL_INVALID, otel_context_clone(&context, &clone));
+    check(clone.object == NULL, "a clone of nothing");
+    extract(&context, "traceparent", PARENT);
+    CALL(OTEL_OK, otel_context_clone(&context, &clone));
+    extract(&context, "baggage", BAGGAGE);
+    injects(&clone, "traceparent", PARENT);
+    injects(&clone, "baggage", "");
+    CALL(OTEL_OK, otel_context_clone(&context, &clone));
+    otel_free(&context);
+    injects(&clone, "traceparent", PARENT);
+    injects(&clone, "baggage", BAGGAGE);
+    CALL(OTEL_OK, otel_headers_new(&context));
+    CALL(OTEL_INVALID, otel_context_clone(&context, &clone));
+    injects(&clone, "baggage", BAGGAGE);
+    otel_free(&context);
+    otel_free(&clone);
+}
+
+static void (*const runs[])(void) = {there_and_back, refusals, clones};
 
 int main(void) {
-    for (size_t at = 0; at < sizeof runs / sizeof *runs; at++) {
-        refused = 0;
-        requests = 0;
-        runs[at]();
-        long most = requests;
-        for (long number = 1; number <= most; number++) {
-            requests = 0;
-            refused = number;
-            runs[at]();
-        }
-    }
-    check(starved != 0, "no request was refused");
-    printf("%d passed, %d failed\n", passed, failed);
-    return failed != 0;
+    return ends(runs, sizeof runs / sizeof *runs);
 }

@@ -2,18 +2,20 @@
  * trace-context-2) and baggage (W3C baggage). The functions are proved; crates/otel_c/README.md
  * says what.
  *
- * Headers and contexts are held by handles. A handle begins as OTEL_NOTHING, calls put objects into
- * it, and otel_free frees what it holds, after which it is OTEL_NOTHING again. A handle isn't copied
- * but handed on: two copies of one would be freed twice.
+ * Headers, contexts and stacks are held by handles. A handle begins as OTEL_NOTHING, calls put
+ * objects into it, and otel_free frees what it holds, after which it is OTEL_NOTHING again. A handle
+ * isn't copied but handed on: two copies of one would be freed twice.
  *
  * A text is a pointer and a length in bytes, with no NUL at its end. It is never null, even if its
  * length is 0: pass "". Each text of an answer is written to room that the caller gives, with no NUL
- * either. Reading a header cuts the blanks that end a value.
+ * either. Reading a header cuts the blanks that end a value. Positions begin at 0, those of a stack
+ * at 1.
  *
  * The caller promises, at each call, that
  *   - each text points to as many readable bytes as its length says, at most PTRDIFF_MAX;
  *   - each handle is OTEL_NOTHING or as a call left it, and no two of one call are the same;
  *   - the room points to as many bytes, all of them set, and `written` to a size_t;
+ *   - a pointer to anything else points to one such thing, each of whose bytes is set;
  *   - what a call changes is used by no other thread meanwhile, and overlaps nothing else that is
  *     passed; a handle stays on one thread;
  *   - it isn't in a signal handler, nor in the forked child of a process with threads.
@@ -21,6 +23,7 @@
 #ifndef OTEL_H
 #define OTEL_H
 
+#include <stdbool.h>
 #include <stddef.h>
 #include <stdint.h>
 
@@ -28,8 +31,9 @@
 extern "C" {
 #endif
 
-/* What a call returns. After all but OTEL_OK the room is unchanged, and so is each handle unless
- * the call says more. `written` has a meaning only after OTEL_OK and OTEL_NO_ROOM. */
+/* What a call returns. After all but OTEL_OK the room is unchanged, and so is each handle and what
+ * else the call would write, unless it says more. `written` has a meaning only after OTEL_OK and
+ * OTEL_NO_ROOM. */
 enum otel_status {
     OTEL_OK = 0,
     OTEL_NO_MEMORY = 1, /* out of memory */
@@ -40,10 +44,10 @@ enum otel_status {
     OTEL_VALUE = 6,     /* a value isn't valid */
     OTEL_LIST = 7,      /* a member of the header has no `=` */
     OTEL_INVALID = 8,   /* a handle is OTEL_NOTHING, or holds another kind of object */
-    OTEL_REFUSED = 9    /* headers can't carry a text, such as one with a line break */
+    OTEL_REFUSED = 9    /* headers can't carry a text, or no position of a stack is left */
 };
 
-/* What holds headers, a context, or nothing. */
+/* What holds headers, a context, a stack, or nothing. */
 typedef struct otel_handle {
     void *object;
 } otel_handle;
@@ -78,7 +82,74 @@ uint32_t otel_context_extract(otel_handle *headers, otel_handle *context);
 /* Sets the headers that carry the context. After another status than OTEL_OK some may be set. */
 uint32_t otel_context_inject(otel_handle *context, otel_handle *headers);
 
+/* Puts a copy of the context into the other handle, and frees what that held. Both share what the
+ * context holds. */
+uint32_t otel_context_clone(otel_handle *context, otel_handle *clone);
+
+/* ---- the span of a context */
+
+/* What identifies a span (W3C trace-context-2, "traceparent Header"). */
+typedef struct otel_span_context {
+    uint8_t trace_id[16]; /* the most significant byte first */
+    uint8_t span_id[8];
+    uint8_t flags;        /* bit 0 is the flag sampled */
+    bool is_remote;       /* whether the span is of another process */
+} otel_span_context;
+
+#define OTEL_NO_SPAN {{0}, {0}, 0, false}
+
+/* Writes what identifies the context's span: OTEL_NO_SPAN if it has none. */
+uint32_t otel_context_span(otel_handle *context, otel_span_context *span);
+
+/* Writes the header of the trace state of the context's span. 16447 bytes are always room enough. */
+uint32_t otel_context_trace_state(otel_handle *context, char *room, size_t room_length,
+                                  size_t *written);
+
+/* Sets the context's span, with the trace state of the header, which is "" for none. Any ids and
+ * flags are taken. */
+uint32_t otel_context_set_span(otel_handle *context, const otel_span_context *span,
+                               const char *trace_state, size_t trace_state_length);
+
+/* ---- the baggage of a context: at most 64 members of distinct keys, and 8192 bytes in all */
+
+/* Writes the number of members. */
+uint32_t otel_baggage_length(otel_handle *context, size_t *length);
+
+/* Writes the key of the member at the position. For each text of a member 8192 bytes are always room
+ * enough. */
+uint32_t otel_baggage_key(otel_handle *context, size_t position,
+                          char *room, size_t room_length, size_t *written);
+
+/* Writes the value of the key, which isn't escaped as in a header. */
+uint32_t otel_baggage_get(otel_handle *context, const char *key, size_t key_length,
+                          char *room, size_t room_length, size_t *written);
+
+/* Writes the metadata of the key: its properties, as in "ttl=30;private", or "". */
+uint32_t otel_baggage_metadata(otel_handle *context, const char *key, size_t key_length,
+                               char *room, size_t room_length, size_t *written);
+
+/* ---- stacks of attached contexts, such as one for each thread */
+
+/* Makes an empty stack, and frees what the handle held. */
+uint32_t otel_stack_new(otel_handle *stack);
+
+/* Attaches a copy of the context, and writes its position, the one above the newest: from 1 to
+ * 65534. OTEL_REFUSED if that is taken. */
+uint32_t otel_stack_attach(otel_handle *stack, otel_handle *context, uint16_t *position);
+
+/* Detaches what is attached at the position, whatever was attached since; the others keep theirs.
+ * OTEL_ABSENT if nothing is. */
+uint32_t otel_stack_detach(otel_handle *stack, uint16_t position);
+
+/* Puts a copy of the current context, the newest that is attached or else the empty one, into the
+ * other handle, and frees what that held. */
+uint32_t otel_stack_current(otel_handle *stack, otel_handle *context);
+
 /* ---- trace states, as texts; no call keeps memory */
+
+/* Writes the key of the pair at the position. */
+uint32_t otel_trace_state_key(const char *header, size_t header_length, size_t position,
+                              char *room, size_t room_length, size_t *written);
 
 /* Writes the value that the trace state of the header has at the key. */
 uint32_t otel_trace_state_get(const char *header, size_t header_length,

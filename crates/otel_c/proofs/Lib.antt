@@ -1,3 +1,6 @@
 mod Carried
 mod HandleSteps
+mod Making
+mod Nth
 mod Refusals
+mod Shown

@@ -1,18 +1,14 @@
 -- What the calls on contexts change and write.
-use Rattle.std.specs.Prelude.{◌≡◌, ◌⊎◌, ℕ, List, Option, None, Some, option_map}
-use Rattle.std.specs.Option.{option_and_then}
-use Rattle.otel_context.specs.Baggage.{get}
-use Rattle.otel_context.specs.Context.{ContextRecord, span_context}
-use Rattle.otel_context.specs.BaggageMember.{Member}
+use Rattle.std.specs.Prelude.{◌≡◌, ◌⊎◌, Option, Some}
+use Rattle.otel_context.specs.Context.{ContextRecord}
 use Rattle.opentelemetry.specs.Carrier.{TextMap, Sets}
 use Rattle.otel_http.specs.Headers.{Headers, texts}
 use Rattle.otel_propagators.specs.TraceContext.{trace_pairs, trace_extracted}
-use Rattle.otel_propagators.specs.BaggagePropagator.{baggage_pairs, baggage_extracted, members}
+use Rattle.otel_propagators.specs.BaggagePropagator.{baggage_pairs, baggage_extracted}
 use Rattle.otel_c.specs.declared.object.Object.{Object}
 use Rattle.otel_c.specs.declared.status.Status.{Status}
 use Rattle.otel_c.specs.Object.{headers_of, context_of}
 use Rattle.otel_c.specs.Status.{IsOutOfMemory, IsOfCarrier, IsOtherKind}
-use Rattle.otel_c.specs.TraceState.{Holds}
 
 -- the context with what the texts of `traceparent`, `tracestate` and `baggage` say
 abbrev pub extracted : ContextRecord → TextMap → ContextRecord
@@ -51,3 +47,13 @@ pub record Injects (object old new : Option Object) : Type 0 where
 abbrev pub InjectRefused : Option Object → Option Object → Status → Type 0
 InjectRefused object old s =
     IsOfCarrier s ⊎ (IsOtherKind (context_of object) s ⊎ IsOtherKind (headers_of old) s)
+
+-- both hold the same context
+pub record Copies (object new : Option Object) : Type 0 where
+  pub context : ContextRecord
+  pub from : context_of object ≡ Some context
+  pub into : context_of new ≡ Some context
+
+-- why no copy of the context was made
+abbrev pub CopyRefused : Option Object → Status → Type 0
+CopyRefused object s = IsOutOfMemory s ⊎ IsOtherKind (context_of object) s

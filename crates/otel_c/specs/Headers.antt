@@ -9,8 +9,8 @@ use Rattle.otel_c.specs.declared.object.Object.{Object}
 use Rattle.otel_c.specs.declared.status.Status.{Status}
 use Rattle.otel_c.specs.declared.status.Status.TheVariants as status
 use Rattle.otel_c.specs.Object.{headers_of}
-use Rattle.otel_c.specs.Status.{IsOutOfMemory, IsOtherKind, IsNothing, HasNoRoom}
-use Rattle.otel_c.specs.TraceState.{Holds, IsLong}
+use Rattle.otel_c.specs.Status.{IsOutOfMemory, IsOtherKind, IsNothing}
+use Rattle.otel_c.specs.Room.{Holds, IsLong}
 
 -- the headers have the value after those of its name
 pub record Appends (name value : List ℕ) (old new : Option Object) : Type 0 where

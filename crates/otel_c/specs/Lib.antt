@@ -1,6 +1,10 @@
+pub mod Baggage
 pub mod Context
 pub mod Handle
 pub mod Headers
 pub mod Object
+pub mod Room
+pub mod Span
+pub mod Stack
 pub mod Status
 pub mod TraceState

@@ -1,16 +1,12 @@
 -- What the calls on the text of a `tracestate` header write.
-use Rattle.std.specs.Prelude.{◌≡◌, ◌⊎◌, ℕ, List, ◌++◌, None, Some, drop, length}
+use Rattle.std.specs.Prelude.{◌≡◌, ◌⊎◌, ℕ, List, None, Some, Option, option_map, slice_get}
 use Rattle.otel_ids.specs.TraceState.{Pair, pair_with, get, insert, delete, header}
 use Rattle.otel_ids.specs.TraceStateError.{key_fault, pair_fault}
 use Rattle.otel_ids.specs.Reading.{Reads, fault_of}
 use Rattle.otel_c.specs.declared.status.Status.{Status}
 use Rattle.otel_c.specs.declared.status.Status.TheVariants as status
-use Rattle.otel_c.specs.Status.{IsNoText, HasNoRoom, Blames}
-
--- the text stands at the front of the room, whose rest is unchanged, and its length is written
-pub record Holds (text old new : List ℕ) (written : ℕ) : Type 0 where
-  pub room : new ≡ text ++ drop (length text) old
-  pub length : written ≡ length text
+use Rattle.otel_c.specs.Status.{IsNoText, Blames}
+use Rattle.otel_c.specs.Room.{Holds, IsLong, HoldsFound, FoundRefused}
 
 -- the room holds the value that the trace state has at the key
 pub record Gets (received key old new : List ℕ) (written : ℕ) : Type 0 where
@@ -32,6 +28,16 @@ pub record Deletes (received key old new : List ℕ) (written : ℕ) : Type 0 wh
   pub reads : Reads received pairs
   pub holds : Holds (header (delete pairs key)) old new written
 
+-- the key of the pair at the position, from 0 on
+abbrev pub key_at : List Pair → ℕ → Option (List ℕ)
+key_at pairs position = option_map (λ p. p.key) (slice_get pairs position)
+
+-- the room holds the key that the trace state has at the position
+pub record GetsKey (received : List ℕ) (position : ℕ) (old new : List ℕ) (written : ℕ) : Type 0 where
+  pub pairs : List Pair
+  pub reads : Reads received pairs
+  pub found : HoldsFound (key_at pairs position) old new written
+
 -- ---- refusals
 
 -- why a header wasn't read: it isn't UTF-8, or has a fault
@@ -44,11 +50,6 @@ pub record IsAbsent (received key : List ℕ) (s : Status) : Type 0 where
   pub reads : Reads received pairs
   pub none : get pairs key ≡ None
   pub status : s ≡ status.Absent
-
--- the text is longer than the room, and its length is written
-pub record IsLong (text old : List ℕ) (written : ℕ) (s : Status) : Type 0 where
-  pub short : HasNoRoom text old s
-  pub length : written ≡ length text
 
 -- the value of the key is longer than the room
 pub record GetIsLong (received key old : List ℕ) (written : ℕ) (s : Status) : Type 0 where
@@ -88,3 +89,15 @@ abbrev pub DeleteRefused : List ℕ → List ℕ → List ℕ → ℕ → Status
 DeleteRefused received key old written s =
     (ReadRefused received s ⊎ IsNoText key s)
     ⊎ (Blames (key_fault key) s ⊎ DeleteIsLong received key old written s)
+
+-- the key at the position wasn't written, for that reason
+pub record GetsNoKey (received : List ℕ) (position : ℕ) (old : List ℕ) (written : ℕ) (s : Status)
+    : Type 0 where
+  pub pairs : List Pair
+  pub reads : Reads received pairs
+  pub why : FoundRefused (key_at pairs position) old written s
+
+-- why no key was written
+abbrev pub KeyRefused : List ℕ → ℕ → List ℕ → ℕ → Status → Type 0
+KeyRefused received position old written s =
+    ReadRefused received s ⊎ GetsNoKey received position old written s

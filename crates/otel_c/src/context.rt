@@ -6,9 +6,9 @@ ghost use Rattle.otel_http.specs.Headers.{texts};
 ghost use Rattle.otel_propagators.specs.TraceContext.{trace_pairs, trace_extracted};
 ghost use Rattle.otel_propagators.specs.BaggagePropagator.{baggage_pairs, baggage_extracted};
 ghost use Rattle.otel_c.specs.Context.{extracted, Extracts, ExtractRefused};
-ghost use Rattle.otel_c.specs.Context.{SetsBoth, Injects, InjectRefused};
+ghost use Rattle.otel_c.specs.Context.{SetsBoth, Injects, InjectRefused, Copies, CopyRefused};
 ghost use Rattle.otel_c.specs.Object.{context_of};
-ghost use Rattle.otel_c.specs.Status.{Refuses, IsOutOfMemory, IsOfCarrier, IsOtherKind};
+ghost use Rattle.otel_c.specs.Status.{Refuses, IsOutOfMemory, IsOfCarrier};
 
 use crate::handle::Handle;
 use crate::object::Object;
@@ -206,6 +206,50 @@ pub(crate) fn make(alloc: Global, handle: &mut Handle, context: Context) -> Resu
 {
     handle.put(alloc, Box::new(alloc, Object::Context(context))?);
     Ok(())
+}
+
+fn copy_in(object: &Object) -> Result<Context, Status>
+    ensures copy { IfOk result (λ copy. context_of (Some object.now) ≡ Some copy) }
+    ensures refused { IfErr result (CopyRefused (Some object.now)) }
+{
+    Ok(object.context()?.clone()?)
+}
+
+/// Returns a copy of the context of a handle. It shares what the context holds.
+///
+/// # Errors
+///
+/// `Invalid` if the handle holds no context; `NoMemory` if too many share what it holds.
+pub(crate) fn copy(alloc: Global, context: &mut Handle) -> Result<Context, Status>
+    ensures copy { IfOk result (λ copy. context_of context.old.object ≡ Some copy) }
+    ensures kept { context.new.object ≡ context.old.object }
+    ensures refused { IfErr result (CopyRefused context.old.object) }
+{
+    let object = context.take(alloc)?;
+    let copy = copy_in(&object);
+    context.put(alloc, object);
+    copy
+}
+
+fn copy_into(alloc: Global, context: &mut Handle, clone: &mut Handle) -> Result<(), Status>
+    ensures copy { OnOk result (Copies context.old.object clone.new.object) }
+    ensures unchanged { OnErr result (clone.new.object ≡ clone.old.object) }
+    ensures kept { context.new.object ≡ context.old.object }
+    ensures refused { IfErr result (CopyRefused context.old.object) }
+{
+    let made = copy(alloc, context)?;
+    make(alloc, clone, made)
+}
+
+/// Puts a copy of the context into the other handle, and frees what that held.
+#[unsafe(no_mangle)]
+pub extern "C" fn otel_context_clone(alloc: Global, context: &mut Handle, clone: &mut Handle) -> u32
+    ensures copy { result ≡ 0 → Copies context.old.object clone.new.object }
+    ensures unchanged { (result ≡ 0 → ⊥) → clone.new.object ≡ clone.old.object }
+    ensures kept { context.new.object ≡ context.old.object }
+    ensures refused { (result ≡ 0 → ⊥) → Refuses (CopyRefused context.old.object) result }
+{
+    code(copy_into(alloc, context, clone))
 }
 
 /// Makes the empty context, and frees what the handle held.

@@ -1,13 +1,15 @@
-//! The library for C and for what calls C: reads and changes trace states, as texts in the caller's
-//! memory. `include/otel.h` declares the functions, and says what a caller must promise.
-//!
-//! No function keeps memory: what a call allocates, it frees.
+//! The library for C and for what calls C: headers, contexts and stacks, by handles, and trace states,
+//! as texts in the caller's memory. `include/otel.h` declares the functions, and says what a caller
+//! must promise.
 #![tactic(auto)]
 
+pub mod baggage;
 pub mod context;
 pub mod handle;
 pub mod headers;
 pub mod object;
 pub mod room;
+pub mod span;
+pub mod stack;
 pub mod status;
 pub mod trace_state;

@@ -50,4 +50,19 @@ impl Object {
             _ => Err(Status::Invalid),
         }
     }
+
+    /// Returns the stack.
+    ///
+    /// # Errors
+    ///
+    /// `Invalid` if it is something else.
+    pub fn stack(&self) -> Result<&ContextStack, Status>
+        ensures stack { IfOk result (λ stack. stack_of (Some self.now) ≡ Some stack.now) }
+        ensures refused { IfErr result (λ status. IsOtherKind (stack_of (Some self.now)) status) }
+    {
+        match self {
+            Object::Stack(stack) => Ok(stack),
+            _ => Err(Status::Invalid),
+        }
+    }
 }

@@ -1,5 +1,7 @@
 //! Texts that come from C, and the room that C gives for the answers.
 ghost use Rattle.std.specs.Prelude.{◌≡◌, ◌++◌, IfOk, IfErr, OnOk, OnErr, drop, length};
+ghost use Rattle.std.specs.Option.{option_copied};
+ghost use Rattle.otel_c.specs.Room.{HoldsFound, FoundRefused};
 ghost use Rattle.otel_c.specs.Status.{IsNoText, HasNoRoom};
 
 use crate::status::Status;
@@ -53,4 +55,22 @@ pub fn write(text: &str, room: &mut [u8], written: &mut usize) -> Result<(), Sta
     ensures refused { IfErr result (λ status. HasNoRoom text.now room.old status) }
 {
     write_bytes(text.as_bytes(), room, written)
+}
+
+/// Writes the text, if there is one, as [`write`] does.
+///
+/// # Errors
+///
+/// `Absent` if there is none; `NoRoom` as [`write`] says. The room is unchanged.
+pub fn write_found(found: Option<&str>, room: &mut [u8], written: &mut usize) -> Result<(), Status>
+    ensures text { OnOk result (HoldsFound (option_copied found.entry)
+        room.old room.new written.new) }
+    ensures unchanged { OnErr result (room.new ≡ room.old) }
+    ensures refused { IfErr result (λ status.
+        FoundRefused (option_copied found.entry) room.old written.new status) }
+{
+    match found {
+        Some(text) => write(text, room, written),
+        None => Err(Status::Absent),
+    }
 }

@@ -1,11 +1,12 @@
 //! Trace states, as the text of a `tracestate` header.
 ghost use Rattle.std.specs.Prelude.{◌≡◌, IfOk, IfErr, OnOk, OnErr};
 ghost use Rattle.otel_ids.specs.Reading.{Reads};
-ghost use Rattle.otel_c.specs.TraceState.{Gets, Inserts, Deletes};
+ghost use Rattle.std.specs.Option.{option_copied};
+ghost use Rattle.otel_c.specs.TraceState.{Gets, GetsKey, KeyRefused, Inserts, Deletes, key_at};
 ghost use Rattle.otel_c.specs.TraceState.{ReadRefused, GetRefused, InsertRefused, DeleteRefused};
 ghost use Rattle.otel_c.specs.Status.{Refuses};
 
-use crate::room::{text_of, write};
+use crate::room::{text_of, write, write_found};
 use crate::status::{Status, code};
 use otel_ids::TraceState;
 use std::alloc::Global;
@@ -16,7 +17,7 @@ use std::alloc::Global;
 ///
 /// `NotText` if it isn't UTF-8; `List`, `Key` or `Value` as [`TraceState::from_str`] says;
 /// `NoMemory` if out of memory.
-fn read(alloc: Global, header: &[u8]) -> Result<TraceState, Status>
+pub(crate) fn read(alloc: Global, header: &[u8]) -> Result<TraceState, Status>
     ensures read { IfOk result (λ state. Reads header.now state) }
     ensures refused { IfErr result (λ status. ReadRefused header.now status) }
 {
@@ -40,6 +41,30 @@ fn get(
         return Err(Status::Absent);
     };
     write(value, room, written)
+}
+
+/// Returns the key of the pair at the position, from 0 on.
+fn key_at(state: &TraceState, position: usize) -> Option<&str>
+    ensures { option_copied result ≡ key_at state.now position }
+{
+    let (key, _) = state.iter().nth(position)?;
+    Some(key)
+}
+
+fn key(
+    alloc: Global,
+    header: &[u8],
+    position: usize,
+    room: &mut [u8],
+    written: &mut usize,
+) -> Result<(), Status>
+    ensures key { OnOk result (GetsKey header.now position room.old room.new written.new) }
+    ensures unchanged { OnErr result (room.new ≡ room.old) }
+    ensures refused { IfErr result (λ status.
+        KeyRefused header.now position room.old written.new status) }
+{
+    let state = read(alloc, header)?;
+    write_found(key_at(&state, position), room, written)
 }
 
 fn insert(
@@ -95,6 +120,23 @@ pub extern "C" fn otel_trace_state_get(
         → Refuses (GetRefused header.now key.now room.old written.new) result }
 {
     code(get(alloc, header, key, room, written))
+}
+
+/// Writes the key that the trace state of the header has at the position, from 0 on.
+#[unsafe(no_mangle)]
+pub extern "C" fn otel_trace_state_key(
+    alloc: Global,
+    header: &[u8],
+    position: usize,
+    room: &mut [u8],
+    written: &mut usize,
+) -> u32
+    ensures key { result ≡ 0 → GetsKey header.now position room.old room.new written.new }
+    ensures unchanged { (result ≡ 0 → ⊥) → room.new ≡ room.old }
+    ensures refused { (result ≡ 0 → ⊥)
+        → Refuses (KeyRefused header.now position room.old written.new) result }
+{
+    code(key(alloc, header, position, room, written))
 }
 
 /// Writes the header of the trace state with the pair in front.
