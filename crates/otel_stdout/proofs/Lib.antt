@@ -4,4 +4,6 @@ pub mod Members
 pub mod OneSpan
 pub mod Scopes
 pub mod Takes
+pub mod TreeValues
+mod Walks
 pub mod Writing

@@ -1,14 +1,12 @@
 -- What a writer took, with the line end that is owed.
-use Rattle.std.proofs.Common.{Result, Ok, Err, OnErr, ◌≡◌, ℕ, inl, inr, nat_lt, nat_eq, true≢false, ◌<◌, ◌≤◌, List, [], ◌∷◌, ◌++◌, length, take, Option, Bool, true, false, refl, sym, ap, ◌∙◌, append_assoc, subst, arith}
+use Rattle.std.proofs.Common.{Result, Ok, Err, OnErr, OnOk, ◌≡◌, ℕ, inl, inr, nat_lt, nat_eq, true≢false, ◌<◌, ◌≤◌, List, [], ◌∷◌, ◌++◌, length, take, Option, Bool, true, false, refl, sym, ap, ◌∙◌, append_assoc, subst, arith}
 use Rattle.std.proofs.lemmas.Grind.{common_steps}
 use Rattle.std.proofs.lemmas.List.{append-nil}
 use Rattle.std.proofs.KnownBytes.{Appends-nil, Appends-trans, Appends-kept}
 use Rattle.std.specs.Io.KnownBytes.{Appends, Keeps}
-use Rattle.otel_stdout.specs.Exporter.{Takes, IsLineOf, owed_end, IsTorn}
+use Rattle.serde_json.specs.Data.{Data}
+use Rattle.otel_stdout.specs.Exporter.{Takes, IsLine, owed_end, IsTorn}
 use Rattle.otel_stdout.specs.Json.{IsTextOf}
-use Rattle.otel_stdout.specs.Traces.{traces_data}
-use Rattle.otel_sdk_span.specs.SpanData.{SpanRecord}
-use Rattle.otel_sdk_span.specs.Resource.{Parts}
 
 -- nothing is written
 pub takes_nothing : (a : Option (List ℕ)) (owes : Bool) → Takes a a owes owes []
@@ -74,17 +72,26 @@ takes_before a b c o p q xs first then =
 none_is : (n : ℕ) → true ≡ nat_eq n 0 → n ≡ 0
 none_is n h = grind (arith, common_steps)
 
--- the line of a batch with spans
-pub line_of : (of : Parts) (batch : List SpanRecord) (text : List ℕ) → false ≡ nat_eq (length batch) 0 → IsTextOf text (traces_data of batch) → IsLineOf of batch (text ++ 10 ∷ [])
-line_of of [] text h is = absurd (true≢false (sym h))
-line_of of (s ∷ more) text h is = (text, is, refl)
+-- the line of a batch with records
+pub line_of : {R : Type 0} (data_of : List R → Data) (batch : List R) (text : List ℕ) → false ≡ nat_eq (length batch) 0 → IsTextOf text (data_of batch) → IsLine data_of batch (text ++ 10 ∷ [])
+line_of data_of [] text h is = absurd (true≢false (sym h))
+line_of data_of (r ∷ more) text h is = (text, is, refl)
 
 -- an empty batch has none
-pub no_line_of : (of : Parts) (batch : List SpanRecord) → true ≡ nat_eq (length batch) 0 → IsLineOf of batch []
-no_line_of of [] h = refl
-no_line_of of (s ∷ more) h = let none : length (s ∷ more) ≡ 0 = none_is (length (s ∷ more)) h in absurd (omega (arith, none))
+pub no_line_of : {R : Type 0} (data_of : List R → Data) (batch : List R) → true ≡ nat_eq (length batch) 0 → IsLine data_of batch []
+no_line_of data_of [] h = refl
+no_line_of data_of (r ∷ more) h = let none : length (r ∷ more) ≡ 0 = none_is (length (r ∷ more)) h in absurd (omega (arith, none))
 
 -- what holds anyhow holds after an error
 pub on_err : {X E : Type 0} (P : Type 0) (r : Result X E) → P → OnErr r P
 on_err P (Ok x) p = tt
 on_err P (Err e) p = p
+
+-- what follows from what holds after success, or after an error
+pub map_ok : {X E : Type 0} (P Q : Type 0) (r : Result X E) → (P → Q) → OnOk r P → OnOk r Q
+map_ok P Q (Ok x) f p = f p
+map_ok P Q (Err e) f p = tt
+
+pub map_err : {X E : Type 0} (P Q : Type 0) (r : Result X E) → (P → Q) → OnErr r P → OnErr r Q
+map_err P Q (Ok x) f p = tt
+map_err P Q (Err e) f p = f p

@@ -3,6 +3,12 @@
 use Rattle.std.specs.Prelude.{◌≡◌, ℕ, ℤ, List, [], ◌∷◌, ◌++◌, map, Bool, false, codes}
 use Rattle.std.specs.Prelude.{Some, None, refl}
 use Rattle.std.specs.Fmt.{signed_decimal}
+use Rattle.base64.proofs.OnLiterals.{base64_on_literals}
+use Rattle.base64.specs.Engines.{standard}
+use Rattle.base64.specs.GeneralPurpose.{encode_of}
+use Rattle.otel_base.specs.AnyValue as any
+use Rattle.otel_base.specs.AnyValue.{Tree, Trees, no_trees, more_trees, Entries, no_entries}
+use Rattle.otel_base.specs.AnyValue.{more_entries}
 use Rattle.otel_base.specs.Array.{ArrayValue, booleans, integers, texts}
 use Rattle.otel_base.specs.Value as value
 use Rattle.otel_base.specs.Value.{AttributeValue}
@@ -31,6 +37,15 @@ abbrev pub list_value : List Data → Data
 list_value values =
     object_of (object_member (codes "arrayValue") (list_member (codes "values") values))
 
+-- bytes in base64, with the standard alphabet and padding
+abbrev pub bytes_value : List ℕ → Data
+bytes_value bs = object_of (text_member (codes "bytesValue") (encode_of standard bs))
+
+-- a map from keys to values, by its pairs
+abbrev pub map_value : List Data → Data
+map_value pairs =
+    object_of (object_member (codes "kvlistValue") (list_member (codes "values") pairs))
+
 -- the items of an array, each as a value of its own; the protocol has no type of an array's items
 abbrev pub array_values : ArrayValue → List Data
 array_values (booleans bs) = map boolean_value bs
@@ -45,12 +60,36 @@ any_value (value.text s) = text_value s
 any_value (value.array xs) = list_value (array_values xs)
 
 -- ---- KeyValue
+abbrev pub pair : List ℕ → Data → Data
+pair key value = object_of (text_member (codes "key") key ++ (codes "value", value) ∷ [])
+
+-- an attribute of a span, a resource or a scope
 abbrev pub key_value : Attribute → Data
-key_value a = object_of (text_member (codes "key") a.0 ++ (codes "value", any_value a.1) ∷ [])
+key_value a = pair a.0 (any_value a.1)
 
 -- the member `attributes`, left out if there are none
 abbrev pub attributes_member : List Attribute → List Member
 attributes_member xs = list_unless_empty (codes "attributes") (map key_value xs)
+
+-- ---- the value of a tree
+abbrev mutual
+  pub tree_value : Tree → Data
+  tree_value (any.integer z) = integer_value z
+  tree_value (any.text s) = text_value s
+  tree_value (any.boolean b) = boolean_value b
+  tree_value (any.bytes bs) = bytes_value bs
+  tree_value (any.list ts) = list_value (tree_values ts)
+  tree_value (any.map es) = map_value (entry_values es)
+
+  -- those of a list, in order
+  pub tree_values : Trees → List Data
+  tree_values no_trees = []
+  tree_values (more_trees t ts) = tree_value t ∷ tree_values ts
+
+  -- the pairs of a map, in the order of its keys
+  pub entry_values : Entries → List Data
+  entry_values no_entries = []
+  entry_values (more_entries k t es) = pair k (tree_value t) ∷ entry_values es
 
 -- ---- Resource
 abbrev pub resource : Parts → Data
@@ -80,6 +119,20 @@ empty_array_example :
     compact_text (any_value (value.array (texts []))) ≡ codes "{\"arrayValue\":{\"values\":[]}}"
 unfolding serde_json_on_literals
 empty_array_example = refl
+
+-- bytes 255, 254
+bytes_example :
+    compact_text (tree_value (any.bytes (255 ∷ 254 ∷ []))) ≡ codes "{\"bytesValue\":\"//4=\"}"
+unfolding serde_json_on_literals base64_on_literals
+bytes_example = refl
+
+-- the map of a to "x"
+map_example :
+    compact_text (tree_value (any.map (more_entries (codes "a") (any.text (codes "x")) no_entries)))
+    ≡ codes "{\"kvlistValue\":{\"values\":[{\"key\":\"a\","
+    ++ codes "\"value\":{\"stringValue\":\"x\"}}]}}"
+unfolding serde_json_on_literals
+map_example = refl
 
 empty_scope_example :
     compact_text (instrumentation_scope

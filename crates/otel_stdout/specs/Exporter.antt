@@ -3,15 +3,26 @@
 use Rattle.std.specs.Prelude.{◌≡◌, ◌⊎◌, ◌<◌, ℕ, Bool, List, [], ◌∷◌, ◌++◌, length, take, Option}
 use Rattle.std.specs.Prelude.{if◌then◌else◌}
 use Rattle.std.specs.Io.KnownBytes.{Appends}
+use Rattle.otel_sdk_logs.specs.LogRecord.{LogEntry}
 use Rattle.otel_sdk_span.specs.SpanData.{SpanRecord}
 use Rattle.otel_sdk_span.specs.Resource.{Parts}
+use Rattle.serde_json.specs.Data.{Data}
 use Rattle.otel_stdout.specs.Json.{IsTextOf}
+use Rattle.otel_stdout.specs.Logs.{logs_data}
 use Rattle.otel_stdout.specs.Traces.{traces_data}
 
--- the batches that it has accepted, the writer, the resource of the spans to come, whether it owes
--- the end of a line, and whether it was shut down
+-- the batches of spans that it has accepted, the writer, the resource of the spans to come, whether
+-- it owes the end of a line, and whether it was shut down
 pub record SpanLines (W : Type 0) : Type 0 where
   pub accepted : List (List SpanRecord)
+  pub writer : W
+  pub resource : Parts
+  pub owes_line_end : Bool
+  pub is_shut_down : Bool
+
+-- the same of an exporter of log records
+pub record LogLines (W : Type 0) : Type 0 where
+  pub accepted : List (List LogEntry)
   pub writer : W
   pub resource : Parts
   pub owes_line_end : Bool
@@ -29,18 +40,37 @@ pub record Takes (old new : Option (List ℕ)) (owed owes : Bool) (lines : List 
   pub appended : Appends old new taken
   pub settled : taken ++ owed_end owes ≡ owed_end owed ++ lines
 
--- the line of the batch: the text of its object, and a line end; nothing for an empty batch
-abbrev pub IsLineOf : Parts → List SpanRecord → List ℕ → Type 0
-IsLineOf resource [] line = line ≡ []
-IsLineOf resource (s ∷ more) line =
-    (text : List ℕ) × IsTextOf text (traces_data resource (s ∷ more)) × (line ≡ text ++ 10 ∷ [])
-
 -- the first bytes of a text that isn't whole, fewer than it has, and a line end; or nothing
 abbrev pub IsTorn : List ℕ → List ℕ → Type 0
 IsTorn text torn =
     (torn ≡ []) ⊎ ((n : ℕ) × (n < length text) × (torn ≡ take n text ++ 10 ∷ []))
 
--- the same of the text of the batch's object
+-- ---- batches of any records, by the value of a batch
+-- the line of the batch: the text of its object, and a line end; nothing for an empty batch
+abbrev pub IsLine : {R : Type 0} → (List R → Data) → List R → List ℕ → Type 0
+IsLine data_of [] line = line ≡ []
+IsLine data_of (r ∷ more) line =
+    (text : List ℕ) × IsTextOf text (data_of (r ∷ more)) × (line ≡ text ++ 10 ∷ [])
+
+-- a torn line of the text of the value, or nothing
+abbrev pub IsTornLine : Data → List ℕ → Type 0
+IsTornLine value torn =
+    (torn ≡ []) ⊎ ((text : List ℕ) × IsTextOf text value × IsTorn text torn)
+
+-- ---- batches of spans
+-- the line of the batch
+abbrev pub IsLineOf : Parts → List SpanRecord → List ℕ → Type 0
+IsLineOf resource batch line = IsLine (traces_data resource) batch line
+
+-- a torn line of the batch, or nothing
 abbrev pub IsTornLineOf : Parts → List SpanRecord → List ℕ → Type 0
-IsTornLineOf resource batch torn =
-    (torn ≡ []) ⊎ ((text : List ℕ) × IsTextOf text (traces_data resource batch) × IsTorn text torn)
+IsTornLineOf resource batch torn = IsTornLine (traces_data resource batch) torn
+
+-- ---- batches of log records
+-- the line of the batch
+abbrev pub IsLogLineOf : Parts → List LogEntry → List ℕ → Type 0
+IsLogLineOf resource batch line = IsLine (logs_data resource) batch line
+
+-- a torn line of the batch, or nothing
+abbrev pub IsTornLogLineOf : Parts → List LogEntry → List ℕ → Type 0
+IsTornLogLineOf resource batch torn = IsTornLine (logs_data resource batch) torn

@@ -55,6 +55,14 @@ abbrev pub text_if_given : List ℕ → Option (List ℕ) → List Member
 text_if_given name None = []
 text_if_given name (Some text) = text_member name text
 
+abbrev pub number_if_given : List ℕ → Option ℕ → List Member
+number_if_given name None = []
+number_if_given name (Some n) = number_member name n
+
+abbrev pub decimal_if_given : List ℕ → Option ℕ → List Member
+decimal_if_given name None = []
+decimal_if_given name (Some n) = decimal_member name n
+
 -- ---- ids
 -- 32 lower-case hexadecimal digits, not base64
 abbrev pub trace_id_text : ℕ → List ℕ

@@ -1,8 +1,6 @@
 -- The messages of traces [opentelemetry/proto/trace/v1/trace.proto].
 use Rattle.std.specs.Prelude.{◌≡◌, ℕ, ◌+◌, ◌==◌, List, [], ◌∷◌, ◌++◌, map, Bool, true, false, codes}
-use Rattle.std.specs.Prelude.{if◌then◌else◌, refl, filter}
-use Rattle.std.specs.List.{list_any}
-use Rattle.otel_base.specs.InstrumentationScope as scope
+use Rattle.std.specs.Prelude.{if◌then◌else◌, refl}
 use Rattle.otel_base.specs.InstrumentationScope.{Scope}
 use Rattle.otel_context.specs.declared.span.status.SpanKind.{SpanKind}
 use Rattle.otel_context.specs.declared.span.status.SpanKind.TheVariants as kind
@@ -15,10 +13,11 @@ use Rattle.otel_sdk_span.specs.SpanData.{SpanRecord}
 use Rattle.otel_sdk_span.specs.Resource.{Parts}
 use Rattle.serde_json.specs.Data.{Data}
 use Rattle.otel_stdout.specs.Json.{Member, object_of, text_member, number_member, decimal_member}
-use Rattle.otel_stdout.specs.Json.{list_member, text_unless_empty, text_if_given}
+use Rattle.otel_stdout.specs.Json.{list_member, text_unless_empty}
 use Rattle.otel_stdout.specs.Json.{number_unless_zero, list_unless_empty}
 use Rattle.otel_stdout.specs.Json.{trace_id_text, span_id_text}
-use Rattle.otel_stdout.specs.Common.{attributes_member, instrumentation_scope, resource}
+use Rattle.otel_stdout.specs.Common.{attributes_member}
+use Rattle.otel_stdout.specs.Groups as groups
 
 -- ---- Span.Event
 abbrev pub event : EventRecord → Data
@@ -118,35 +117,19 @@ losses s =
 abbrev pub span : SpanRecord → Data
 span s = object_of (identity s ++ work s ++ records s ++ losses s)
 
--- ---- ScopeSpans
--- whether the span is of the scope
-abbrev pub is_of : Scope → SpanRecord → Bool
-is_of wanted s = scope.eq s.scope wanted
+-- ---- TracesData
+abbrev pub scope_of : SpanRecord → Scope
+scope_of s = s.scope
 
 -- the spans of the scope among these, in order, with the scope
 abbrev pub scope_spans : List SpanRecord → Scope → Data
-scope_spans spans of =
-    object_of ((codes "scope", instrumentation_scope of)
-    ∷ list_member (codes "spans") (map span (filter (is_of of) spans))
-    ++ text_if_given (codes "schemaUrl") of.schema_url)
+scope_spans = groups.scope_group scope_of span (codes "spans")
 
--- the scope of a span, unless a span before it is of that scope
-abbrev pub new_scope : List SpanRecord → SpanRecord → List Scope
-new_scope before s = if list_any (is_of s.scope) before then [] else s.scope ∷ []
-
--- the scopes of these spans, in the order in which they first appear; `before` are the spans that
--- stand before them
-abbrev pub first_scopes : List SpanRecord → List SpanRecord → List Scope
-first_scopes before [] = []
-first_scopes before (s ∷ more) = new_scope before s ++ first_scopes (before ++ s ∷ []) more
-
--- ---- TracesData
--- the spans of one resource
+-- the spans of one resource, the scopes in the order in which they first appear
 abbrev pub resource_spans : Parts → List SpanRecord → Data
 resource_spans of spans =
-    object_of ((codes "resource", resource of)
-    ∷ list_member (codes "scopeSpans") (map (scope_spans spans) (first_scopes [] spans))
-    ++ text_if_given (codes "schemaUrl") of.schema_url)
+    groups.resource_group of (codes "scopeSpans")
+    (map (scope_spans spans) (groups.first_scopes scope_of [] spans))
 
 -- a batch of spans of one resource, as one object
 abbrev pub traces_data : Parts → List SpanRecord → Data

@@ -13,7 +13,7 @@ use serde_json::{Map, Value as Json, put};
 use std::alloc::{AllocError, Global};
 
 /// Returns the value of a boolean.
-fn boolean_value(alloc: Global, value: bool) -> Result<Json, AllocError>
+pub(crate) fn boolean_value(alloc: Global, value: bool) -> Result<Json, AllocError>
     ensures { IfOk result (λ v. view v ≡ spec.boolean_value value) }
 {
     let mut members = Map::new(alloc);
@@ -22,7 +22,7 @@ fn boolean_value(alloc: Global, value: bool) -> Result<Json, AllocError>
 }
 
 /// Returns the value of an integer, a text of its digits.
-fn integer_value(alloc: Global, value: i64) -> Result<Json, AllocError>
+pub(crate) fn integer_value(alloc: Global, value: i64) -> Result<Json, AllocError>
     ensures { IfOk result (λ v. view v ≡ spec.integer_value value) }
 {
     let mut members = Map::new(alloc);
@@ -32,7 +32,7 @@ fn integer_value(alloc: Global, value: i64) -> Result<Json, AllocError>
 }
 
 /// Returns the value of a text.
-fn text_value(alloc: Global, value: &str) -> Result<Json, AllocError>
+pub(crate) fn text_value(alloc: Global, value: &str) -> Result<Json, AllocError>
     ensures { IfOk result (λ v. view v ≡ spec.text_value value.now) }
 {
     let mut members = Map::new(alloc);
@@ -41,7 +41,7 @@ fn text_value(alloc: Global, value: &str) -> Result<Json, AllocError>
 }
 
 /// Returns the value of a list of values.
-fn list_value(alloc: Global, values: Vec<Json>) -> Result<Json, AllocError>
+pub(crate) fn list_value(alloc: Global, values: Vec<Json>) -> Result<Json, AllocError>
     ensures { IfOk result (λ v. view v ≡ spec.list_value (map view values.items)) }
 {
     let mut list = Map::new(alloc);
@@ -110,15 +110,22 @@ fn any_value(alloc: Global, value: &Value) -> Result<Json, AllocError>
     }
 }
 
-/// Returns an attribute (the protocol's `KeyValue`).
+/// Returns a key with its value (the protocol's `KeyValue`).
+pub(crate) fn pair(alloc: Global, key: &str, value: Json) -> Result<Json, AllocError>
+    ensures { IfOk result (λ v. view v ≡ spec.pair key.now (view value)) }
+{
+    let mut members = Map::new(alloc);
+    put_text(&mut members, alloc, "key", key)?;
+    put(&mut members, alloc, "value", value)?;
+    Ok(Json::from(members))
+}
+
+/// Returns an attribute.
 fn key_value(alloc: Global, attribute: &KeyValue) -> Result<Json, AllocError>
     ensures { IfOk result (λ v. view v ≡ spec.key_value (attribute_of attribute.now)) }
 {
     let value = any_value(alloc, &attribute.value)?;
-    let mut members = Map::new(alloc);
-    put(&mut members, alloc, "value", value)?;
-    put_text(&mut members, alloc, "key", attribute.key.as_str())?;
-    Ok(Json::from(members))
+    pair(alloc, attribute.key.as_str(), value)
 }
 
 /// Returns each of the attributes.

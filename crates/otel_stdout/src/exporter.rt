@@ -1,14 +1,12 @@
-//! An exporter that writes a line of JSON for each batch.
-ghost use Rattle.std.specs.Prelude.{◌≡◌, ◌<◌, ℕ, List, [], ◌∷◌, ◌++◌, true, false, length};
+//! An exporter that writes a line of JSON for each batch of spans.
+ghost use Rattle.std.specs.Prelude.{◌≡◌, ℕ, List, [], ◌∷◌, ◌++◌, true, false};
 ghost use Rattle.std.specs.Prelude.{IsTrue, IsOk, IfOk, OnOk, OnErr, IsErrOf, alloc_error};
 ghost use Rattle.std.specs.Rc.{rc_value};
 ghost use Rattle.otel_sdk_span.specs.Resource as resource;
-ghost use Rattle.otel_stdout.specs.Exporter.{Takes, IsLineOf, IsTorn, IsTornLineOf};
-ghost use Rattle.otel_stdout.specs.Json.{IsTextOf};
-ghost use Rattle.otel_stdout.specs.Traces.{traces_data};
+ghost use Rattle.otel_stdout.specs.Exporter.{Takes, IsLineOf, IsTornLineOf};
 
+use crate::lines::Lines;
 use crate::traces::traces_text;
-use crate::written::write_bytes;
 use otel_sdk_span::error::{OTelSdkError, OTelSdkResult};
 use otel_sdk_span::resource::Resource;
 use otel_sdk_span::{Accepted, Batch, SpanData, SpanExporter};
@@ -28,10 +26,9 @@ use std::rc::Rc;
 /// whether it owes the end of a line, and whether it was shut down.
 #[derive(Drop)]
 pub struct OtlpJsonSpanExporter<W> {
-    writer: W,
+    lines: Lines<W>,
     alloc: Global,
     resource: Rc<Resource>,
-    owes_line_end: bool,
     is_shut_down: bool,
     accepted: Accepted,
 }
@@ -44,9 +41,9 @@ impl<W> Model for OtlpJsonSpanExporter<W> {
 
     ghost view = { λ e. record {
       accepted = e.accepted.batches;
-      writer = e.writer;
+      writer = e.lines.writer;
       resource = rc_value e.resource;
-      owes_line_end = e.owes_line_end;
+      owes_line_end = e.lines.owes_line_end;
       is_shut_down = e.is_shut_down;
     } };
 }
@@ -70,10 +67,12 @@ impl<W: Write> OtlpJsonSpanExporter<W> {
     {
         let resource = Resource::builder_empty(alloc).build();
         Ok(OtlpJsonSpanExporter {
-            writer,
+            lines: Lines {
+                writer,
+                owes_line_end: false,
+            },
             alloc,
             resource: Rc::new(alloc, resource)?,
-            owes_line_end: false,
             is_shut_down: false,
             accepted: Accepted::new(),
         })
@@ -83,87 +82,33 @@ impl<W: Write> OtlpJsonSpanExporter<W> {
     pub fn get_ref(&self) -> &W
         ensures { result.now ≡ self.now.writer }
     {
-        &self.writer
+        &self.lines.writer
     }
 
-    // Writes the missing line end, and returns whether none is missing any more.
-    fn pay(&mut self) -> bool
+    // Writes the line of the batch, if it has spans.
+    fn write_batch(&mut self, batch: &[SpanData]) -> OTelSdkResult
         ensures rest { self.new ≡ record self.old {
           writer = self.new.writer;
           owes_line_end = self.new.owes_line_end;
         } }
-        ensures paid { IsTrue result → self.new.owes_line_end ≡ false }
-        ensures takes { Takes (W.contents self.old.writer) (W.contents self.new.writer)
-            self.old.owes_line_end self.new.owes_line_end [] }
-    {
-        if self.owes_line_end && write_bytes(&mut self.writer, b"\n") == 1 {
-            self.owes_line_end = false;
-        }
-        !self.owes_line_end
-    }
-
-    // Writes the text, and returns whether the writer took all of it. Owes the line end from its
-    // first byte on.
-    fn write_object(&mut self, text: &str) -> bool
-        requires { self.old.owes_line_end ≡ false }
-        ensures rest { self.new ≡ record self.old {
-          writer = self.new.writer;
-          owes_line_end = self.new.owes_line_end;
-        } }
-        ensures whole { IsTrue result → Takes (W.contents self.old.writer)
-            (W.contents self.new.writer) false self.new.owes_line_end (text.now ++ 10 ∷ []) }
-        ensures torn { result ≡ false → (torn : List ℕ) × IsTorn text.now torn
-            × Takes (W.contents self.old.writer) (W.contents self.new.writer) false
-            self.new.owes_line_end torn }
-    {
-        let count = write_bytes(&mut self.writer, text.as_bytes());
-        self.owes_line_end = count > 0;
-        self.owes_line_end && count == text.len()
-    }
-
-    // Writes the line of the batch, which has at least one span.
-    fn write_line(&mut self, batch: &[SpanData]) -> OTelSdkResult
-        ensures rest { self.new ≡ record self.old {
-          writer = self.new.writer;
-          owes_line_end = self.new.owes_line_end;
-        } }
-        ensures ok { OnOk result ((text : List ℕ)
-            × IsTextOf text (traces_data self.old.resource batch.now)
+        ensures line { OnOk result ((line : List ℕ)
+            × IsLineOf self.old.resource batch.now line
             × Takes (W.contents self.old.writer) (W.contents self.new.writer)
-            self.old.owes_line_end self.new.owes_line_end (text ++ 10 ∷ [])) }
-        ensures err { OnErr result ((torn : List ℕ)
+            self.old.owes_line_end self.new.owes_line_end line) }
+        ensures torn { OnErr result ((torn : List ℕ)
             × IsTornLineOf self.old.resource batch.now torn
             × Takes (W.contents self.old.writer) (W.contents self.new.writer)
             self.old.owes_line_end self.new.owes_line_end torn) }
         ensures memory { IsErrOf result (OTelSdkError.Memory alloc_error)
             → self.new ≡ self.old }
         ensures open { IsErrOf result OTelSdkError.AlreadyShutdown → ⊥ }
+        ensures empty { batch.now ≡ [] → IsOk result }
     {
-        let text = traces_text(self.alloc, &self.resource, batch)?;
-        let message = String::from_str(self.alloc, "the writer didn't take the line")?;
-        if !self.pay() || !self.write_object(text.as_str()) {
-            return Err(OTelSdkError::InternalFailure(message));
-        }
-        self.pay();
-        Ok(())
-    }
-
-    // Pays the line end that is owed, and flushes the writer.
-    fn settle(&mut self) -> OTelSdkResult
-        ensures rest { self.new ≡ record self.old {
-          writer = self.new.writer;
-          owes_line_end = self.new.owes_line_end;
-        } }
-        ensures paid { OnOk result (self.new.owes_line_end ≡ false) }
-        ensures takes { Takes (W.contents self.old.writer) (W.contents self.new.writer)
-            self.old.owes_line_end self.new.owes_line_end [] }
-        ensures open { IsErrOf result OTelSdkError.AlreadyShutdown → ⊥ }
-    {
-        if self.pay() && self.writer.flush().is_ok() {
+        if batch.is_empty() {
             return Ok(());
         }
-        let message = String::from_str(self.alloc, "the writer failed")?;
-        Err(OTelSdkError::InternalFailure(message))
+        let text = traces_text(self.alloc, &self.resource, batch)?;
+        self.lines.write_line(self.alloc, text.as_str())
     }
 }
 
@@ -213,9 +158,7 @@ impl<W: Write + Drop> SpanExporter for OtlpJsonSpanExporter<W> {
         if self.is_shut_down {
             return Err(OTelSdkError::AlreadyShutdown);
         }
-        if !batch.is_empty() {
-            self.write_line(batch)?;
-        }
+        self.write_batch(batch)?;
         self.accepted = self.accepted.and(&Batch { spans: batch });
         Ok(())
     }
@@ -244,7 +187,7 @@ impl<W: Write + Drop> SpanExporter for OtlpJsonSpanExporter<W> {
         if self.is_shut_down {
             return Err(OTelSdkError::AlreadyShutdown);
         }
-        self.settle()
+        self.lines.settle(self.alloc)
     }
 
     /// Writes the missing line end, flushes the writer, and refuses every later call.
@@ -272,7 +215,7 @@ impl<W: Write + Drop> SpanExporter for OtlpJsonSpanExporter<W> {
             return Err(OTelSdkError::AlreadyShutdown);
         }
         self.is_shut_down = true;
-        self.settle()
+        self.lines.settle(self.alloc)
     }
 
     /// Writes this resource with the batches to come.

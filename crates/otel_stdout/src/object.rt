@@ -6,7 +6,8 @@ ghost use Rattle.serde_json.specs.Data.{string, number, unsigned, object, array}
 ghost use Rattle.serde_json.specs.View.{view, items_of, members_view};
 ghost use Rattle.otel_stdout.specs.Json.{text_member, number_member, decimal_member, list_member};
 ghost use Rattle.otel_stdout.specs.Json.{text_unless_empty, number_unless_zero, text_if_given};
-ghost use Rattle.otel_stdout.specs.Json.{list_unless_empty, trace_id_text, span_id_text};
+ghost use Rattle.otel_stdout.specs.Json.{number_if_given, decimal_if_given};
+ghost use Rattle.otel_stdout.specs.Json.{list_unless_empty, trace_id_text, span_id_text, IsTextOf};
 ghost use Rattle.otel_stdout.specs.View.{Adds};
 
 use itoa::Buffer;
@@ -113,6 +114,36 @@ pub(crate) fn put_text_if_given(
     }
 }
 
+/// Puts a number of at most 32 bits, if it is given.
+pub(crate) fn put_number_if_given(
+    members: &mut Members,
+    alloc: Global,
+    name: &str,
+    number: Option<u32>,
+) -> Result<(), AllocError>
+    ensures { Adds result members.old members.new (number_if_given name.now number) }
+{
+    match number {
+        Some(number) => put_number(members, alloc, name, number),
+        None => Ok(()),
+    }
+}
+
+/// Puts a number of 64 bits, if it is given.
+pub(crate) fn put_decimal_if_given(
+    members: &mut Members,
+    alloc: Global,
+    name: &str,
+    number: Option<u64>,
+) -> Result<(), AllocError>
+    ensures { Adds result members.old members.new (decimal_if_given name.now number) }
+{
+    match number {
+        Some(number) => put_decimal(members, alloc, name, number),
+        None => Ok(()),
+    }
+}
+
 /// Puts a list, unless it is empty.
 pub(crate) fn put_list_unless_empty(
     members: &mut Members,
@@ -153,4 +184,11 @@ pub(crate) fn put_span_id(
 {
     let text = hex::encode(alloc, id.to_bytes())?;
     put_text(members, alloc, name, text.as_str())
+}
+
+/// Returns the text of the value.
+pub(crate) fn to_text(alloc: Global, value: &Value) -> Result<String, AllocError>
+    ensures { IfOk result (λ s. IsTextOf (string_bytes s) (view value.now)) }
+{
+    value.to_string(alloc)
 }

@@ -1,17 +1,16 @@
 //! The messages of traces.
-ghost use Rattle.std.specs.Prelude.{◌≡◌, [], ◌++◌, IfOk, OnOk, map, filter};
-ghost use Rattle.std.specs.Prelude.{string_bytes};
-ghost use Rattle.std.specs.List.{list_any};
+ghost use Rattle.std.specs.Prelude.{◌≡◌, IfOk, map, string_bytes};
 ghost use Rattle.serde_json.specs.View.{view};
 ghost use Rattle.opentelemetry.specs.View.{event_of, link_of};
 ghost use Rattle.otel_stdout.specs.Traces as spec;
 ghost use Rattle.otel_stdout.specs.Json.{IsTextOf};
 ghost use Rattle.otel_stdout.specs.View.{Adds};
 
-use crate::common::{instrumentation_scope, put_attributes, resource};
+use crate::common::put_attributes;
+use crate::groups::{Grouped, groups, list_of_one, resource_group};
 use crate::object::{
-    Members, put_decimal, put_list, put_list_unless_empty, put_number, put_number_unless_zero,
-    put_span_id, put_text, put_text_if_given, put_text_unless_empty, put_trace_id,
+    Members, put_decimal, put_list_unless_empty, put_number, put_number_unless_zero, put_span_id,
+    put_text, put_text_unless_empty, put_trace_id, to_text,
 };
 use opentelemetry::InstrumentationScope;
 use opentelemetry::trace::{Event, Link, SpanContext, SpanId, SpanKind, Status};
@@ -251,97 +250,20 @@ fn span(alloc: Global, span: &SpanData) -> Result<Value, AllocError>
     Ok(Value::from(members))
 }
 
-/// Returns whether the span is of the scope.
-fn is_of(scope: &InstrumentationScope, span: &SpanData) -> bool
-    ensures { result ≡ spec.is_of scope.now span.now }
-{
-    *span.instrumentation_scope == *scope
-}
+impl Grouped for SpanData {
+    ghost use Rattle.otel_stdout.specs.Traces as spec;
 
-/// Returns the spans of the scope, in order.
-fn spans_of(
-    alloc: Global,
-    batch: &[SpanData],
-    scope: &InstrumentationScope,
-) -> Result<Vec<Value>, AllocError>
-    ensures { IfOk result (λ v.
-        map view v.items ≡ map spec.span (filter (spec.is_of scope.now) batch.now)) }
-{
-    let mut values = Vec::new(alloc);
-    for item in batch {
-        if is_of(scope, item) {
-            values.push(span(alloc, item)?)?;
-        }
+    ghost scope_of = { spec.scope_of };
+
+    ghost value_of = { spec.span };
+
+    fn scope(&self) -> &InstrumentationScope {
+        &self.instrumentation_scope
     }
-    Ok(values)
-}
 
-/// Returns the spans of the scope, with the scope (the protocol's `ScopeSpans`).
-fn scope_spans(
-    alloc: Global,
-    batch: &[SpanData],
-    scope: &InstrumentationScope,
-) -> Result<Value, AllocError>
-    ensures { IfOk result (λ v. view v ≡ spec.scope_spans batch.now scope.now) }
-{
-    let mut members = Map::new(alloc);
-    let of = instrumentation_scope(alloc, scope)?;
-    put(&mut members, alloc, "scope", of)?;
-    let spans = spans_of(alloc, batch, scope)?;
-    put_list(&mut members, alloc, "spans", spans)?;
-    put_text_if_given(&mut members, alloc, "schemaUrl", scope.schema_url())?;
-    Ok(Value::from(members))
-}
-
-/// Returns whether one of the spans is of the scope.
-fn appears(scope: &InstrumentationScope, spans: &[SpanData]) -> bool
-    ensures { result ≡ list_any (spec.is_of scope.now) spans.now }
-{
-    spans.iter().any(|span| is_of(scope, span))
-}
-
-/// Adds the spans of this span's scope, unless a span before it is of that scope.
-fn add_group(
-    values: &mut Vec<Value>,
-    alloc: Global,
-    batch: &[SpanData],
-    before: &[SpanData],
-    span: &SpanData,
-) -> Result<(), AllocError>
-    ensures { OnOk result (map view values.new.items ≡ map view values.old.items
-        ++ map (spec.scope_spans batch.now) (spec.new_scope before.now span.now)) }
-{
-    if appears(&span.instrumentation_scope, before) {
-        return Ok(());
+    fn value(&self, alloc: Global) -> Result<Value, AllocError> {
+        span(alloc, self)
     }
-    let group = scope_spans(alloc, batch, &span.instrumentation_scope)?;
-    values.push(group)?;
-    Ok(())
-}
-
-/// Returns the spans of each scope, the scopes in the order in which they first appear.
-fn groups(alloc: Global, batch: &[SpanData]) -> Result<Vec<Value>, AllocError>
-    ensures { IfOk result (λ v. map view v.items
-        ≡ map (spec.scope_spans batch.now) (spec.first_scopes [] batch.now)) }
-{
-    let mut values = Vec::new(alloc);
-    for (place, item) in batch.iter().enumerate() {
-        add_group(&mut values, alloc, batch, &batch[..place], item)?;
-    }
-    Ok(values)
-}
-
-/// Returns the spans of the resource (the protocol's `ResourceSpans`).
-fn resource_spans(alloc: Global, of: &Resource, batch: &[SpanData]) -> Result<Value, AllocError>
-    ensures { IfOk result (λ v. view v ≡ spec.resource_spans of.now batch.now) }
-{
-    let mut members = Map::new(alloc);
-    let value = resource(alloc, of)?;
-    put(&mut members, alloc, "resource", value)?;
-    let groups = groups(alloc, batch)?;
-    put_list(&mut members, alloc, "scopeSpans", groups)?;
-    put_text_if_given(&mut members, alloc, "schemaUrl", of.schema_url())?;
-    Ok(Value::from(members))
 }
 
 /// Returns a batch of spans of one resource (the protocol's `TracesData`).
@@ -358,12 +280,9 @@ pub fn traces_data(
 ) -> Result<Value, AllocError>
     ensures { IfOk result (λ v. view v ≡ spec.traces_data resource.now batch.now) }
 {
-    let value = resource_spans(alloc, resource, batch)?;
-    let mut members = Map::new(alloc);
-    let mut list = Vec::new(alloc);
-    list.push(value)?;
-    put_list(&mut members, alloc, "resourceSpans", list)?;
-    Ok(Value::from(members))
+    let groups = groups(alloc, "spans", batch)?;
+    let value = resource_group(alloc, resource, "scopeSpans", groups)?;
+    list_of_one(alloc, "resourceSpans", value)
 }
 
 /// Returns a batch of spans of one resource as one JSON object, without a line break (the
@@ -382,11 +301,4 @@ pub fn traces_text(
 {
     let value = traces_data(alloc, resource, batch)?;
     to_text(alloc, &value)
-}
-
-// Returns the text of the value.
-fn to_text(alloc: Global, value: &Value) -> Result<String, AllocError>
-    ensures { IfOk result (λ s. IsTextOf (string_bytes s) (view value.now)) }
-{
-    value.to_string(alloc)
 }

@@ -1,6 +1,7 @@
 //! Resources, samplers, tracers, spans, and their way to an exporter.
 mod export;
 mod json;
+mod json_logs;
 mod live;
 mod loggers;
 mod logs;
@@ -32,6 +33,7 @@ pub fn play<R: Print>(rt: HostRuntime, lines: &Lines<'_, R>) {
     spans::play(alloc, lines);
     export::play(alloc, lines);
     json::play(alloc, lines);
+    json_logs::play(alloc, lines);
     live::play(rt, lines);
     logs::play(alloc, lines);
     loggers::play(rt, lines);

@@ -12,10 +12,10 @@ use std::test::Fail;
 
 /// A writer that takes so many bytes, then fails so many times, then takes all.
 #[derive(Drop)]
-struct Scripted {
-    taken: Vec<u8>,
-    room: usize,
-    failures: usize,
+pub struct Scripted {
+    pub taken: Vec<u8>,
+    pub room: usize,
+    pub failures: usize,
 }
 
 impl Write for Scripted {

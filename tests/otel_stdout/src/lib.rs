@@ -7,3 +7,6 @@ mod batches;
 mod failures;
 mod files;
 mod lines;
+mod log_files;
+mod log_lines;
+mod records;

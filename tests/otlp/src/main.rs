@@ -1,5 +1,7 @@
-//! Lines of JSON for spans of odd values, drawn by the numbers of `Draws`.
+//! Lines of JSON for spans and then for log records of odd values, drawn by the numbers of `Draws`.
 #![tactic(auto)]
+
+mod logs;
 
 use opentelemetry::trace::{
     Event, Link, SpanContext, SpanId, SpanKind, Status, TraceFlags, TraceId, TraceState,
@@ -12,10 +14,10 @@ use std::alloc::{AllocError, Global};
 use std::io::{self, ErrorKind, Write};
 use std::rc::Rc;
 
-// The batches of up to three spans.
+// The batches of up to three spans or log records.
 const BATCHES: u64 = 1000;
 
-// The spans of the batch after them.
+// The spans or log records of the batch after them.
 const MANY: u64 = 10_000;
 
 const TEXTS: [&'static str; 8] = [
@@ -104,6 +106,15 @@ impl Draws {
             items.push(KeyValue::new(key, self.value(alloc)?))?;
         }
         Ok(items)
+    }
+
+    fn resource(&mut self, alloc: Global) -> Result<Resource, AllocError> {
+        let key = Key::from(self.text());
+        Ok(
+            Resource::builder_empty(alloc)
+                .with_attribute(KeyValue::new(key, self.value(alloc)?))?
+                .build(),
+        )
     }
 
     fn span_context(&mut self, alloc: Global) -> Result<SpanContext, AllocError> {
@@ -211,11 +222,7 @@ fn export<W: Write + Drop>(
     exporter: &mut OtlpJsonSpanExporter<W>,
     count: u64,
 ) -> io::Result<()> {
-    let key = Key::from(draws.text());
-    let resource = Resource::builder_empty(alloc)
-        .with_attribute(KeyValue::new(key, draws.value(alloc)?))?
-        .build();
-    exporter.set_resource(Rc::new(alloc, resource)?);
+    exporter.set_resource(Rc::new(alloc, draws.resource(alloc)?)?);
     let mut batch = Vec::new(alloc);
     for _ in 0..count {
         batch.push(draws.span(alloc)?)?;
@@ -234,5 +241,6 @@ fn main(rt: HostRuntime) -> io::Result<()> {
         let count = draws.below(3) + 1;
         export(alloc, &mut draws, &mut exporter, count)?;
     }
-    export(alloc, &mut draws, &mut exporter, MANY)
+    export(alloc, &mut draws, &mut exporter, MANY)?;
+    logs::write(alloc, &mut draws, rt.stdout())
 }

@@ -31,8 +31,15 @@ pub fn play<R: Print>(alloc: Global, lines: &Lines<'_, R>) {
 
 /// A writer that fails.
 #[derive(Drop)]
-struct Closed {
+pub struct Closed {
     error: ErrorKind,
+}
+
+/// A writer whose reader is gone.
+pub fn closed() -> Closed {
+    Closed {
+        error: ErrorKind::BrokenPipe,
+    }
 }
 
 impl Write for Closed {
@@ -49,7 +56,8 @@ fn attribute(value: Value) -> KeyValue {
     KeyValue::new(Key::from("k"), value)
 }
 
-fn resource(alloc: Global) -> Result<Resource, AllocError> {
+/// A resource with an attribute.
+pub fn resource(alloc: Global) -> Result<Resource, AllocError> {
     Ok(
         Resource::builder_empty(alloc)
             .with_attribute(attribute(Value::from("v")))?
@@ -91,11 +99,8 @@ fn export<R: Print>(alloc: Global, lines: &Lines<'_, R>) -> Result<(), AllocErro
 
 /// Calls whose writer fails: the text of the error takes memory.
 fn refusals<R: Print>(alloc: Global, lines: &Lines<'_, R>) -> Result<(), AllocError> {
-    let writer = Closed {
-        error: ErrorKind::BrokenPipe,
-    };
     let batch = [span(alloc)?];
-    let mut exporter = OtlpJsonSpanExporter::new(alloc, writer)?;
+    let mut exporter = OtlpJsonSpanExporter::new(alloc, closed())?;
     lines.answer_named("written", exporter.export(&batch));
     lines.answer_named("flushed", exporter.force_flush());
     lines.answer_named("shut down", exporter.shutdown());
