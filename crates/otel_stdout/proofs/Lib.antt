@@ -1,6 +1,7 @@
 pub mod Found
 pub mod Ids
 pub mod Members
+pub mod OneGroup
 pub mod OneSpan
 pub mod Scopes
 pub mod Takes

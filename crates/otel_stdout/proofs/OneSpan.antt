@@ -1,5 +1,5 @@
 -- What stands under each name in the value of a span.
-use Rattle.std.proofs.Common.{length, [], ◌∷◌, if◌then◌else◌, Option, true≢false, ◌≡◌, ℕ, ◌<◌, ◌==◌, List, ◌++◌, map, Some, None, Bool, true, false, refl, sym, ap, ◌∙◌, codes, decimal, arith}
+use Rattle.std.proofs.Common.{length, [], ◌∷◌, if◌then◌else◌, Option, true≢false, ◌≡◌, ℕ, ◌<◌, ◌^◌, ◌==◌, List, ◌++◌, map, Some, None, Bool, true, false, refl, sym, ap, ◌∙◌, codes, decimal, arith}
 use Rattle.std.proofs.lemmas.Fmt.{decimal_injective}
 use Rattle.std.proofs.lemmas.Grind.{common_steps}
 use Rattle.std.specs.Str.{bytes_eq}
@@ -178,6 +178,96 @@ same_flags a b false false h k e = (omega (arith, e), refl)
 same_flags a b true false h k e = absurd (omega (arith, e, h, k))
 same_flags a b false true h k e = absurd (omega (arith, e, h, k))
 
+zero_is : (n : ℕ) → (n == 0) ≡ true → n ≡ 0
+zero_is n e = grind (arith, common_steps)
+
+-- the id of a parent, which is left out if it is 0
+same_parent : (q : List ℕ) (a b : ℕ) (za zb : Bool) → bytes_eq q q ≡ true → (a == 0) ≡ za → (b == 0) ≡ zb → a < 2 ^ 64 → b < 2 ^ 64
+    → found q (if za then [] else text_member q (span_id_text a)) ≡ found q (if zb then [] else text_member q (span_id_text b)) → a ≡ b
+same_parent q a b true true r ea eb ha hb e = zero_is a ea ∙ sym (zero_is b eb)
+same_parent q a b true false r ea eb ha hb e = absurd (true≢false (sym (ap is_there (e ∙ ap (λ c. if_so c (string (span_id_text b))) r))))
+same_parent q a b false true r ea eb ha hb e = absurd (true≢false (ap is_there (sym (ap (λ c. if_so c (string (span_id_text a))) r) ∙ e)))
+same_parent q a b false false r ea eb ha hb e =
+    same_span_id a b ha hb (ap text_in (sym (ap (λ c. if_so c (string (span_id_text a))) r) ∙ e ∙ ap (λ c. if_so c (string (span_id_text b))) r))
+
+abbrev ids : SpanRecord → List Member
+ids s = text_member (codes "traceId") (trace_id_text s.span_context.trace_id) ++ text_member (codes "spanId") (span_id_text s.span_context.span_id)
+
+parent_of : (s : SpanRecord) → found (codes "parentSpanId") (members s) ≡ found (codes "parentSpanId") (parent_member s.parent_span_id)
+parent_of s =
+    let q = codes "parentSpanId" in
+    in_span q s (record { a = refl; e = refl; l = refl; da = refl; de = refl; dl = refl; st = refl })
+    ∙ found-before q (context_members s.span_context ++ parent_member s.parent_span_id) (flags_member s) refl
+    ∙ found-append q (context_members s.span_context) (parent_member s.parent_span_id)
+    ∙ ap (or_else (found q (parent_member s.parent_span_id)))
+    (found-before q (ids s) (text_unless_empty (codes "traceState") (header s.span_context.trace_state)) (no_text q (codes "traceState") (header s.span_context.trace_state) refl))
+    ∙ or_else-none (found q (parent_member s.parent_span_id))
+
+-- a number that is left out if it is 0
+number_again : (q : List ℕ) (k : ℕ) (b : Bool) → (k == 0) ≡ b → bytes_eq q q ≡ true → number_in (found q (if b then [] else number_member q k)) ≡ k
+number_again q k true e r = sym (zero_is k e)
+number_again q k false e r = ap (λ c. number_in (if_so c (number (unsigned k)))) r
+
+-- a name that only the counts may have
+record IsLoss (q : List ℕ) (s : SpanRecord) : Type 0 where
+  a : bytes_eq q (codes "attributes") ≡ false
+  e : bytes_eq q (codes "events") ≡ false
+  l : bytes_eq q (codes "links") ≡ false
+  st : bytes_eq q (codes "status") ≡ false
+  p : bytes_eq q (codes "parentSpanId") ≡ false
+  t : bytes_eq q (codes "traceState") ≡ false
+  four : found q (four s) ≡ None
+  flags : found q (flags_member s) ≡ None
+  ids : found q (ids s) ≡ None
+
+loss_of : (q : List ℕ) (s : SpanRecord) → IsLoss q s → found q (members s) ≡ found q (losses s)
+loss_of q s h =
+    found-append q (identity s ++ work s ++ records s) (losses s)
+    ∙ ap (or_else (found q (losses s)))
+    (found-before q (identity s ++ work s) (records s) (no_records q s h.a h.e h.l)
+    ∙ found-append q (identity s) (work s)
+    ∙ ap (λ o. or_else o (found q (identity s))) (found-before q (four s) (status_member s.status) (no_status q s.status h.st) ∙ h.four)
+    ∙ in_identity q s h.flags h.p h.t ∙ h.ids)
+    ∙ or_else-none (found q (losses s))
+
+abbrev lost_attributes : SpanRecord → List Member
+lost_attributes s = number_unless_zero (codes "droppedAttributesCount") s.dropped_attributes
+
+abbrev lost_events : SpanRecord → List Member
+lost_events s = number_unless_zero (codes "droppedEventsCount") s.dropped_events
+
+abbrev lost_links : SpanRecord → List Member
+lost_links s = number_unless_zero (codes "droppedLinksCount") s.dropped_links
+
+dropped_attributes_of : (s : SpanRecord) → number_in (found (codes "droppedAttributesCount") (members s)) ≡ s.dropped_attributes
+dropped_attributes_of s =
+    let q = codes "droppedAttributesCount" in
+    ap number_in (loss_of q s (record { a = refl; e = refl; l = refl; st = refl; p = refl; t = refl; four = refl; flags = refl; ids = refl })
+    ∙ found-before q (lost_attributes s ++ lost_events s) (lost_links s) (no_number q (codes "droppedLinksCount") s.dropped_links refl)
+    ∙ found-before q (lost_attributes s) (lost_events s) (no_number q (codes "droppedEventsCount") s.dropped_events refl))
+    ∙ number_again q s.dropped_attributes (s.dropped_attributes == 0) refl refl
+
+dropped_events_of : (s : SpanRecord) → number_in (found (codes "droppedEventsCount") (members s)) ≡ s.dropped_events
+dropped_events_of s =
+    let q = codes "droppedEventsCount" in
+    ap number_in (loss_of q s (record { a = refl; e = refl; l = refl; st = refl; p = refl; t = refl; four = refl; flags = refl; ids = refl })
+    ∙ found-before q (lost_attributes s ++ lost_events s) (lost_links s) (no_number q (codes "droppedLinksCount") s.dropped_links refl)
+    ∙ found-append q (lost_attributes s) (lost_events s)
+    ∙ ap (or_else (found q (lost_events s))) (no_number q (codes "droppedAttributesCount") s.dropped_attributes refl)
+    ∙ or_else-none (found q (lost_events s)))
+    ∙ number_again q s.dropped_events (s.dropped_events == 0) refl refl
+
+dropped_links_of : (s : SpanRecord) → number_in (found (codes "droppedLinksCount") (members s)) ≡ s.dropped_links
+dropped_links_of s =
+    let q = codes "droppedLinksCount" in
+    ap number_in (loss_of q s (record { a = refl; e = refl; l = refl; st = refl; p = refl; t = refl; four = refl; flags = refl; ids = refl })
+    ∙ found-append q (lost_attributes s ++ lost_events s) (lost_links s)
+    ∙ ap (or_else (found q (lost_links s)))
+    (found-before q (lost_attributes s) (lost_events s) (no_number q (codes "droppedEventsCount") s.dropped_events refl)
+    ∙ no_number q (codes "droppedAttributesCount") s.dropped_attributes refl)
+    ∙ or_else-none (found q (lost_links s)))
+    ∙ number_again q s.dropped_links (s.dropped_links == 0) refl refl
+
 pub equal_values_say_same : EqualValuesSaySame
 equal_values_say_same s t in_s in_t e =
     let same = λ (q : List ℕ). same_found q (members s) (members t) e in
@@ -185,6 +275,10 @@ equal_values_say_same s t in_s in_t e =
     record {
       trace_id = same_trace_id s.span_context.trace_id t.span_context.trace_id in_s.trace_id in_t.trace_id (ap text_in (sym (trace_id_of s) ∙ same (codes "traceId") ∙ trace_id_of t));
       span_id = same_span_id s.span_context.span_id t.span_context.span_id in_s.span_id in_t.span_id (ap text_in (sym (span_id_of s) ∙ same (codes "spanId") ∙ span_id_of t));
+      parent = same_parent (codes "parentSpanId") s.parent_span_id t.parent_span_id (s.parent_span_id == 0) (t.parent_span_id == 0) refl refl refl in_s.parent in_t.parent (sym (parent_of s) ∙ same (codes "parentSpanId") ∙ parent_of t);
+      dropped_attributes = sym (dropped_attributes_of s) ∙ ap number_in (same (codes "droppedAttributesCount")) ∙ dropped_attributes_of t;
+      dropped_events = sym (dropped_events_of s) ∙ ap number_in (same (codes "droppedEventsCount")) ∙ dropped_events_of t;
+      dropped_links = sym (dropped_links_of s) ∙ ap number_in (same (codes "droppedLinksCount")) ∙ dropped_links_of t;
       trace_state = sym (state_of s) ∙ ap text_in (same (codes "traceState")) ∙ state_of t;
       status = same_status s.status t.status (sym (status_of s) ∙ same (codes "status") ∙ status_of t);
       flags = flagged.0;

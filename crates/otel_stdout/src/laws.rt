@@ -1,8 +1,14 @@
 //! Laws of the definitions, each the contract of a function that does nothing.
-ghost use Rattle.otel_stdout.specs.Lossless.{EqualValuesSaySame};
+ghost use Rattle.otel_stdout.specs.Lossless.{EqualValuesSaySame, EqualGroupsNameSame};
 
-/// States that spans with equal values have the same ids, flags, kind, name, times and status, the
-/// same trace state in a header, and either both have a remote parent or neither.
+/// States that spans with equal values have the same ids, the parent's too, the same flags, kind,
+/// name, times and status, the same counts of what was dropped, the same trace state in a header,
+/// and either both have a remote parent or neither.
 pub fn equal_values_say_same()
     ensures { EqualValuesSaySame }
+{}
+
+/// States that groups of spans with equal values are of scopes with the same name and version.
+pub fn equal_groups_name_same()
+    ensures { EqualGroupsNameSame }
 {}
