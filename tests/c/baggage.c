@@ -16,7 +16,8 @@ static void reads(void) {
     LEAVES(OTEL_ABSENT, otel_baggage_get, &context, TEXT("k"));
     LEAVES(OTEL_ABSENT, otel_baggage_metadata, &context, TEXT("k"));
     /* A header of W3C baggage, "baggage", with a value that is escaped. */
-    extract(&context, "baggage", "key1=value1;property1;property2, serverNode=DF%2028, key3=value3; p=v");
+    extract(&context, "baggage",
+            "key1=value1;property1;property2, serverNode=DF%2028, key3=value3; p=v");
     CALL(OTEL_OK, otel_baggage_length(&context, &length));
     check(length == 3, "the length of three members");
     WRITES("key1", otel_baggage_key, &context, 0);

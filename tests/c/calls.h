@@ -1,6 +1,6 @@
-/* What the tests share. Each run is repeated with each of its requests for memory refused in turn, by
- * the number in `refused`: the call that makes it then returns OTEL_NO_MEMORY, what it was given is as
- * it was, and the run goes on from there. */
+/* What the tests share. Each run is repeated with each of its requests for memory refused in turn,
+ * by the number in `refused`: the call that makes it then returns OTEL_NO_MEMORY, what it was given
+ * is as it was, and the run goes on from there. */
 #include <stdio.h>
 #include <stdlib.h>
 #include <string.h>
@@ -31,7 +31,7 @@ static void check(int good, const char *what) {
         printf("%s: wrong (request %ld refused)\n", what, refused);
 }
 
-/* Whether the call is as wanted. One that had a request refused is made again, which then has it. */
+/* Whether the call is as wanted. One that had a request refused is made again. */
 #define CALL(wanted, call)                                                                         \
     do {                                                                                           \
         uint32_t status = call;                                                                    \

@@ -3,13 +3,13 @@
  * says what.
  *
  * Headers, contexts and stacks are held by handles. A handle begins as OTEL_NOTHING, calls put
- * objects into it, and otel_free frees what it holds, after which it is OTEL_NOTHING again. A handle
- * isn't copied but handed on: two copies of one would be freed twice.
+ * objects into it, and otel_free frees what it holds, after which it is OTEL_NOTHING again. A
+ * handle isn't copied but handed on: two copies of one would be freed twice.
  *
  * A text is a pointer and a length in bytes, with no NUL at its end. It is never null, even if its
- * length is 0: pass "". Each text of an answer is written to room that the caller gives, with no NUL
- * either. Reading a header cuts the blanks that end a value. Positions begin at 0, those of a stack
- * at 1.
+ * length is 0: pass "". Each text of an answer is written to room that the caller gives, with no
+ * NUL either. Reading a header cuts the blanks that end a value. Positions begin at 0, those of a
+ * stack at 1.
  *
  * The caller promises, at each call, that
  *   - each text points to as many readable bytes as its length says, at most PTRDIFF_MAX;
@@ -101,7 +101,8 @@ typedef struct otel_span_context {
 /* Writes what identifies the context's span: OTEL_NO_SPAN if it has none. */
 uint32_t otel_context_span(otel_handle *context, otel_span_context *span);
 
-/* Writes the header of the trace state of the context's span. 16447 bytes are always room enough. */
+/* Writes the header of the trace state of the context's span. 16447 bytes are always room
+ * enough. */
 uint32_t otel_context_trace_state(otel_handle *context, char *room, size_t room_length,
                                   size_t *written);
 
@@ -115,8 +116,8 @@ uint32_t otel_context_set_span(otel_handle *context, const otel_span_context *sp
 /* Writes the number of members. */
 uint32_t otel_baggage_length(otel_handle *context, size_t *length);
 
-/* Writes the key of the member at the position. For each text of a member 8192 bytes are always room
- * enough. */
+/* Writes the key of the member at the position. For each text of a member 8192 bytes are always
+ * room enough. */
 uint32_t otel_baggage_key(otel_handle *context, size_t position,
                           char *room, size_t room_length, size_t *written);
 

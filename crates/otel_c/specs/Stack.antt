@@ -1,8 +1,8 @@
 -- What the calls on stacks change.
 use Rattle.std.specs.Prelude.{◌≡◌, ◌⊎◌, ℕ, ◌+◌, Option, Some, IsSome}
 use Rattle.otel_context.specs.Context.{ContextRecord}
-use Rattle.otel_context.specs.Stack.{StackState, last_position, newest_position, current, context_at}
-use Rattle.otel_context.specs.Stack.{attach, detach}
+use Rattle.otel_context.specs.Stack.{StackState, last_position, newest_position, current}
+use Rattle.otel_context.specs.Stack.{context_at, attach, detach}
 use Rattle.otel_c.specs.declared.object.Object.{Object}
 use Rattle.otel_c.specs.declared.status.Status.{Status}
 use Rattle.otel_c.specs.declared.status.Status.TheVariants as status

@@ -33,7 +33,8 @@ abbrev pub key_at : List Pair → ℕ → Option (List ℕ)
 key_at pairs position = option_map (λ p. p.key) (slice_get pairs position)
 
 -- the room holds the key that the trace state has at the position
-pub record GetsKey (received : List ℕ) (position : ℕ) (old new : List ℕ) (written : ℕ) : Type 0 where
+pub record GetsKey (received : List ℕ) (position : ℕ) (old new : List ℕ) (written : ℕ)
+    : Type 0 where
   pub pairs : List Pair
   pub reads : Reads received pairs
   pub found : HoldsFound (key_at pairs position) old new written

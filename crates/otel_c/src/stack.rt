@@ -44,7 +44,8 @@ fn push(stack: &mut ContextStack, context: Context, position: &mut u16) -> Resul
 }
 
 fn push_in(object: &mut Object, context: Context, position: &mut u16) -> Result<(), Status>
-    ensures attached { OnOk result (Pushes context (Some object.old) (Some object.new) position.new) }
+    ensures attached { OnOk result (Pushes context
+        (Some object.old) (Some object.new) position.new) }
     ensures kept { OnErr result (position.new ≡ position.old) }
     ensures unchanged { OnErr result (object.new ≡ object.old) }
     ensures refused { IfErr result (PushRefused (Some object.old)) }
