@@ -1,4 +1,4 @@
-/* What the tests share. Each run is repeated with each of its requests for memory refused in turn,
+/* What the tests share. Each run is repeated with each of its allocations refused in turn,
  * by the number in `refused`: the call that makes it then returns OTEL_NO_MEMORY, what it was given
  * is as it was, and the run goes on from there. */
 #include <stdio.h>
