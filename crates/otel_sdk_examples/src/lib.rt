@@ -2,6 +2,7 @@
 //! proved from public contracts.
 #![tactic(auto)]
 
+pub mod emitted;
 pub mod log_line;
 pub mod request;
 pub mod traced;

@@ -3,6 +3,7 @@
 
 // Depends on: otel_recording
 
+mod emitted;
 mod log_line;
 mod request;
 mod traced;
