@@ -1,5 +1,6 @@
 //! What the service sends on, for headers good and bad. A header that can't be read is no failure: the
 //! service starts a trace of its own (W3C trace-context-2, section 4.3), or keeps what it can read.
+// Depends on: serde_json
 use crate::clock::CountedClock;
 use crate::failure::Failure;
 use crate::headers::parse;
@@ -14,7 +15,7 @@ use otel_appender_log::OpenTelemetryLogBridge;
 use otel_propagators::{BaggagePropagator, TraceContextPropagator};
 use otel_sdk::trace::{
     BatchConfigBuilder, BatchSpanProcessor, CountedIdGenerator, InMemorySpanExporter,
-    SdkTracerProvider, SpanData,
+    SdkTracerProvider, SpanData, SpanExporter,
 };
 use std::alloc::{AllocError, Global};
 use std::collections::HashMap;
@@ -23,11 +24,15 @@ use std::random::RandomSource;
 use std::test::Fail;
 use std::time::Clock;
 
-/// What is served: the headers of one request, or lines of bytes.
+mod full_disk;
+
+/// What is served: the headers of one request, lines of bytes, or lines of one request after the
+/// other, also after one whose spans can't be exported.
 #[derive(Clone, Copy)]
 enum Given<'a> {
     Headers(&'a HashMap<String, String>),
     Lines(&'a [u8]),
+    Each(&'a [&'a [u8]]),
 }
 
 /// What is written and logged, and the spans that are exported.
@@ -39,12 +44,15 @@ struct Outcome {
     spans: Vec<SpanData>,
 }
 
-/// Serves what is given with counted ids and a counted clock.
-fn served<R: RandomSource + Clock + Copy + Drop>(
+/// Serves what is given with counted ids and a counted clock. Returns what is logged.
+fn serve_by<R: RandomSource + Clock + Copy + Drop, X: SpanExporter>(
     rt: R,
     alloc: Global,
     given: Given<'_>,
-) -> Result<Outcome, Failure> {
+    processor: &mut BatchSpanProcessor<X>,
+    lines: &mut Vec<u8>,
+    errors: &mut Vec<u8>,
+) -> Result<Vec<u8>, Failure> {
     let clock = CountedClock::new(alloc)?;
     let provider = SdkTracerProvider::builder(rt)
         .with_id_generator(CountedIdGenerator::new())
@@ -64,22 +72,35 @@ fn served<R: RandomSource + Clock + Copy + Drop>(
         propagator: &propagator,
         log: OpenTelemetryLogBridge::new(alloc, logger),
     };
-    let exporter = InMemorySpanExporter::new(alloc);
-    let mut processor = BatchSpanProcessor::new(
-        alloc,
-        exporter,
-        BatchConfigBuilder::default().build(),
-    );
-    let mut lines = Vec::new(alloc);
-    let mut errors = Vec::new(alloc);
     match given {
         Given::Headers(received) => service
-            .serve(received, &mut processor)?
-            .write(alloc, &mut lines, &mut errors)?,
-        Given::Lines(bytes) => serve_all(&service, &mut processor, bytes, &mut lines, &mut errors)?,
+            .serve(received, processor)?
+            .write(alloc, lines, errors)?,
+        Given::Lines(bytes) => serve_all(&service, processor, bytes, lines, errors)?,
+        Given::Each(requests) => {
+            for bytes in requests {
+                // What isn't exported stays queued.
+                drop(serve_all(&service, processor, bytes, lines, errors));
+            }
+        }
     }
     let mut logged = Vec::new(alloc);
     log_lines::write(&logs, &mut logged)?;
+    Ok(logged)
+}
+
+/// Serves what is given, and hands the spans to an exporter that keeps them.
+fn served<R: RandomSource + Clock + Copy + Drop>(
+    rt: R,
+    alloc: Global,
+    given: Given<'_>,
+) -> Result<Outcome, Failure> {
+    let exporter = InMemorySpanExporter::new(alloc);
+    let config = BatchConfigBuilder::default().build();
+    let mut processor = BatchSpanProcessor::new(alloc, exporter, config);
+    let mut lines = Vec::new(alloc);
+    let mut errors = Vec::new(alloc);
+    let logged = serve_by(rt, alloc, given, &mut processor, &mut lines, &mut errors)?;
     Ok(Outcome {
         lines: String::from_str(alloc, str::from_utf8(&lines).unwrap_or(""))?,
         errors: String::from_str(alloc, str::from_utf8(&errors).unwrap_or(""))?,
