@@ -1,7 +1,11 @@
 pub mod Found
 pub mod Ids
+pub mod LeftOut
+pub mod Lists
 pub mod Members
+pub mod OneAttribute
 pub mod OneGroup
+pub mod OneRecord
 pub mod OneSpan
 pub mod Scopes
 pub mod Takes

@@ -1,7 +1,6 @@
 -- What stands under each name in the value of a span.
-use Rattle.std.proofs.Common.{length, [], ◌∷◌, if◌then◌else◌, Option, true≢false, ◌≡◌, ℕ, ◌<◌, ◌^◌, ◌==◌, List, ◌++◌, map, Some, None, Bool, true, false, refl, sym, ap, ◌∙◌, codes, decimal, arith}
+use Rattle.std.proofs.Common.{length, [], if◌then◌else◌, Option, true≢false, ◌≡◌, ℕ, ◌<◌, ◌^◌, ◌==◌, List, ◌++◌, map, Some, None, Bool, true, false, refl, sym, ap, ◌∙◌, codes, decimal, arith}
 use Rattle.std.proofs.lemmas.Fmt.{decimal_injective}
-use Rattle.std.proofs.lemmas.Grind.{common_steps}
 use Rattle.std.specs.Str.{bytes_eq}
 use Rattle.otel_context.specs.declared.span.status.SpanKind.{SpanKind}
 use Rattle.otel_context.specs.declared.span.status.SpanKind.TheVariants as kind
@@ -15,12 +14,11 @@ use Rattle.otel_stdout.specs.Json.{Member, text_member, number_member, decimal_m
 use Rattle.otel_stdout.specs.Lossless.{EqualValuesSaySame}
 use Rattle.otel_stdout.specs.Traces.{event, link, flags, context_members, success, failure, status_member, kind_number, parent_member, identity, work, events_member, links_member, records, losses}
 use Rattle.otel_stdout.proofs.Ids.{same_trace_id, same_span_id}
+use Rattle.otel_stdout.proofs.LeftOut.{text_again, zero_is, number_again, same_flags}
+use Rattle.otel_stdout.proofs.Lists.{items_in, unless_empty_again}
+use Rattle.otel_stdout.proofs.OneAttribute.{same_attributes}
+use Rattle.otel_stdout.proofs.OneRecord.{same_events, same_links}
 use Rattle.otel_stdout.proofs.Found.{or_else, or_else-none, if_so, found, same_found, found-append, found-before, if_none, no_list, no_number, no_text, text_in, number_in}
-
--- a list without items
-empty_is : (t : List ℕ) → (length t == 0) ≡ true → t ≡ []
-empty_is [] e = refl
-empty_is (x ∷ t) e = absurd (grind (arith, common_steps))
 
 abbrev members : SpanRecord → List Member
 members s = identity s ++ work s ++ records s ++ losses s
@@ -99,11 +97,6 @@ trace_id_of s = in_span (codes "traceId") s (record { a = refl; e = refl; l = re
 span_id_of : (s : SpanRecord) → found (codes "spanId") (members s) ≡ Some (string (span_id_text s.span_context.span_id))
 span_id_of s = in_span (codes "spanId") s (record { a = refl; e = refl; l = refl; da = refl; de = refl; dl = refl; st = refl }) ∙ in_identity (codes "spanId") s refl refl refl
 
--- a text that is left out if it is empty
-text_again : (q t : List ℕ) (b : Bool) → (length t == 0) ≡ b → bytes_eq q q ≡ true → text_in (found q (if b then [] else text_member q t)) ≡ t
-text_again q t true e r = sym (empty_is t e)
-text_again q t false e r = ap (λ c. text_in (if_so c (string t))) r
-
 state_of : (s : SpanRecord) → text_in (found (codes "traceState") (members s)) ≡ header s.span_context.trace_state
 state_of s =
     let q = codes "traceState" in
@@ -172,15 +165,6 @@ kind_again kind.Client = refl
 kind_again kind.Producer = refl
 kind_again kind.Consumer = refl
 
-same_flags : (a b : ℕ) (r q : Bool) → a < 256 → b < 256 → flags a r ≡ flags b q → (a ≡ b) × (r ≡ q)
-same_flags a b true true h k e = (omega (arith, e), refl)
-same_flags a b false false h k e = (omega (arith, e), refl)
-same_flags a b true false h k e = absurd (omega (arith, e, h, k))
-same_flags a b false true h k e = absurd (omega (arith, e, h, k))
-
-zero_is : (n : ℕ) → (n == 0) ≡ true → n ≡ 0
-zero_is n e = grind (arith, common_steps)
-
 -- the id of a parent, which is left out if it is 0
 same_parent : (q : List ℕ) (a b : ℕ) (za zb : Bool) → bytes_eq q q ≡ true → (a == 0) ≡ za → (b == 0) ≡ zb → a < 2 ^ 64 → b < 2 ^ 64
     → found q (if za then [] else text_member q (span_id_text a)) ≡ found q (if zb then [] else text_member q (span_id_text b)) → a ≡ b
@@ -203,16 +187,8 @@ parent_of s =
     (found-before q (ids s) (text_unless_empty (codes "traceState") (header s.span_context.trace_state)) (no_text q (codes "traceState") (header s.span_context.trace_state) refl))
     ∙ or_else-none (found q (parent_member s.parent_span_id))
 
--- a number that is left out if it is 0
-number_again : (q : List ℕ) (k : ℕ) (b : Bool) → (k == 0) ≡ b → bytes_eq q q ≡ true → number_in (found q (if b then [] else number_member q k)) ≡ k
-number_again q k true e r = sym (zero_is k e)
-number_again q k false e r = ap (λ c. number_in (if_so c (number (unsigned k)))) r
-
--- a name that only the counts may have
-record IsLoss (q : List ℕ) (s : SpanRecord) : Type 0 where
-  a : bytes_eq q (codes "attributes") ≡ false
-  e : bytes_eq q (codes "events") ≡ false
-  l : bytes_eq q (codes "links") ≡ false
+-- a name that no member before the records has
+record IsBehind (q : List ℕ) (s : SpanRecord) : Type 0 where
   st : bytes_eq q (codes "status") ≡ false
   p : bytes_eq q (codes "parentSpanId") ≡ false
   t : bytes_eq q (codes "traceState") ≡ false
@@ -220,15 +196,54 @@ record IsLoss (q : List ℕ) (s : SpanRecord) : Type 0 where
   flags : found q (flags_member s) ≡ None
   ids : found q (ids s) ≡ None
 
-loss_of : (q : List ℕ) (s : SpanRecord) → IsLoss q s → found q (members s) ≡ found q (losses s)
-loss_of q s h =
-    found-append q (identity s ++ work s ++ records s) (losses s)
-    ∙ ap (or_else (found q (losses s)))
-    (found-before q (identity s ++ work s) (records s) (no_records q s h.a h.e h.l)
-    ∙ found-append q (identity s) (work s)
+no_start : (q : List ℕ) (s : SpanRecord) → IsBehind q s → found q (identity s ++ work s) ≡ None
+no_start q s h =
+    found-append q (identity s) (work s)
     ∙ ap (λ o. or_else o (found q (identity s))) (found-before q (four s) (status_member s.status) (no_status q s.status h.st) ∙ h.four)
-    ∙ in_identity q s h.flags h.p h.t ∙ h.ids)
+    ∙ in_identity q s h.flags h.p h.t ∙ h.ids
+
+loss_of : (q : List ℕ) (s : SpanRecord) → IsBehind q s → bytes_eq q (codes "attributes") ≡ false → bytes_eq q (codes "events") ≡ false → bytes_eq q (codes "links") ≡ false
+    → found q (members s) ≡ found q (losses s)
+loss_of q s h a e l =
+    found-append q (identity s ++ work s ++ records s) (losses s)
+    ∙ ap (or_else (found q (losses s))) (found-before q (identity s ++ work s) (records s) (no_records q s a e l) ∙ no_start q s h)
     ∙ or_else-none (found q (losses s))
+
+record_of : (q : List ℕ) (s : SpanRecord) → IsBehind q s → found q (losses s) ≡ None → found q (members s) ≡ found q (records s)
+record_of q s h l =
+    found-before q (identity s ++ work s ++ records s) (losses s) l
+    ∙ found-append q (identity s ++ work s) (records s)
+    ∙ ap (or_else (found q (records s))) (no_start q s h)
+    ∙ or_else-none (found q (records s))
+
+attributes_of : (s : SpanRecord) → items_in (found (codes "attributes") (members s)) ≡ map key_value s.attributes
+attributes_of s =
+    let q = codes "attributes" in
+    ap items_in (record_of q s (record { st = refl; p = refl; t = refl; four = refl; flags = refl; ids = refl }) (no_losses q s refl refl refl)
+    ∙ found-before q (attributes_member s.attributes ++ events_member s.events) (links_member s.links) (no_list q (codes "links") (map link s.links) refl)
+    ∙ found-before q (attributes_member s.attributes) (events_member s.events) (no_list q (codes "events") (map event s.events) refl))
+    ∙ unless_empty_again q (map key_value s.attributes) refl
+
+events_of : (s : SpanRecord) → items_in (found (codes "events") (members s)) ≡ map event s.events
+events_of s =
+    let q = codes "events" in
+    ap items_in (record_of q s (record { st = refl; p = refl; t = refl; four = refl; flags = refl; ids = refl }) (no_losses q s refl refl refl)
+    ∙ found-before q (attributes_member s.attributes ++ events_member s.events) (links_member s.links) (no_list q (codes "links") (map link s.links) refl)
+    ∙ found-append q (attributes_member s.attributes) (events_member s.events)
+    ∙ ap (or_else (found q (events_member s.events))) (no_list q (codes "attributes") (map key_value s.attributes) refl)
+    ∙ or_else-none (found q (events_member s.events)))
+    ∙ unless_empty_again q (map event s.events) refl
+
+links_of : (s : SpanRecord) → items_in (found (codes "links") (members s)) ≡ map link s.links
+links_of s =
+    let q = codes "links" in
+    ap items_in (record_of q s (record { st = refl; p = refl; t = refl; four = refl; flags = refl; ids = refl }) (no_losses q s refl refl refl)
+    ∙ found-append q (attributes_member s.attributes ++ events_member s.events) (links_member s.links)
+    ∙ ap (or_else (found q (links_member s.links)))
+    (found-before q (attributes_member s.attributes) (events_member s.events) (no_list q (codes "events") (map event s.events) refl)
+    ∙ no_list q (codes "attributes") (map key_value s.attributes) refl)
+    ∙ or_else-none (found q (links_member s.links)))
+    ∙ unless_empty_again q (map link s.links) refl
 
 abbrev lost_attributes : SpanRecord → List Member
 lost_attributes s = number_unless_zero (codes "droppedAttributesCount") s.dropped_attributes
@@ -242,7 +257,7 @@ lost_links s = number_unless_zero (codes "droppedLinksCount") s.dropped_links
 dropped_attributes_of : (s : SpanRecord) → number_in (found (codes "droppedAttributesCount") (members s)) ≡ s.dropped_attributes
 dropped_attributes_of s =
     let q = codes "droppedAttributesCount" in
-    ap number_in (loss_of q s (record { a = refl; e = refl; l = refl; st = refl; p = refl; t = refl; four = refl; flags = refl; ids = refl })
+    ap number_in (loss_of q s (record { st = refl; p = refl; t = refl; four = refl; flags = refl; ids = refl }) refl refl refl
     ∙ found-before q (lost_attributes s ++ lost_events s) (lost_links s) (no_number q (codes "droppedLinksCount") s.dropped_links refl)
     ∙ found-before q (lost_attributes s) (lost_events s) (no_number q (codes "droppedEventsCount") s.dropped_events refl))
     ∙ number_again q s.dropped_attributes (s.dropped_attributes == 0) refl refl
@@ -250,7 +265,7 @@ dropped_attributes_of s =
 dropped_events_of : (s : SpanRecord) → number_in (found (codes "droppedEventsCount") (members s)) ≡ s.dropped_events
 dropped_events_of s =
     let q = codes "droppedEventsCount" in
-    ap number_in (loss_of q s (record { a = refl; e = refl; l = refl; st = refl; p = refl; t = refl; four = refl; flags = refl; ids = refl })
+    ap number_in (loss_of q s (record { st = refl; p = refl; t = refl; four = refl; flags = refl; ids = refl }) refl refl refl
     ∙ found-before q (lost_attributes s ++ lost_events s) (lost_links s) (no_number q (codes "droppedLinksCount") s.dropped_links refl)
     ∙ found-append q (lost_attributes s) (lost_events s)
     ∙ ap (or_else (found q (lost_events s))) (no_number q (codes "droppedAttributesCount") s.dropped_attributes refl)
@@ -260,7 +275,7 @@ dropped_events_of s =
 dropped_links_of : (s : SpanRecord) → number_in (found (codes "droppedLinksCount") (members s)) ≡ s.dropped_links
 dropped_links_of s =
     let q = codes "droppedLinksCount" in
-    ap number_in (loss_of q s (record { a = refl; e = refl; l = refl; st = refl; p = refl; t = refl; four = refl; flags = refl; ids = refl })
+    ap number_in (loss_of q s (record { st = refl; p = refl; t = refl; four = refl; flags = refl; ids = refl }) refl refl refl
     ∙ found-append q (lost_attributes s ++ lost_events s) (lost_links s)
     ∙ ap (or_else (found q (lost_links s)))
     (found-before q (lost_attributes s) (lost_events s) (no_number q (codes "droppedEventsCount") s.dropped_events refl)
@@ -271,20 +286,27 @@ dropped_links_of s =
 pub equal_values_say_same : EqualValuesSaySame
 equal_values_say_same s t in_s in_t e =
     let same = λ (q : List ℕ). same_found q (members s) (members t) e in
-    let flagged = same_flags s.span_context.trace_flags t.span_context.trace_flags s.parent_span_is_remote t.parent_span_is_remote in_s.flags in_t.flags (ap number_in (sym (flags_of s) ∙ same (codes "flags") ∙ flags_of t)) in
+    let c = s.span_context in
+    let d = t.span_context in
+    let flagged = same_flags c.trace_flags d.trace_flags s.parent_span_is_remote t.parent_span_is_remote in_s.context.flags in_t.context.flags (ap number_in (sym (flags_of s) ∙ same (codes "flags") ∙ flags_of t)) in
     record {
-      trace_id = same_trace_id s.span_context.trace_id t.span_context.trace_id in_s.trace_id in_t.trace_id (ap text_in (sym (trace_id_of s) ∙ same (codes "traceId") ∙ trace_id_of t));
-      span_id = same_span_id s.span_context.span_id t.span_context.span_id in_s.span_id in_t.span_id (ap text_in (sym (span_id_of s) ∙ same (codes "spanId") ∙ span_id_of t));
+      context = record {
+        trace_id = same_trace_id c.trace_id d.trace_id in_s.context.trace_id in_t.context.trace_id (ap text_in (sym (trace_id_of s) ∙ same (codes "traceId") ∙ trace_id_of t));
+        span_id = same_span_id c.span_id d.span_id in_s.context.span_id in_t.context.span_id (ap text_in (sym (span_id_of s) ∙ same (codes "spanId") ∙ span_id_of t));
+        flags = flagged.0;
+        trace_state = sym (state_of s) ∙ ap text_in (same (codes "traceState")) ∙ state_of t;
+      };
       parent = same_parent (codes "parentSpanId") s.parent_span_id t.parent_span_id (s.parent_span_id == 0) (t.parent_span_id == 0) refl refl refl in_s.parent in_t.parent (sym (parent_of s) ∙ same (codes "parentSpanId") ∙ parent_of t);
-      dropped_attributes = sym (dropped_attributes_of s) ∙ ap number_in (same (codes "droppedAttributesCount")) ∙ dropped_attributes_of t;
-      dropped_events = sym (dropped_events_of s) ∙ ap number_in (same (codes "droppedEventsCount")) ∙ dropped_events_of t;
-      dropped_links = sym (dropped_links_of s) ∙ ap number_in (same (codes "droppedLinksCount")) ∙ dropped_links_of t;
-      trace_state = sym (state_of s) ∙ ap text_in (same (codes "traceState")) ∙ state_of t;
-      status = same_status s.status t.status (sym (status_of s) ∙ same (codes "status") ∙ status_of t);
-      flags = flagged.0;
       remote = flagged.1;
       kind = sym (kind_again s.span_kind) ∙ ap numbered (ap number_in (sym (kind_of s) ∙ same (codes "kind") ∙ kind_of t)) ∙ kind_again t.span_kind;
       name = ap text_in (sym (name_of s) ∙ same (codes "name") ∙ name_of t);
       start = decimal_injective s.start_time t.start_time in_s.start in_t.start (ap text_in (sym (start_of s) ∙ same (codes "startTimeUnixNano") ∙ start_of t));
       end = decimal_injective s.end_time t.end_time in_s.end in_t.end (ap text_in (sym (end_of s) ∙ same (codes "endTimeUnixNano") ∙ end_of t));
+      status = same_status s.status t.status (sym (status_of s) ∙ same (codes "status") ∙ status_of t);
+      attributes = same_attributes s.attributes t.attributes in_s.attributes in_t.attributes (sym (attributes_of s) ∙ ap items_in (same (codes "attributes")) ∙ attributes_of t);
+      events = same_events s.events t.events in_s.events in_t.events (sym (events_of s) ∙ ap items_in (same (codes "events")) ∙ events_of t);
+      links = same_links s.links t.links in_s.links in_t.links (sym (links_of s) ∙ ap items_in (same (codes "links")) ∙ links_of t);
+      dropped_attributes = sym (dropped_attributes_of s) ∙ ap number_in (same (codes "droppedAttributesCount")) ∙ dropped_attributes_of t;
+      dropped_events = sym (dropped_events_of s) ∙ ap number_in (same (codes "droppedEventsCount")) ∙ dropped_events_of t;
+      dropped_links = sym (dropped_links_of s) ∙ ap number_in (same (codes "droppedLinksCount")) ∙ dropped_links_of t;
     }
