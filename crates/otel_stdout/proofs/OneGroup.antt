@@ -11,39 +11,39 @@ use Rattle.otel_stdout.specs.Lossless.{EqualGroupsNameSame}
 use Rattle.otel_stdout.specs.Traces.{span, scope_of}
 use Rattle.otel_stdout.proofs.Found.{or_else-none, if_so, found, same_found, found-append, found-before, no_list, text_in}
 
-no_given : (q n : List ℕ) (t : Option (List ℕ)) → bytes_eq q n ≡ false → found q (text_if_given n t) ≡ None
+pub no_given : (q n : List ℕ) (t : Option (List ℕ)) → bytes_eq q n ≡ false → found q (text_if_given n t) ≡ None
 no_given q n None e = refl
 no_given q n (Some t) e = ap (λ b. if_so b (string t)) e
 
 -- the text of what is found, if there is one
-abbrev given_in : Option Data → Option (List ℕ)
+abbrev pub given_in : Option Data → Option (List ℕ)
 given_in (Some (string s)) = Some s
 given_in other = None
 
-given_again : (q : List ℕ) (t : Option (List ℕ)) → bytes_eq q q ≡ true → given_in (found q (text_if_given q t)) ≡ t
+pub given_again : (q : List ℕ) (t : Option (List ℕ)) → bytes_eq q q ≡ true → given_in (found q (text_if_given q t)) ≡ t
 given_again q None r = refl
 given_again q (Some t) r = ap (λ b. given_in (if_so b (string t))) r
 
-abbrev inside : Option Data → Data
+abbrev pub inside : Option Data → Data
 inside None = null
 inside (Some d) = d
 
-abbrev scope_members : Scope → List Member
+abbrev pub scope_members : Scope → List Member
 scope_members s = text_member (codes "name") s.name ++ text_if_given (codes "version") s.version ++ attributes_member (unique s.attributes)
 
-abbrev group_members : List SpanRecord → Scope → List Member
+abbrev pub group_members : List SpanRecord → Scope → List Member
 group_members ss s =
     (codes "scope", instrumentation_scope s) ∷ list_member (codes "spans") (map span (filter (is_of scope_of s) ss))
     ++ text_if_given (codes "schemaUrl") s.schema_url
 
-name_in : (s : Scope) → found (codes "name") (scope_members s) ≡ Some (string s.name)
+pub name_in : (s : Scope) → found (codes "name") (scope_members s) ≡ Some (string s.name)
 name_in s =
     let q = codes "name" in
     found-before q (text_member q s.name ++ text_if_given (codes "version") s.version) (attributes_member (unique s.attributes))
     (no_list q (codes "attributes") (map key_value (unique s.attributes)) refl)
     ∙ found-before q (text_member q s.name) (text_if_given (codes "version") s.version) (no_given q (codes "version") s.version refl)
 
-version_in : (s : Scope) → given_in (found (codes "version") (scope_members s)) ≡ s.version
+pub version_in : (s : Scope) → given_in (found (codes "version") (scope_members s)) ≡ s.version
 version_in s =
     let q = codes "version" in
     ap given_in (found-before q (text_member (codes "name") s.name ++ text_if_given q s.version) (attributes_member (unique s.attributes))
@@ -51,7 +51,7 @@ version_in s =
     ∙ found-append q (text_member (codes "name") s.name) (text_if_given q s.version) ∙ or_else-none (found q (text_if_given q s.version)))
     ∙ given_again q s.version refl
 
-scope_in : (ss : List SpanRecord) (s : Scope) → found (codes "scope") (group_members ss s) ≡ Some (instrumentation_scope s)
+pub scope_in : (ss : List SpanRecord) (s : Scope) → found (codes "scope") (group_members ss s) ≡ Some (instrumentation_scope s)
 scope_in ss s =
     let q = codes "scope" in
     found-before q ((q, instrumentation_scope s) ∷ list_member (codes "spans") (map span (filter (is_of scope_of s) ss))) (text_if_given (codes "schemaUrl") s.schema_url)

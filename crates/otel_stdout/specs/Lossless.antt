@@ -1,5 +1,5 @@
--- What the value of a span tells of it, and that of a group of spans of their scope.
-use Rattle.std.specs.Prelude.{◌≡◌, ℤ, ◌<◌, ◌^◌, List, [], ◌∷◌, map, ⊤}
+-- What the value of a span tells of it, and that of a batch of its groups.
+use Rattle.std.specs.Prelude.{◌≡◌, ℕ, ℤ, ◌<◌, ◌^◌, List, [], ◌∷◌, map, filter, ⊤}
 use Rattle.std.specs.Int.Signed.{mag}
 use Rattle.std.specs.List.{All, AllZip}
 use Rattle.otel_base.specs.Array.{ArrayValue, booleans, integers, texts}
@@ -10,8 +10,12 @@ use Rattle.otel_base.specs.Value.{AttributeValue}
 use Rattle.otel_ids.specs.SpanContext.{SpanContextRecord}
 use Rattle.otel_ids.specs.TraceState.{header}
 use Rattle.opentelemetry.specs.Event.{EventRecord, LinkRecord}
+use Rattle.otel_sdk_span.specs.Resource.{Parts}
 use Rattle.otel_sdk_span.specs.SpanData.{SpanRecord}
-use Rattle.otel_stdout.specs.Traces.{span, scope_spans}
+use Rattle.otel_stdout.specs.Common.{unique}
+use Rattle.otel_stdout.specs.Groups.{is_of, first_scopes}
+use Rattle.otel_stdout.specs.Json.{IsTextOf}
+use Rattle.otel_stdout.specs.Traces.{span, scope_of, scope_spans, traces_data}
 
 -- ---- as programs have it
 -- an integer of 64 bits with its sign
@@ -136,3 +140,45 @@ pub record NamesSame (a b : Scope) : Type 0 where
 abbrev pub EqualGroupsNameSame : Type 0
 EqualGroupsNameSame =
     (ss ts : List SpanRecord) (a b : Scope) → scope_spans ss a ≡ scope_spans ts b → NamesSame a b
+
+-- both scopes have the same name, version and schema URL, or neither has one, and the same value
+-- under each key, the keys in order
+pub record SameScope (a b : Scope) : Type 0 where
+  pub name : a.name ≡ b.name
+  pub version : a.version ≡ b.version
+  pub schema_url : a.schema_url ≡ b.schema_url
+  pub attributes : told (unique a.attributes) ≡ told (unique b.attributes)
+
+-- both resources have the same attributes, and the same schema URL or none
+pub record SameResource (r q : Parts) : Type 0 where
+  pub attributes : told r.attributes ≡ told q.attributes
+  pub schema_url : r.schema_url ≡ q.schema_url
+
+-- both scopes are the same, and the spans of one among ss say the same as those of the other among
+-- ts, in order
+pub record SameGroup (ss ts : List SpanRecord) (a b : Scope) : Type 0 where
+  pub scope : SameScope a b
+  pub spans : AllZip SaysSame (filter (is_of scope_of a) ss) (filter (is_of scope_of b) ts)
+
+-- the scopes of the spans, in the order in which they first appear
+abbrev pub scopes : List SpanRecord → List Scope
+scopes = first_scopes scope_of []
+
+-- both batches are of the same resource, and have the same groups, in order
+pub record SameBatch (r q : Parts) (ss ts : List SpanRecord) : Type 0 where
+  pub resource : SameResource r q
+  pub groups : AllZip (SameGroup ss ts) (scopes ss) (scopes ts)
+
+-- batches with equal values are the same in this sense
+abbrev pub EqualBatchesSaySame : Type 0
+EqualBatchesSaySame =
+    (r q : Parts) (ss ts : List SpanRecord) → AreInRange r.attributes → AreInRange q.attributes
+    → All IsInRange ss → All IsInRange ts → traces_data r ss ≡ traces_data q ts
+    → SameBatch r q ss ts
+
+-- a text is of no two batches that are not the same in this sense
+abbrev pub EqualTextsSaySame : Type 0
+EqualTextsSaySame =
+    (text : List ℕ) (r q : Parts) (ss ts : List SpanRecord)
+    → AreInRange r.attributes → AreInRange q.attributes → All IsInRange ss → All IsInRange ts
+    → IsTextOf text (traces_data r ss) → IsTextOf text (traces_data q ts) → SameBatch r q ss ts
