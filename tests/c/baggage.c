@@ -1,6 +1,9 @@
 /* Calls the functions of include/otel.h on the baggage of a context. */
 #include "calls.h"
 
+/* A header of W3C trace-context-2 ("Examples of HTTP traceparent Headers"). */
+#define PARENT "00-4bf92f3577b34da6a3ce929d0e0e4736-00f067aa0ba902b7-01"
+
 static void reads(void) {
     otel_handle context = OTEL_NOTHING;
     size_t length = 7;
@@ -37,7 +40,93 @@ static void reads(void) {
     otel_free(&context);
 }
 
-static void (*const runs[])(void) = {reads};
+static void sets(void) {
+    otel_handle context = OTEL_NOTHING, changed = OTEL_NOTHING;
+    extract(&context, "traceparent", PARENT);
+    CALL(OTEL_OK,
+         otel_baggage_set(&context, TEXT("k1"), TEXT("a, b"), TEXT(" p=1 ;q\t"), &changed));
+    injects(&changed, "baggage", "k1=a%2C%20b;p=1 ;q");
+    injects(&changed, "traceparent", PARENT);
+    WRITES("p=1 ;q", otel_baggage_metadata, &changed, TEXT("k1"));
+    injects(&context, "baggage", "");
+    /* The other handle's object is freed. A new key comes last. */
+    CALL(OTEL_OK, otel_baggage_set(&changed, TEXT("k2"), TEXT("\xc3\xa9"), TEXT(""), &context));
+    injects(&context, "baggage", "k1=a%2C%20b;p=1 ;q,k2=%C3%A9");
+    /* A present key keeps its place, and not its metadata. */
+    CALL(OTEL_OK, otel_baggage_set(&context, TEXT("k1"), TEXT("c"), TEXT(""), &changed));
+    injects(&changed, "baggage", "k1=c,k2=%C3%A9");
+    injects(&context, "baggage", "k1=a%2C%20b;p=1 ;q,k2=%C3%A9");
+    otel_free(&changed);
+    otel_free(&context);
+}
+
+static void removes(void) {
+    otel_handle context = OTEL_NOTHING, changed = OTEL_NOTHING;
+    extract(&context, "traceparent", PARENT);
+    CALL(OTEL_OK, otel_baggage_remove(&context, TEXT("k1"), &changed));
+    injects(&changed, "baggage", "");
+    extract(&context, "baggage", "k1=a;p,k2=b,k3=c;q");
+    CALL(OTEL_OK, otel_baggage_remove(&context, TEXT("k2"), &changed));
+    injects(&changed, "baggage", "k1=a;p,k3=c;q");
+    injects(&changed, "traceparent", PARENT);
+    CALL(OTEL_OK, otel_baggage_remove(&context, TEXT("K2"), &changed));
+    injects(&changed, "baggage", "k1=a;p,k2=b,k3=c;q");
+    injects(&context, "baggage", "k1=a;p,k2=b,k3=c;q");
+    otel_free(&changed);
+    otel_free(&context);
+}
+
+/* What is refused leaves both handles as they are. */
+static void refuses(void) {
+    otel_handle nothing = OTEL_NOTHING, headers = OTEL_NOTHING;
+    otel_handle context = OTEL_NOTHING, changed = OTEL_NOTHING;
+    extract(&context, "baggage", "k=v");
+    extract(&changed, "baggage", "other=1");
+    CALL(OTEL_OK, otel_headers_new(&headers));
+    CALL(OTEL_INVALID, otel_baggage_set(&nothing, TEXT("k"), TEXT("v"), TEXT(""), &changed));
+    CALL(OTEL_INVALID, otel_baggage_set(&headers, TEXT("k"), TEXT("v"), TEXT(""), &changed));
+    CALL(OTEL_NOT_TEXT, otel_baggage_set(&context, TEXT("\xff"), TEXT("v"), TEXT(""), &changed));
+    CALL(OTEL_NOT_TEXT, otel_baggage_set(&context, TEXT("k"), TEXT("\xff"), TEXT(""), &changed));
+    CALL(OTEL_NOT_TEXT, otel_baggage_set(&context, TEXT("k"), TEXT("v"), TEXT("\xff"), &changed));
+    CALL(OTEL_KEY, otel_baggage_set(&context, TEXT(""), TEXT("v"), TEXT(""), &changed));
+    CALL(OTEL_KEY, otel_baggage_set(&context, TEXT("a b"), TEXT("v"), TEXT(""), &changed));
+    CALL(OTEL_KEY, otel_baggage_set(&context, TEXT("a=b"), TEXT("v"), TEXT(""), &changed));
+    CALL(OTEL_INVALID, otel_baggage_remove(&nothing, TEXT("k"), &changed));
+    CALL(OTEL_INVALID, otel_baggage_remove(&headers, TEXT("k"), &changed));
+    CALL(OTEL_NOT_TEXT, otel_baggage_remove(&context, TEXT("\xff"), &changed));
+    injects(&context, "baggage", "k=v");
+    injects(&changed, "baggage", "other=1");
+    otel_free(&headers);
+    otel_free(&changed);
+    otel_free(&context);
+}
+
+/* The limits: 8192 bytes, and 64 members. */
+static void limits(void) {
+    static char text[8193];
+    char key[] = "k00", header[64 * 7] = "";
+    otel_handle context = OTEL_NOTHING, changed = OTEL_NOTHING;
+    memset(text, 'v', sizeof text);
+    CALL(OTEL_OK, otel_context_new(&context));
+    CALL(OTEL_OK, otel_baggage_set(&context, TEXT("k"), text, 8189, TEXT(" mm "), &changed));
+    CALL(OTEL_REFUSED, otel_baggage_set(&context, TEXT("k"), text, 8190, TEXT("mm"), &changed));
+    CALL(OTEL_REFUSED, otel_baggage_set(&changed, TEXT("j"), TEXT(""), TEXT(""), &context));
+    CALL(OTEL_OK, otel_baggage_set(&changed, TEXT("k"), text, 8191, TEXT(""), &context));
+    CALL(OTEL_OK, otel_baggage_remove(&context, TEXT("k"), &changed));
+    CALL(OTEL_OK, otel_baggage_set(&changed, text, 8192, TEXT(""), TEXT(""), &context));
+    CALL(OTEL_KEY, otel_baggage_set(&changed, text, 8193, TEXT(""), TEXT(""), &context));
+    for (int at = 0; at < 64; at++)
+        sprintf(header + strlen(header), "%sk%02d=%d", at == 0 ? "" : ",", at, at % 10);
+    extract(&context, "baggage", header);
+    CALL(OTEL_REFUSED, otel_baggage_set(&context, TEXT("new"), TEXT(""), TEXT(""), &changed));
+    CALL(OTEL_KEY, otel_baggage_set(&context, TEXT("n,"), TEXT(""), TEXT(""), &changed));
+    CALL(OTEL_OK, otel_baggage_set(&context, TEXT(key), TEXT("9"), TEXT(""), &changed));
+    WRITES("9", otel_baggage_get, &changed, TEXT(key));
+    otel_free(&changed);
+    otel_free(&context);
+}
+
+static void (*const runs[])(void) = {reads, sets, removes, refuses, limits};
 
 int main(void) {
     return ends(runs, sizeof runs / sizeof *runs);

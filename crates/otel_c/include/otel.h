@@ -44,7 +44,8 @@ enum otel_status {
     OTEL_VALUE = 6,     /* a value isn't valid */
     OTEL_LIST = 7,      /* a member of the header has no `=` */
     OTEL_INVALID = 8,   /* a handle is OTEL_NOTHING, or holds another kind of object */
-    OTEL_REFUSED = 9    /* headers can't carry a text, or no position of a stack is left */
+    OTEL_REFUSED = 9    /* headers can't carry a text, a baggage can't take a member, or no position
+                         * of a stack is left */
 };
 
 /* What holds headers, a context, a stack, or nothing. */
@@ -128,6 +129,19 @@ uint32_t otel_baggage_get(otel_handle *context, const char *key, size_t key_leng
 /* Writes the metadata of the key: its properties, as in "ttl=30;private", or "". */
 uint32_t otel_baggage_metadata(otel_handle *context, const char *key, size_t key_length,
                                char *room, size_t room_length, size_t *written);
+
+/* Puts the context with the member in its baggage into the other handle, and frees what that held.
+ * The member takes the place of the one with its key, or else comes last. The metadata is "" for
+ * none, and loses the white space at its ends. OTEL_KEY if the key is no token of RFC 7230, or has
+ * more than 8192 bytes; OTEL_REFUSED if the baggage would be larger than it may be. */
+uint32_t otel_baggage_set(otel_handle *context, const char *key, size_t key_length,
+                          const char *value, size_t value_length,
+                          const char *metadata, size_t metadata_length, otel_handle *changed);
+
+/* Puts the context without the member of the key, if there is one, into the other handle, and frees
+ * what that held. */
+uint32_t otel_baggage_remove(otel_handle *context, const char *key, size_t key_length,
+                             otel_handle *changed);
 
 /* ---- stacks of attached contexts, such as one for each thread */
 

@@ -2,6 +2,7 @@ pub mod Baggage
 pub mod Context
 pub mod Handle
 pub mod Headers
+pub mod Member
 pub mod Object
 pub mod Room
 pub mod Span

@@ -7,6 +7,7 @@ pub mod baggage;
 pub mod context;
 pub mod handle;
 pub mod headers;
+pub mod member;
 pub mod object;
 pub mod room;
 pub mod span;
