@@ -1,8 +1,9 @@
 #!/usr/bin/env python3
-"""Makes the calls of the rows of tests/vectors on trace states by the shared object of the archive: rows.py OBJECT FILE..
+"""Makes the calls of the rows by the shared object of the archive, on trace states and on baggages: rows.py OBJECT FILE..
 
 Each header is read, and each state changed and asked, as the text of a header. Reading cuts the blanks that end a value, so a
-state with such a value isn't what its header says: the rows below that act on it are left out. The last line is
+state with such a value isn't what its header says: the rows below that act on it are left out. A baggage is that of a context.
+What an insert or a removal replaces is read before, and rows that print a baggage are left out. The last line is
 `N passed, M failed`.
 """
 import ctypes
@@ -14,6 +15,8 @@ OK, NO_MEMORY, NOT_TEXT, NO_ROOM, ABSENT, KEY, VALUE, LIST = range(8)
 ERRORS = {"key": KEY, "value": VALUE, "list": LIST}
 # A key that no row has: without it a state stays as it is.
 NO_KEY = b"no_row/has-this*key"
+# The answer of a row for nothing.
+NONE = "none"
 PART = re.compile(r'"((?:[^"\\]|\\.)*)"(?:\*(\d+))?')
 ESCAPE = re.compile(r'\\(?:u\{([0-9a-f]+)\}|(.))', re.IGNORECASE)
 CUT = re.compile(rb"[ \t](,|$)")
@@ -36,17 +39,101 @@ def texts(words):
     return found
 
 
-class Library:
-    def __init__(self, path):
-        self.functions = ctypes.CDLL(path)
+def sized(parts):
+    """Each text with its length."""
+    return [it for each in parts for it in (each, ctypes.c_size_t(len(each)))]
+
+
+def asked(function, *given):
+    """The status, and the text if there is one."""
+    room, written = ctypes.create_string_buffer(ROOM), ctypes.c_size_t()
+    status = function(*given, room, ctypes.c_size_t(ROOM), ctypes.byref(written))
+    return status, room.raw[:written.value] if status == OK else None
+
+
+class TraceStates:
+    def __init__(self, functions):
+        self.functions, self.state = functions, b""
 
     def call(self, name, *given):
-        """The status, and the text if there is one."""
-        room, written = ctypes.create_string_buffer(ROOM), ctypes.c_size_t()
-        sized = [it for each in given for it in (each, ctypes.c_size_t(len(each)))]
-        function = getattr(self.functions, f"otel_trace_state_{name}")
-        status = function(*sized, room, ctypes.c_size_t(ROOM), ctypes.byref(written))
-        return status, room.raw[:written.value] if status == OK else None
+        return asked(getattr(self.functions, f"otel_trace_state_{name}"), *sized(given))
+
+    def act(self, name, given):
+        """What the call of the row gives, or None if the row is left out."""
+        if name == "TraceState::from_str":
+            got = self.call("delete", given[0], NO_KEY)
+            self.state = got[1] or b""
+            return got
+        if name not in ("insert", "delete", "get") or CUT.search(self.state):
+            return None
+        got = self.call(name, self.state, *given)
+        if name != "get" and got[0] == OK:
+            self.state = got[1]
+        return got
+
+    @staticmethod
+    def wanted(answer):
+        """The status and the text of `ok TEXT`, `some TEXT`, `none` and `err KIND TEXT`."""
+        kind, _, rest = answer.strip().partition(" ")
+        if kind == "none":
+            return ABSENT, None
+        if kind == "err":
+            return ERRORS[rest.split()[0]], None
+        return OK, texts(rest)[0]
+
+
+class Baggages:
+    def __init__(self, functions):
+        self.functions, self.context, self.is_known = functions, ctypes.c_void_p(), False
+
+    def new(self):
+        self.functions.otel_context_new(ctypes.byref(self.context))
+
+    def change(self, name, *given):
+        """Whether the context now is the one that the call gives."""
+        changed, old = ctypes.c_void_p(), self.context
+        function = getattr(self.functions, f"otel_baggage_{name}")
+        if function(ctypes.byref(old), *sized(given), ctypes.byref(changed)) != OK:
+            return False
+        self.context = changed
+        self.functions.otel_free(ctypes.byref(old))
+        return True
+
+    def found(self, key):
+        """The value and the metadata of the key, or `NONE`."""
+        value, metadata = (asked(function, ctypes.byref(self.context), *sized([key])) for function in
+                           (self.functions.otel_baggage_get, self.functions.otel_baggage_metadata))
+        return [value[1], metadata[1]] if value[0] == metadata[0] == OK else NONE
+
+    def length(self):
+        length = ctypes.c_size_t()
+        self.functions.otel_baggage_length(ctypes.byref(self.context), ctypes.byref(length))
+        return str(length.value)
+
+    def act(self, name, given):
+        """What the call of the row gives, or None if the row is left out."""
+        if name.startswith("Baggage::"):
+            self.is_known = name in ("Baggage::new", "Baggage::from_key_values_with_metadata")
+            self.new()
+            for at in range(0, len(given) if self.is_known else 0, 3):
+                self.change("set", *given[at:at + 3])
+        elif self.is_known and name in ("insert", "insert_with_metadata"):
+            old = self.found(given[0])
+            is_set = self.change("set", *given, *[b""] * (3 - len(given)))
+            return old[:len(given) - 1] if is_set and old != NONE else NONE
+        elif self.is_known and name == "remove":
+            old = self.found(given[0])
+            return old if self.change("remove", *given) else "refused"
+        elif self.is_known and name == "get_with_metadata":
+            return self.found(given[0])
+        elif self.is_known and name == "len":
+            return self.length()
+        return None
+
+    @staticmethod
+    def wanted(answer):
+        """The texts of `some TEXT..`, or else the word."""
+        return texts(answer) if answer.strip().startswith("some") else answer.strip()
 
 
 def rows(path):
@@ -57,31 +144,15 @@ def rows(path):
             yield number, line
 
 
-def wanted(answer):
-    """The status and the text of `ok TEXT`, `some TEXT`, `none` and `err KIND TEXT`."""
-    kind, _, rest = answer.strip().partition(" ")
-    if kind == "none":
-        return ABSENT, None
-    if kind == "err":
-        return ERRORS[rest.split()[0]], None
-    return OK, texts(rest)[0]
-
-
-def run(library, path):
-    passed, failed, state = 0, 0, b""
+def run(functions, path):
+    passed, failed = 0, 0
+    acts = Baggages(functions) if "baggage" in path else TraceStates(functions)
     for number, line in rows(path):
         call, answer = line.split("=>", 1)
-        name = call.split()[0]
-        given = texts(call)
-        if name == "TraceState::from_str":
-            got = library.call("delete", given[0], NO_KEY)
-            state = got[1] or b""
-        elif name in ("insert", "delete", "get") and not CUT.search(state):
-            got = library.call(name, state, *given)
-            state = got[1] if name != "get" and got[0] == OK else state
-        else:
+        got = acts.act(call.split()[0], texts(call))
+        if got is None:
             continue
-        if got == wanted(answer):
+        if got == acts.wanted(answer):
             passed += 1
         else:
             failed += 1
@@ -90,8 +161,8 @@ def run(library, path):
 
 
 def main():
-    library = Library(sys.argv[1])
-    counts = [run(library, path) for path in sys.argv[2:]]
+    functions = ctypes.CDLL(sys.argv[1])
+    counts = [run(functions, path) for path in sys.argv[2:]]
     passed, failed = (sum(part) for part in zip(*counts))
     print(f"{passed} passed, {failed} failed")
     sys.exit(failed != 0)
