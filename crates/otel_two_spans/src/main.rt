@@ -5,11 +5,25 @@ use opentelemetry::trace::{Span, Tracer, TracerProvider};
 use opentelemetry::{Context, StringValue};
 use otel_sdk::error::OTelSdkError;
 use otel_sdk::trace::{
-    BatchConfig, BatchSpanProcessor, CountedIdGenerator, LiveSpans, ManualClock, SdkTracerProvider,
-    SpanProcessor,
+    BatchConfig, BatchSpanProcessor, CountedIdGenerator, LiveSpans, ManualClock, Pipeline,
+    SdkTracer, SdkTracerProvider, SpanProcessor,
 };
 use otel_waterfall::WaterfallExporter;
-use std::alloc::AllocError;
+use std::alloc::{AllocError, Global};
+
+/// Starts a span, and returns its number and a context with it.
+fn start<P: Pipeline>(
+    alloc: Global,
+    tracer: &SdkTracer<P>,
+    spans: &mut LiveSpans,
+    name: &'static str,
+    parent: &Context,
+) -> Result<(u64, Context), OTelSdkError> {
+    let span = tracer.start_with_context(alloc, StringValue::from(name), parent)?;
+    let context = parent.with_remote_span_context(alloc, span.span_context().clone()?)?;
+    let number = spans.start(span).map_err(|_| AllocError)?;
+    Ok((number, context))
+}
 
 fn main(rt: HostRuntime) -> Result<(), OTelSdkError> {
     let alloc = rt.alloc();
@@ -19,12 +33,8 @@ fn main(rt: HostRuntime) -> Result<(), OTelSdkError> {
         .build(alloc)?;
     let tracer = provider.tracer(alloc, StringValue::from("cart"))?;
     let mut spans = LiveSpans::new(alloc);
-    let serve = tracer.start_with_context(alloc, StringValue::from("serve"), &Context::new())?;
-    let parent = serve.span_context().clone()?;
-    let context = Context::new().with_remote_span_context(alloc, parent)?;
-    let price = tracer.start_with_context(alloc, StringValue::from("price"), &context)?;
-    let serve = spans.start(serve).map_err(|_| AllocError)?;
-    let price = spans.start(price).map_err(|_| AllocError)?;
+    let (serve, context) = start(alloc, &tracer, &mut spans, "serve", &Context::new())?;
+    let (price, _) = start(alloc, &tracer, &mut spans, "price", &context)?;
     spans.end(price, 4_000_000);
     spans.end(serve, 6_000_000);
     let exporter = WaterfallExporter::new(alloc, rt.stdout());
