@@ -20,11 +20,11 @@ pub fn play(task: &Task<'_>, alloc: Global, rt: HostRuntime) -> Result<Option<u6
         }
         "sdk_span_unsampled" => {
             let tracer = tracer(alloc, rt, Sampler::AlwaysOff)?;
-            repeat(Starting { alloc, tracer }, task.times)
+            repeat(Dropping { alloc, tracer }, task.times)
         }
         "sdk_span_noop" => {
             let tracer = NoopTracer::new();
-            repeat(Starting { alloc, tracer }, task.times)
+            repeat(Ignoring { alloc, tracer }, task.times)
         }
         "sdk_make" => way(task, alloc, rt, Until::Made),
         "sdk_make_collect" => way(task, alloc, rt, Until::Collected),
@@ -145,14 +145,29 @@ impl Operation for Recording {
     }
 }
 
-/// A span that doesn't record starts and ends.
+/// A span that the sampler drops starts and ends.
 #[derive(Drop)]
-struct Starting<T: Tracer> {
+struct Dropping {
     alloc: Global,
-    tracer: T,
+    tracer: SdkTracer<Pipeline>,
 }
 
-impl<T: Tracer + Drop> Operation for Starting<T> {
+impl Operation for Dropping {
+    fn once(&mut self, sum: &mut u64) -> Result<(), AllocError> {
+        let span = start(self.alloc, &self.tracer)?;
+        end(span, sum);
+        Ok(())
+    }
+}
+
+/// A span of the no-op tracer starts and ends.
+#[derive(Drop)]
+struct Ignoring {
+    alloc: Global,
+    tracer: NoopTracer,
+}
+
+impl Operation for Ignoring {
     fn once(&mut self, sum: &mut u64) -> Result<(), AllocError> {
         let span = start(self.alloc, &self.tracer)?;
         end(span, sum);
