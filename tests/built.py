@@ -1,7 +1,9 @@
 """The crates of the repository, and the libraries that `rt ci` built of them, for scripts that call the kit's compiler themselves."""
 import glob
 import os
+import shutil
 import subprocess
+import sys
 
 TOP = os.path.dirname(os.path.dirname(os.path.abspath(__file__)))
 # `rt doc` names a page of the kit.
@@ -36,6 +38,21 @@ def is_of_ci(crate):
         return False
     files = (it for part in PARTS for it in glob.glob(f"{TOP}/crates/{crate}/{part}/**/*", recursive=True))
     return os.path.getmtime(built) > max(map(os.path.getmtime, files))
+
+
+def lay_libraries(root, wanted, known):
+    """Lays the libraries below these crates into a copy of the repository as `rt ci` built them, or has `rt lib` build them there."""
+    libraries = list(dict.fromkeys(dep for it in wanted for dep in below(it, known)))
+    is_kept = all(map(is_of_ci, libraries))
+    for it in libraries:
+        if is_kept:
+            if not os.path.isdir(rlib(root, it)):
+                shutil.copytree(rlib(TOP, it), rlib(root, it))
+            continue
+        ran = subprocess.run(["rt", "lib"], cwd=f"{root}/crates/{it}", stdin=subprocess.DEVNULL, stdout=subprocess.PIPE,
+                             stderr=subprocess.STDOUT, errors="replace")
+        if ran.returncode:
+            sys.exit(f"{ran.stdout[-2000:]}\nthe library {it} is not proved")
 
 
 def words(root, crate, known):
