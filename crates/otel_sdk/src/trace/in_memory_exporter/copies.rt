@@ -1,12 +1,14 @@
 //! Copies of spans.
 ghost use Rattle.std.specs.Prelude.{◌≡◌, ◌++◌, OnOk, IfOk, map};
+ghost use Rattle.std.specs.Rc.{rc_value};
 ghost use Rattle.opentelemetry.specs.View.{event_of, link_of};
 ghost use Rattle.otel_base.specs.View.{attribute_of};
 
-use opentelemetry::KeyValue;
-use opentelemetry::trace::{Event, Link};
+use opentelemetry::trace::{Event, Link, SpanContext, Status};
+use opentelemetry::{InstrumentationScope, KeyValue, StringValue};
 use otel_sdk_span::{SpanData, SpanEvents, SpanLinks};
 use std::alloc::AllocError;
+use std::rc::Rc;
 
 // Each attribute of the copy means the same as the original's.
 fn copy_attributes(attributes: &Vec<KeyValue>) -> Result<Vec<KeyValue>, AllocError>
@@ -28,6 +30,50 @@ fn copy_links(links: &Vec<Link>) -> Result<Vec<Link>, AllocError>
     Ok(links.clone()?)
 }
 
+/// Copies of the lists of a span.
+#[derive(Drop)]
+struct Lists {
+    attributes: Vec<KeyValue>,
+    events: Vec<Event>,
+    links: Vec<Link>,
+}
+
+fn copy_lists(span: &SpanData) -> Result<Lists, AllocError>
+    ensures attributes { IfOk result (λ copies.
+        map attribute_of copies.attributes.items ≡ span.now.attributes) }
+    ensures events { IfOk result (λ copies. map event_of copies.events.items ≡ span.now.events) }
+    ensures links { IfOk result (λ copies. map link_of copies.links.items ≡ span.now.links) }
+{
+    Ok(Lists {
+        attributes: copy_attributes(&span.attributes)?,
+        events: copy_events(&span.events.events)?,
+        links: copy_links(&span.links.links)?,
+    })
+}
+
+/// Copies of what else a span shares or owns.
+#[derive(Drop)]
+struct Parts {
+    span_context: SpanContext,
+    name: StringValue,
+    status: Status,
+    scope: Rc<InstrumentationScope>,
+}
+
+fn copy_parts(span: &SpanData) -> Result<Parts, AllocError>
+    ensures span_context { IfOk result (λ copies. copies.span_context ≡ span.now.span_context) }
+    ensures name { IfOk result (λ copies. copies.name ≡ span.now.name) }
+    ensures status { IfOk result (λ copies. copies.status ≡ span.now.status) }
+    ensures scope { IfOk result (λ copies. rc_value copies.scope ≡ span.now.scope) }
+{
+    Ok(Parts {
+        span_context: span.span_context.clone()?,
+        name: span.name.clone()?,
+        status: span.status.clone()?,
+        scope: span.instrumentation_scope.clone()?,
+    })
+}
+
 /// Returns a copy of the span.
 ///
 /// # Errors
@@ -36,26 +82,28 @@ fn copy_links(links: &Vec<Link>) -> Result<Vec<Link>, AllocError>
 fn copy(span: &SpanData) -> Result<SpanData, AllocError>
     ensures { IfOk result (λ copy. copy ≡ span.now) }
 {
+    let lists = copy_lists(span)?;
+    let parts = copy_parts(span)?;
     Ok(SpanData {
-        span_context: span.span_context.clone()?,
+        span_context: parts.span_context,
         parent_span_id: span.parent_span_id,
         parent_span_is_remote: span.parent_span_is_remote,
         span_kind: span.span_kind,
-        name: span.name.clone()?,
+        name: parts.name,
         start_time: span.start_time,
         end_time: span.end_time,
-        attributes: copy_attributes(&span.attributes)?,
+        attributes: lists.attributes,
         dropped_attributes_count: span.dropped_attributes_count,
         events: SpanEvents {
-            events: copy_events(&span.events.events)?,
+            events: lists.events,
             dropped_count: span.events.dropped_count,
         },
         links: SpanLinks {
-            links: copy_links(&span.links.links)?,
+            links: lists.links,
             dropped_count: span.links.dropped_count,
         },
-        status: span.status.clone()?,
-        instrumentation_scope: span.instrumentation_scope.clone()?,
+        status: parts.status,
+        instrumentation_scope: parts.scope,
     })
 }
 
