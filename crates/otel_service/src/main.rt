@@ -26,7 +26,7 @@ use otel_sdk::logs::{InMemoryLogExporter, SdkLoggerProvider, SimpleLogProcessor}
 use otel_sdk::resource::Resource;
 use otel_sdk::trace::{
     BatchConfigBuilder, BatchSpanProcessor, Clock, CountedIdGenerator, InMemorySpanExporter,
-    Pipeline, SdkTracerProvider, SpanExporter, SpanProcessor, SystemClock,
+    Pipeline, SdkTracer, SdkTracerProvider, SpanExporter, SpanProcessor, SystemClock,
 };
 use otel_stdout::OtlpJsonSpanExporter;
 use otel_waterfall::WaterfallExporter;
@@ -59,6 +59,13 @@ fn logs<R: std::time::Clock + Copy + Drop, C: Clock>(
         .build(alloc)
 }
 
+/// Returns all of standard input.
+fn read_input(rt: HostRuntime) -> Result<Vec<u8>, Failure> {
+    let mut bytes = Vec::new(rt.alloc());
+    rt.stdin().read_to_end(&mut bytes)?;
+    Ok(bytes)
+}
+
 /// Serves all requests, and hands their spans to the exporter.
 fn serve<P: Pipeline, C: Clock, L: Logger, X: SpanExporter>(
     rt: HostRuntime,
@@ -66,8 +73,6 @@ fn serve<P: Pipeline, C: Clock, L: Logger, X: SpanExporter>(
     exporter: X,
 ) -> Result<(), Failure> {
     let alloc = rt.alloc();
-    let mut bytes = Vec::new(alloc);
-    rt.stdin().read_to_end(&mut bytes)?;
     let config = BatchConfigBuilder::default().build();
     let mut processor = BatchSpanProcessor::new(alloc, exporter, config);
     processor.set_resource(Rc::new(alloc, resource(alloc)?)?);
@@ -75,7 +80,7 @@ fn serve<P: Pipeline, C: Clock, L: Logger, X: SpanExporter>(
     serve_all(
         service,
         &mut processor,
-        &bytes,
+        &read_input(rt)?,
         &mut lines,
         &mut rt.stderr(),
     )?;
@@ -108,20 +113,16 @@ fn export<P: Pipeline, C: Clock, L: Logger>(
     }
 }
 
-/// Serves all requests with counted ids and a counted clock.
-fn run_fixed(
+/// Serves all requests with the spans of the tracer, and prints the log lines.
+fn serve_with<P: Pipeline, C: Clock>(
     rt: HostRuntime,
+    tracer: SdkTracer<P>,
+    clock: C,
+    logs: Logs<C>,
     propagator: &TextMapCompositePropagator,
     options: &Options,
 ) -> Result<(), Failure> {
     let alloc = rt.alloc();
-    let clock = CountedClock::new(alloc)?;
-    let provider = SdkTracerProvider::builder(rt)
-        .with_id_generator(CountedIdGenerator::new())
-        .with_clock(clock.share()?)
-        .build(alloc)?;
-    let tracer = provider.tracer(alloc, StringValue::from("otel_service"))?;
-    let logs = logs(rt, alloc, clock.share()?)?;
     let logger = logs.logger(alloc, StringValue::from("otel_service"))?;
     let service = Service {
         alloc,
@@ -135,6 +136,23 @@ fn run_fixed(
     served
 }
 
+/// Serves all requests with counted ids and a counted clock.
+fn run_fixed(
+    rt: HostRuntime,
+    propagator: &TextMapCompositePropagator,
+    options: &Options,
+) -> Result<(), Failure> {
+    let alloc = rt.alloc();
+    let clock = CountedClock::new(alloc)?;
+    let logs = logs(rt, alloc, clock.share()?)?;
+    let tracer = SdkTracerProvider::builder(rt)
+        .with_id_generator(CountedIdGenerator::new())
+        .with_clock(clock.share()?)
+        .build(alloc)?
+        .tracer(alloc, StringValue::from("otel_service"))?;
+    serve_with(rt, tracer, clock, logs, propagator, options)
+}
+
 /// Serves all requests with random ids and the system's clock.
 fn run_random(
     rt: HostRuntime,
@@ -142,21 +160,11 @@ fn run_random(
     options: &Options,
 ) -> Result<(), Failure> {
     let alloc = rt.alloc();
-    let clock = SystemClock::new(rt);
-    let provider = SdkTracerProvider::builder(rt).build(alloc)?;
-    let tracer = provider.tracer(alloc, StringValue::from("otel_service"))?;
     let logs = logs(rt, alloc, SystemClock::new(rt))?;
-    let logger = logs.logger(alloc, StringValue::from("otel_service"))?;
-    let service = Service {
-        alloc,
-        tracer,
-        clock,
-        propagator,
-        log: OpenTelemetryLogBridge::new(alloc, logger),
-    };
-    let served = export(rt, &service, options);
-    log_lines::write(&logs, &mut rt.stderr())?;
-    served
+    let tracer = SdkTracerProvider::builder(rt)
+        .build(alloc)?
+        .tracer(alloc, StringValue::from("otel_service"))?;
+    serve_with(rt, tracer, SystemClock::new(rt), logs, propagator, options)
 }
 
 fn run(rt: HostRuntime) -> Result<(), Failure> {

@@ -3,13 +3,14 @@ use crate::failure::Failure;
 use crate::headers;
 use crate::work::{LoadCart, Price};
 use log::info;
-use opentelemetry::baggage::Baggage;
+use opentelemetry::baggage::{Baggage, BaggageMetadata};
 use opentelemetry::context::ContextStack;
 use opentelemetry::logs::Logger;
 use opentelemetry::propagation::{PropagationError, TextMapCompositePropagator};
 use opentelemetry::trace::{Span, SpanBody, SpanKind, Spans, Tracer};
 use opentelemetry::{Context, Key, StringValue};
 use otel_appender_log::OpenTelemetryLogBridge;
+use otel_sdk::error::OTelSdkResult;
 use otel_sdk::trace::{
     BatchSpanProcessor, Clock, Pipeline, SdkSpan, SdkTracer, SpanExporter, SpanProcessor,
 };
@@ -88,9 +89,8 @@ impl<P: Pipeline, C: Clock, L: Logger> Service<'_, P, C, L> {
             .propagator
             .extract_with_context(self.alloc, &Context::new(), received)?;
         let mut spans = Spans::new(self.alloc);
-        let Answer { sent, mut children } = self.work(&parent, &mut spans)?;
-        processor.collect(&mut spans, &mut children)?;
-        processor.force_flush()?;
+        let Answer { sent, children } = self.work(&parent, &mut spans)?;
+        export(processor, spans, children)?;
         Ok(sent)
     }
 
@@ -173,12 +173,33 @@ impl<P: Pipeline, C: Clock, L: Logger> Service<'_, P, C, L> {
     }
 }
 
+/// Hands the spans to the exporter, in the order of these numbers.
+fn export<E: SpanExporter>(
+    processor: &mut BatchSpanProcessor<E>,
+    mut spans: Spans<SdkSpan>,
+    mut ended: Vec<u64>,
+) -> OTelSdkResult {
+    processor.collect(&mut spans, &mut ended)?;
+    processor.force_flush()
+}
+
+/// Inserts a copy of the member into the baggage. A full baggage is unchanged.
+fn insert_copy(
+    baggage: &mut Baggage,
+    key: &Key,
+    value: &StringValue,
+    metadata: &BaggageMetadata,
+) -> Result<(), AllocError> {
+    drop(baggage.insert_with_metadata(key.clone()?, value.clone()?, metadata.clone()?)?);
+    Ok(())
+}
+
 /// Returns the context with the service's name in its baggage. A full baggage is unchanged.
 fn with_service_name(alloc: Global, context: &Context) -> Result<Context, AllocError> {
     let mut baggage = Baggage::new(alloc);
     if let Some(given) = context.baggage() {
         for (key, (value, metadata)) in given {
-            drop(baggage.insert_with_metadata(key.clone()?, value.clone()?, metadata.clone()?)?);
+            insert_copy(&mut baggage, key, value, metadata)?;
         }
     }
     drop(baggage.insert(Key::from("service"), StringValue::from("otel service"))?);

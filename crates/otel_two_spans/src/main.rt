@@ -25,6 +25,16 @@ fn start<P: Pipeline>(
     Ok((number, context))
 }
 
+/// Records a span and one under it.
+fn record<P: Pipeline>(alloc: Global, tracer: &SdkTracer<P>) -> Result<LiveSpans, OTelSdkError> {
+    let mut spans = LiveSpans::new(alloc);
+    let (serve, context) = start(alloc, tracer, &mut spans, "serve", &Context::new())?;
+    let (price, _) = start(alloc, tracer, &mut spans, "price", &context)?;
+    spans.end(price, 4_000_000);
+    spans.end(serve, 6_000_000);
+    Ok(spans)
+}
+
 fn main(rt: HostRuntime) -> Result<(), OTelSdkError> {
     let alloc = rt.alloc();
     let provider = SdkTracerProvider::builder(rt)
@@ -32,11 +42,7 @@ fn main(rt: HostRuntime) -> Result<(), OTelSdkError> {
         .with_clock(ManualClock::new(0))
         .build(alloc)?;
     let tracer = provider.tracer(alloc, StringValue::from("cart"))?;
-    let mut spans = LiveSpans::new(alloc);
-    let (serve, context) = start(alloc, &tracer, &mut spans, "serve", &Context::new())?;
-    let (price, _) = start(alloc, &tracer, &mut spans, "price", &context)?;
-    spans.end(price, 4_000_000);
-    spans.end(serve, 6_000_000);
+    let mut spans = record(alloc, &tracer)?;
     let exporter = WaterfallExporter::new(alloc, rt.stdout());
     let mut processor = BatchSpanProcessor::new(alloc, exporter, BatchConfig::default());
     spans.collect(&mut processor)?;
