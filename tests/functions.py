@@ -1,0 +1,83 @@
+"""The functions of a source, by the paths that a check of the crate gives them."""
+import re
+
+
+def words(text, dropped):
+    """The words of a type or a trait as they stand in the name of an `impl`, without its type parameters."""
+    found = re.findall(r"&|\w+", re.sub(r"'\w+", "", re.sub(r"\w+::", "", text)))
+    return "".join("Ref" if it == "&" else it[0].upper() + it[1:] for it in found if it not in dropped)
+
+
+def owner_of(header):
+    """The name of a trait or an `impl` in the path of its functions, as TraceState, TraceStateClone or HashMapStringInjector."""
+    kind, rest = re.match(r"(?:pub(?:\(\w+\))? )?(impl|trait)\b\s*(.*)", header, re.S).groups()
+    if kind == "trait":
+        return re.match(r"\w+", rest)[0]
+    dropped = ()
+    if rest.startswith("<"):
+        depth = [sum({"<": 1, ">": -1}.get(it, 0) for it in rest[:end]) for end in range(1, len(rest))]
+        end = depth.index(0) + 1
+        dropped, rest = re.findall(r"[<,]\s*(?:const )?(\w+)", rest[:end]), rest[end:]
+    trait, is_for, of = re.split(r"\bwhere\b|\{", rest)[0].partition(" for ")
+    if not is_for or trait.strip() == "Drop":
+        return words(of or trait, dropped)
+    return words(of, dropped) + words(trait, dropped)
+
+
+class Function:
+    """A function of a source: its path below the crate, whether it is a trait's, its lines from 0, and what it names and calls."""
+
+    def __init__(self, path, file, is_of_trait, lines, begin, end):
+        self.path, self.file, self.is_of_trait, self.begin, self.end = path, file, is_of_trait, begin, end
+        text = "\n".join(lines[begin : end + 1])
+        self.names, self.calls = set(re.findall(r"\w+", text)), set(re.findall(r"(?:(\w+)::|\.)(\w+)\(", text))
+
+    def is_unfolded_by(self, other):
+        owner, name = ["", *self.path.split("::")][-2:]
+        calls = any(it == name and owner.startswith(of.removeprefix("Self")) for of, it in other.calls)
+        return self.is_of_trait and self.file == other.file and calls
+
+
+def home_of(owner, module, text):
+    """The module of the type of an `impl`: this one, or the one that the source imports the type from."""
+    found = re.search(rf"(?m)^use (crate|super)((?:::\w+)*)::(?:\{{[^}}]*\b)?{owner}\b", text)
+    if not found:
+        return module
+    return "::".join(it for it in (module.rpartition("::")[0] if found[1] == "super" else "", found[2].removeprefix("::")) if it)
+
+
+def functions(file, text):
+    """The functions of a source that is laid out as `rt fmt` does."""
+    module = re.sub(r"(^|/)(lib|main|mod)$", "", file.removeprefix("src/").removesuffix(".rt")).replace("/", "::")
+    lines, owner, header, home = text.split("\n"), "", "", module
+    at = 0
+    while at < len(lines):
+        line = lines[at]
+        if re.match(r"(pub(\(\w+\))? )?(impl|trait)\b", line):
+            header = line + "".join(lines[at + 1 : at + 8])
+            owner = owner_of(header)
+            is_own = line.startswith("impl") and " for " not in header.partition("{")[0]
+            home = home_of(owner, module, text) if is_own else module
+        elif line == "}":
+            owner, header, home = "", "", module
+        found = re.match(r"( *)(?:pub(?:\(\w+\))? )?(?:final |const |unsafe |ghost |extern \S+ )*fn (\w+)", line)
+        if found and len(found[1]) == (4 if owner else 0):
+            end = end_of(lines, at, found[1])
+            path = "::".join(it for it in (home, owner, found[2]) if it)
+            yield Function(path, file, bool(re.match(r"[^{]*? for |(pub )?trait", header)), lines, at, end)
+            at = end
+        at += 1
+
+
+def end_of(lines, at, indent):
+    """The last line of the function that begins here. One of a trait may end with its clauses, before any body."""
+    if lines[at].endswith("}"):
+        return at
+    has_body, depth = lines[at].endswith("{"), 0
+    while lines[at] != f"{indent}}}":
+        depth += len(re.findall(r"[{(\[]", lines[at])) - len(re.findall(r"[})\]]", lines[at]))
+        if not has_body and depth == 0 and (lines[at].endswith(";") or lines[at].strip() == "{}"):
+            break
+        at += 1
+        has_body = has_body or lines[at] == f"{indent}{{"
+    return at
