@@ -1,30 +1,32 @@
 # Proves, builds and tests the repository with the kit's command rt, which is found on PATH.
 #
-#   make run                        proves and builds the program, and runs it on examples/first-run
+#   make run                        runs otel_carry on examples/first-run, in a minute: unproved, unless make prove proved it
 #   make run INPUT=F                on the file F; INPUT=- is standard input
-#   make try                        the same in seconds and unproved
+#   make prove                      proves and builds the programs, and runs them
 #   make example                    a service at work: the headers that it sends on for those of examples/service and for none,
 #                                   a picture of its traces, its log lines, and its spans as lines of JSON
-#   make example-c                  a C program over the static library of crates/otel_c
-#   make test                       every proof, wrong body, test, vector, misuse case and run out of memory
+#   make example-c                  a C program over the static library of crates/otel_c, which is proved first
+#   make test                       every proof, test, vector, misuse case and run out of memory, and the wrong bodies that may have
+#                                   become right
 #
 # Small loops, each a part of the above:
 #
 #   make check CRATE=C              proves one crate over what earlier checks kept
 #   make tests                      the tests; CRATE=C those of one crate; TEST=T those whose path holds T
 #   make edit CRATE=C EDIT=E        sees that the prover refuses one wrong body, in seconds after a check of the crate
-#   make mutants                    the wrong bodies of tests/mutants; CRATE=C those of one crate
+#   make mutants                    all wrong bodies, from nothing; CRATE=C those of one crate
 #   make vectors                    the answers of the Rust crate
 #   make otlp                       lines of JSON, read by another implementation
+#   make c                          calls from C
 #   make misuse                     what must not compile; CASE=NAME one case
 #   make memory                     the runs out of memory: each allocation fails in turn
-#   make long                       the proved programs on long inputs
+#   make long                       the programs on long inputs
 #   make calls                      that each call that can run out of memory is in one of them
 #   make fuzz                       random programs and rows beside a plain model; COUNT=N so many, SEED=N others
 #   make documents                  that what the documents name exists, and that the code they show is code that runs
 #   make bench                      instructions an operation, beside the Rust crate
 #
-# What a program prints goes to standard output, and all else to standard error.
+# Results go to standard output, and all else to standard error. Long work shows there where it is.
 
 MAKEFLAGS += --no-print-directory
 SHELL := /bin/bash
@@ -32,70 +34,73 @@ SHELL := /bin/bash
 INPUT ?= examples/first-run
 COUNT ?= 10000
 SEED ?= 1
-GIVEN := $(if $(filter -,$(INPUT)),,< "$(abspath $(INPUT))")
+GIVEN := $(if $(filter -,$(INPUT)),,< "$(INPUT)")
+# Stops, if CRATE is no crate.
+CRATES := $(patsubst crates/%/src,%,$(wildcard crates/*/src))
+IS_CRATE = @$(if $(filter $(CRATE),$(CRATES)),true,echo 'make $@: name a crate, as in `make $@ CRATE=otel_ids`: $(CRATES)' >&2; exit 2)
 
-.PHONY: run try example example-c test check tests edit mutants vectors otlp misuse memory long calls fuzz documents bench
+.PHONY: run prove example example-c test check tests edit mutants vectors otlp c misuse memory long calls fuzz documents bench
 
 run:
-	@cd crates/otel_carry && rt run $(GIVEN)
+	@program=$$(tests/programs.py path otel_carry) && "$$program" $(GIVEN)
 
-try:
-	@echo 'make try: nothing is proved here; make run proves the program first' >&2
-	@cd crates/otel_carry && rt try $(GIVEN)
+prove:
+	@tests/programs.py prove
 
 example:
-	@cd crates/otel_service && rt run < /dev/null > /dev/null
-	@cd crates/otel_service && for input in ../../examples/service /dev/null; do \
-		out/otel_service --fixed --waterfall < $$input || exit; done
-	@cd crates/otel_service && rm -f out/spans.jsonl && out/otel_service out/spans.jsonl < ../../examples/service > /dev/null \
-		&& echo 'the spans as lines of JSON: crates/otel_service/out/spans.jsonl' >&2
+	@program=$$(tests/programs.py path otel_service) && spans=crates/otel_service/out/spans.jsonl && rm -f "$$spans" \
+		&& for input in examples/service /dev/null; do "$$program" --fixed --waterfall < "$$input" || exit; done \
+		&& "$$program" "$$spans" < examples/service > /dev/null && echo "the spans as lines of JSON: $$spans" >&2
 
 example-c:
-	@cd crates/otel_c && rt lib > /dev/null
-	@room=$$(mktemp -d) && trap 'rm -rf "$$room"' EXIT && cc -Icrates/otel_c/include examples/c/forward.c \
-		crates/otel_c/out/libotel_c.a "$$(dirname "$$(rt doc)")/c/liblibc_c.a" -o "$$room/forward" \
+	@archive=$$(tests/programs.py archive) && room=$$(mktemp -d) && trap 'rm -rf "$$room"' EXIT \
+		&& cc -Icrates/otel_c/include examples/c/forward.c "$$archive" "$$(dirname "$$(rt doc)")/c/liblibc_c.a" -o "$$room/forward" \
 		&& "$$room/forward" < examples/c/received
 
 test:
 	@tests/all
 
 check:
-	@cd "crates/$(CRATE)" && rt check
+	$(IS_CRATE)
+	@cd "crates/$(CRATE)" && ../../tests/progress.py 'check $(CRATE)' rt check
 
 tests:
-	@tests/unit $(CRATE) $(TEST)
+	@tests/unit "$(CRATE)" "$(TEST)"
 
 edit:
+	$(IS_CRATE)
 	@tests/edits "$(CRATE)" "$(EDIT)"
 
 mutants:
 	@tests/edits $(CRATE)
 
 vectors:
-	@tests/vectors/run
+	@tests/progress.py --part vectors tests/vectors/run
 
 otlp:
-	@tests/otlp/run
+	@tests/progress.py --part otlp tests/otlp/run
+
+c:
+	@tests/progress.py --part 'calls from C' tests/c/run
 
 misuse:
-	@tests/misuse/run $(CASE)
+	@tests/progress.py --part misuse tests/misuse/run $(CASE)
 
 memory:
-	@cd crates/otel_carry && rt run < /dev/null > /dev/null
-	@tests/memory/sweep
+	@program=$$(tests/programs.py path otel_carry) && tests/progress.py --part 'runs out of memory' tests/memory/sweep "$$program"
 
 long:
-	@for program in otel_carry otel_service; do (cd crates/$$program && rt run < /dev/null > /dev/null) || exit; done
-	@tests/long/run
+	@for name in otel_carry otel_service; do program=$$(tests/programs.py path $$name) \
+		&& tests/progress.py --part 'long inputs' tests/long/run $$name "$$program" || exit; done
 
 calls:
 	@tests/memory/calls
 
 fuzz:
-	@tests/fuzz/run "$(COUNT)" "$(SEED)"
+	@tests/progress.py --part fuzz tests/fuzz/run "$(COUNT)" "$(SEED)"
 
 documents:
 	@tests/documents
 
 bench:
-	@bench/run
+	@tests/progress.py --part bench bench/run

@@ -1,0 +1,97 @@
+"""Builds a program of the repository unproved: an executable file for this machine, in half a minute.
+
+Only a proved crate is built by `rt run`. `rt try` compiles a program unproved, but runs it once, with the checks of
+AddressSanitizer, which has a `malloc` of its own, and throws it away. So `rt try` runs here from a copy of the kit that is made of
+links, but for its `clang`: the one here leaves these checks out, and leaves the object file where we want it. `rt try` then ends,
+as it misses that file, and `rattle-link` links the program as `rt run` does.
+
+What this rests on, beyond the kit's documented commands: `rt` finds the kit by the place of its own file, and `rt try` calls
+`toolchain/bin/clang -c .. -o FILE .. -fsanitize=address` for the module of the program. If a later kit does otherwise,
+there is no object file, and `build` says so with all that `rt try` said. The rest of the build is the kit's as it is: the
+checks of indices, of arithmetic and of `unwrap` stay in the program, and end it. Beside the build `rt try` has
+`rattle check --start` look for reserved names, which takes as long again; the `rattle` here leaves that out.
+"""
+import os
+import shutil
+import subprocess
+import sys
+
+from built import KIT, TOP
+
+# So long takes no build.
+SECONDS = 900
+CLANG = """#!{python}
+import os, sys
+words = sys.argv[1:]
+if "-fsanitize=address" in words:
+    words.remove("-fsanitize=address")
+    words[words.index("-o") + 1] = {made!r}
+os.execv({clang!r}, [{clang!r}, *words])
+"""
+RATTLE = """#!{python}
+import os, sys
+if "--start" not in sys.argv:
+    os.execv({rattle!r}, [{rattle!r}, *sys.argv[1:]])
+"""
+
+
+class Failed(Exception):
+    """Why there is no program."""
+
+
+def write(path, text):
+    os.makedirs(os.path.dirname(path), exist_ok=True)
+    with open(path, "w", encoding="utf-8") as file:
+        file.write(text)
+
+
+def link_all(source, to, apart=()):
+    """Makes the folder, with a link to each thing in the source but these."""
+    os.makedirs(to)
+    for name in os.listdir(source):
+        if name not in apart:
+            os.symlink(f"{source}/{name}", f"{to}/{name}")
+
+
+def write_command(path, text, **names):
+    write(path, text.format(python=sys.executable, **names))
+    os.chmod(path, 0o755)
+
+
+def lay_kit(room, made):
+    """Lays the copy of the kit, whose clang makes the program's object file, and gives its command rt."""
+    link_all(KIT, room, ("bin", "toolchain"))
+    link_all(f"{KIT}/bin", f"{room}/bin", ("rt", "rtlib.py", "rattle"))
+    for name in ("rt", "rtlib.py"):
+        shutil.copy(f"{KIT}/bin/{name}", f"{room}/bin/{name}")
+    write_command(f"{room}/bin/rattle", RATTLE, rattle=f"{KIT}/bin/rattle")
+    link_all(f"{KIT}/toolchain", f"{room}/toolchain", ("bin",))
+    link_all(f"{KIT}/toolchain/bin", f"{room}/toolchain/bin", ("clang",))
+    write_command(f"{room}/toolchain/bin/clang", CLANG, clang=f"{KIT}/toolchain/bin/clang", made=made)
+    return f"{room}/bin/rt"
+
+
+def lay_crates(room, names, known, more=()):
+    """Lays these crates of the repository into the room, and lists them, and more lines of crates.txt. Gives the folder of crates."""
+    subprocess.run(["git", "init", "-q", room], check=True)
+    for it in names:
+        shutil.copytree(f"{TOP}/crates/{it}", f"{room}/crates/{it}", ignore=shutil.ignore_patterns("out", "must-fail"))
+    write(f"{room}/crates.txt", "".join(f"{it}: {' '.join(deps)}\n" for it, deps in [*((it, known[it]) for it in names), *more]))
+    return f"{room}/crates"
+
+
+def build(folder, room, program):
+    """Builds the program whose crate lies in the folder, as this file. Raises `Failed` if it doesn't compile."""
+    made = f"{room}/{os.path.basename(program)}.o"
+    # The interpreter, by which `rt try` runs a program too, isn't needed: few steps.
+    tries = [lay_kit(f"{room}/kit", made), "try", "--steps", "1"]
+    tried = subprocess.run([sys.executable, *tries], cwd=folder, stdin=subprocess.DEVNULL, stdout=subprocess.PIPE,
+                           stderr=subprocess.STDOUT, errors="replace", timeout=SECONDS)
+    if not os.path.isfile(made):
+        raise Failed(f"rt try made no object file by way of {KIT}/toolchain/bin/clang; it said:\n{tried.stdout}")
+    words = ["--target", "x86_64-unknown-linux-gnu", "--toolchain", f"{KIT}/toolchain", "-o", program, made]
+    words += [f"{KIT}/c/libos_c.a", f"{KIT}/c/liblibc_c.a"]
+    linked = subprocess.run([f"{KIT}/bin/rattle-link", *words], stdin=subprocess.DEVNULL, stdout=subprocess.PIPE,
+                            stderr=subprocess.STDOUT, text=True, errors="replace")
+    if linked.returncode:
+        raise Failed(linked.stdout)
