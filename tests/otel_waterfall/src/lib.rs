@@ -2,6 +2,7 @@
 #![tactic(auto)]
 
 // Depends on: otel_sdk
+// Tests also: otel_drawing
 
 mod durations;
 mod pictures;
