@@ -27,6 +27,16 @@ def below(crate, known):
     return found
 
 
+def lay_copy(room):
+    """Lays a copy of the repository into the room for `rt ci`, with its wrong bodies of must-fail/ in tests/mutants, and gives its folder."""
+    copy = shutil.copytree(TOP, f"{room}/copy", symlinks=True, ignore=shutil.ignore_patterns(".git", "out", "__pycache__"))
+    for folder in glob.glob(f"{copy}/crates/*/must-fail"):
+        crate = os.path.basename(os.path.dirname(folder))
+        os.makedirs(f"{copy}/tests/mutants/{crate}", exist_ok=True)
+        shutil.move(folder, f"{copy}/tests/mutants/{crate}/must-fail")
+    return copy
+
+
 def rlib(root, crate):
     return f"{root}/crates/{crate}/out/rlib/{crate}.rlib"
 

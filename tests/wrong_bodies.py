@@ -16,7 +16,6 @@ import functools
 import glob
 import hashlib
 import os
-import re
 import subprocess
 
 from built import PARTS, TOP, below, crates
@@ -25,7 +24,7 @@ HERE = os.path.dirname(os.path.abspath(__file__))
 MUTANTS = f"{HERE}/mutants"
 REFUSED = f"{MUTANTS}/refused"
 # What the trial runs, beside the kit.
-SCRIPTS = "edits", "wrong_bodies.py", "functions.py", "built.py"
+SCRIPTS = "edits", "trial.py", "wrong_bodies.py", "functions.py", "built.py"
 # The files of a proof that no other crate can name.
 OF_ONE_FUNCTION = "Proof.antt", "Invariants.antt", "Answers.antt"
 
@@ -118,9 +117,9 @@ def checksum(crate, read=read):
     return digest.hexdigest()[:32]
 
 
-def committed():
+def committed(path=REFUSED):
     """The checksums of tests/mutants/refused, by their crates."""
-    lines = (line.split("#")[0].split() for line in read(REFUSED).split("\n")) if os.path.isfile(REFUSED) else ()
+    lines = (line.split("#")[0].split() for line in read(path).split("\n")) if os.path.isfile(path) else ()
     return {line[0]: line[1] for line in lines if len(line) == 2}
 
 
