@@ -103,3 +103,9 @@ AddsTexts old texts new = set_texts new ≡ insert_all bytes_eq (set_texts old) 
 abbrev pub kept_fields : {I : Type 0} {D : I → Type 0} → TextMapCompositePropagator I D
     → List (List ℕ)
 kept_fields c = set_texts c.fields
+
+-- It keeps the union of its members' fields, in order of first appearance; `fields` are those of a
+-- member. Every composite does: `new` and `join` make no other, and no call changes one.
+abbrev pub KeepsFields : {I : Type 0} {D : I → Type 0} → (DynBox I Global D → List (List ℕ))
+    → TextMapCompositePropagator I D → Type 0
+KeepsFields fields c = kept_fields c ≡ fields_of fields c

@@ -10,7 +10,8 @@ use Rattle.otel_context.specs.BaggageHeader.{header}
 use Rattle.otel_context.specs.Context.{ContextRecord, empty_context}
 use Rattle.otel_context.specs.Stack.{Live, current}
 use Rattle.opentelemetry.specs.Carrier.{Pairs, Sets, TextMap, at, map_state, text_map}
-use Rattle.opentelemetry.specs.Composite.{extracted_of, may_refuse_of, pairs_of}
+use Rattle.opentelemetry.specs.Composite.{KeepsFields, extracted_of, fields_of, may_refuse_of}
+use Rattle.opentelemetry.specs.Composite.{pairs_of}
 use Rattle.opentelemetry.specs.Extraction.{Extracts}
 use Rattle.opentelemetry.specs.Injection.{Injects}
 use Rattle.opentelemetry.specs.Refusal.{is_refused}
@@ -62,6 +63,17 @@ abbrev pub RefusesByMember : {I T : Type 0} {D : I → Type 0} → TextMapCompos
 RefusesByMember composite may_refuse result =
     IsTrue (is_refused result)
     → IsTrue (may_refuse_of (λ m. may_refuse (m.vtable, m.value)) composite)
+
+-- the composite keeps the fields of its members, of which each has `fields`
+abbrev pub Keeps : {I : Type 0} {D : I → Type 0} → TextMapCompositePropagator I D
+    → ((x : I) × D x → List (List ℕ)) → Type 0
+Keeps composite fields = KeepsFields (λ m. fields (m.vtable, m.value)) composite
+
+-- the names are the fields of the composite's members, each once, in order of first appearance
+abbrev pub AreFields : {I : Type 0} {D : I → Type 0} → TextMapCompositePropagator I D
+    → ((x : I) × D x → List (List ℕ)) → List (List ℕ) → Type 0
+AreFields composite fields names =
+    names ≡ fields_of (λ m. fields (m.vtable, m.value)) composite
 
 -- What a composite does: `pairs`, `extracted` and `may_refuse` are those of a member.
 module _ {A S I : Type 0} {D : I → Type 0} where

@@ -4,6 +4,7 @@
 
 pub mod baggage;
 pub mod composite;
+pub mod header_names;
 pub mod headers;
 pub mod in_span;
 pub mod log_bridge;

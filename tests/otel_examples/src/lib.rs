@@ -4,6 +4,7 @@
 // Depends on: test_support
 
 mod baggage;
+mod header_names;
 mod headers;
 mod in_span;
 mod log_bridge;

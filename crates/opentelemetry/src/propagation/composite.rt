@@ -2,7 +2,7 @@
 ghost use Rattle.std.specs.Prelude.{◌≡◌, ◌++◌, [], IsOk, IfOk, OnOk};
 ghost use Rattle.otel_context.specs.Stack.{current};
 ghost use Rattle.opentelemetry.specs.Composite.{members_of, InjectsAll, ExtractsAll};
-ghost use Rattle.opentelemetry.specs.Composite.{fields_of, kept_fields, AddsTexts};
+ghost use Rattle.opentelemetry.specs.Composite.{fields_of, kept_fields, AddsTexts, KeepsFields};
 ghost use Rattle.opentelemetry.specs.Extraction.{Extracts};
 ghost use Rattle.opentelemetry.specs.Injection.{Injects};
 
@@ -93,7 +93,7 @@ impl TextMapCompositePropagator {
     ) -> Result<TextMapCompositePropagator, AllocError>
         ensures made { members.items ≡ [] → IsOk result }
         ensures members { IfOk result (λ c. members_of c ≡ members.items) }
-        ensures fields { IfOk result (λ c. kept_fields c ≡ fields_of (λ m. field_names m) c) }
+        ensures fields { IfOk result (KeepsFields (λ m. field_names m)) }
     {
         let mut fields = IndexSet::new(alloc);
         for member in &members {
@@ -116,7 +116,7 @@ impl TextMapCompositePropagator {
     ) -> Result<TextMapCompositePropagator, AllocError>
         ensures made { members_of self ≡ [] → members_of other ≡ [] → IsOk result }
         ensures members { IfOk result (λ c. members_of c ≡ members_of self ++ members_of other) }
-        ensures fields { IfOk result (λ c. kept_fields c ≡ fields_of (λ m. field_names m) c) }
+        ensures fields { IfOk result (KeepsFields (λ m. field_names m)) }
     {
         let TextMapCompositePropagator { members, fields: _ } = self;
         let TextMapCompositePropagator {
@@ -218,7 +218,10 @@ impl TextMapCompositePropagator {
 
     /// Returns the names of the members' fields, each once, in order of first appearance.
     pub fn fields(&self) -> FieldIter<'_>
-        ensures { result ≡ kept_fields self.now }
+        ensures kept { result ≡ kept_fields self.now }
+        // Each composite that `new` or `join` returns keeps its members' fields.
+        ensures union { KeepsFields (λ m. field_names m) self.now
+            → result ≡ fields_of (λ m. field_names m) self.now }
     {
         FieldIter::new(self.fields.as_slice())
     }
