@@ -17,7 +17,7 @@ pub fn header_names(
     alloc: Global,
     composite: &TextMapCompositePropagator,
 ) -> Result<Vec<String>, AllocError>
-    // So does each composite that `new` or `join` returns.
+    // The composite keeps its members' fields, as each does that `new` or `join` returns.
     requires { Keeps composite.now (λ m. field_names m) }
     ensures { IfOk result (λ names.
         AreFields composite.now (λ m. field_names m) (map string_bytes names.items)) }
