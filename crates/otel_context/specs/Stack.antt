@@ -14,8 +14,8 @@ Live = List (ℕ × ContextRecord)
 
 -- what contracts see of a stack: the live attachments, how many attaches were accepted, and how
 -- many emptied slots were stepped over
--- No running program holds the two counts. A removal finds the neighbours of its position in the
--- slot, looks at no emptied one, and so leaves `stepped` (not in the Rust crate).
+-- No running program holds the two counts. A removal looks at the slot of its position, which has
+-- the neighbours, and otherwise at live ones only, and so leaves `stepped` (not in the Rust crate).
 pub record StackState : Type 0 where
   pub live : Live
   pub accepted : ℕ

@@ -73,12 +73,12 @@ context_code = code_by (EntryMap × (Option (List Member) × (Option SpanPart ×
     (λ p. record { entries = p.0; baggage = p.1.0; span = p.1.1.0; suppressed = p.1.1.1 })
     (λ _. refl)
 
--- a code of the slots: that of the tuple of the three fields
+-- a code of the slots: that of the tuple of the four fields
 abbrev pub slots_code : Coded SlotsState
-slots_code = code_by (List (Option ContextRecord) × (ℕ × ℕ))
-    (coded× (coded_list (coded_option context_code)) (coded× coded_ℕ coded_ℕ))
-    (λ s. (s.slots, (s.capacity, s.stepped)))
-    (λ p. record { slots = p.0; capacity = p.1.0; stepped = p.1.1 })
+slots_code = code_by (List (Option ContextRecord) × (ℕ × (ℕ × ℕ)))
+    (coded× (coded_list (coded_option context_code)) (coded× coded_ℕ (coded× coded_ℕ coded_ℕ)))
+    (λ s. (s.slots, (s.capacity, (s.stepped, s.asked))))
+    (λ p. record { slots = p.0; capacity = p.1.0; stepped = p.1.1.0; asked = p.1.1.1 })
     (λ _. refl)
 
 -- a code of stacks: that of the tuple of the three fields

@@ -1,52 +1,31 @@
 //! The slots of the attached contexts, linked in the order of their positions.
 //!
-//! The vector is private to this module. Only `take` checks whether a slot is live, at the position
-//! that a removal names. Every other slot that is read is live, or is the one above the newest,
-//! which an attach writes.
-ghost use Rattle.std.specs.Prelude.{◌≡◌, ◌+◌, ◌<◌, ◌≤◌, [], length, get_or, IfOk, OnOk};
-ghost use Rattle.std.specs.Prelude.{OnErr, vec_capacity};
+//! They are reached only through the calls of `slot_vec`. Each slot that is read is live, but for
+//! the one of the position that a removal names.
+ghost use Rattle.std.specs.Prelude.{◌≡◌, ◌+◌, ◌<◌, ◌≤◌, [], IfOk, OnOk, OnErr};
 ghost use Rattle.otel_context.specs.Stack.{newest_position, current, context_at, attach, detach};
 ghost use Rattle.otel_context.specs.Stack.{last_position};
 ghost use Rattle.otel_context.specs.Slots.{live_of};
-ghost use Rattle.otel_context.specs.Links.{no_slot, put, live_slot, kept_at, Unlinked, Emptied};
-ghost use Rattle.otel_context.specs.View.{record_of};
 
-use super::counter::Counter;
-use crate::context::{Contents, Context, into_contents, of_contents, replace_contents};
+mod slot_vec;
+
+use self::slot_vec::{Neighbors, SlotVec};
+use crate::context::{Context, into_contents, of_contents, replace_contents};
 use std::alloc::{AllocError, Global};
 use std::marker::Model;
-use std::mem::{self, size_of};
-use std::rc::Rc;
 
-/// The slot of a position.
-#[derive(Drop)]
-struct Slot {
-    // The contents of the context that is live here. Those of the newest stand beside the slots. A
-    // slot that isn't live has none, so it keeps no context alive.
-    contents: Option<Rc<Contents>>,
-    is_live: bool,
-    // The next lower live position, or 0. At position 0: the newest.
-    older: u16,
-    // The next higher live position, or 0. At position 0: the oldest.
-    newer: u16,
-}
-
-const _: () = prove!(size_of::<Slot>() == 24);
-
-/// A slot for each position, starting with the base at position 0, and the current context beside
-/// them.
+/// The slots, starting with that of the base at position 0, and the current context beside them.
 ///
 /// A live slot has the positions of its live neighbors.
 #[derive(Drop)]
 pub struct Slots {
-    slots: Vec<Slot>,
+    slots: SlotVec,
     // The context of the newest live position, or the empty one.
     current: Context,
-    stepped: Counter,
 }
 
 impl Model for Slots {
-    ghost use Rattle.std.specs.Prelude.{vec_capacity, ◌-◌};
+    ghost use Rattle.std.specs.Prelude.{◌-◌};
     ghost use Rattle.otel_context.specs.Slots.{SlotsState};
     ghost use Rattle.otel_context.specs.Links.{occupants, IsLinked};
     ghost use Rattle.otel_context.specs.View.{slots_code};
@@ -57,8 +36,9 @@ impl Model for Slots {
 
     ghost view = { λ s. record {
       slots = occupants s.current s.slots.items;
-      capacity = vec_capacity s.slots - 1;
-      stepped = s.stepped;
+      capacity = s.slots.capacity - 1;
+      stepped = s.slots.stepped;
+      asked = s.slots.asked;
     } };
 
     ghost invariant = { λ s. IsLinked s.current s.slots.items };
@@ -72,17 +52,9 @@ impl Slots {
         ensures stepped { IfOk result (λ s. s.stepped ≡ 0) }
         ensures capacity { IfOk result (λ s. capacity ≤ s.capacity) }
     {
-        let mut slots = Vec::with_capacity(alloc, capacity + 1)?;
-        slots.push(Slot {
-            contents: None,
-            is_live: true,
-            older: 0,
-            newer: 0,
-        })?;
         Ok(Slots {
-            slots,
+            slots: SlotVec::with_capacity(alloc, capacity)?,
             current: Context::new(),
-            stepped: Counter::new(),
         })
     }
 
@@ -91,7 +63,7 @@ impl Slots {
         ensures newest { result ≡ newest_position (live_of self.now) }
         ensures within { result ≤ last_position }
     {
-        self.slots[0].older
+        self.slots.older(0)
     }
 
     /// Returns the context of the newest live position, or the empty one.
@@ -110,16 +82,15 @@ impl Slots {
         ensures err { OnErr result (live_of self.new ≡ live_of self.old) }
         ensures full { OnErr result (self.old.capacity ≤ newest_position (live_of self.old)) }
         ensures stepped { self.new.stepped ≡ self.old.stepped }
+        ensures asked { self.new.asked ≡ self.old.asked }
         ensures capacity { self.old.capacity ≤ self.new.capacity }
     {
         let newest = self.newest();
         let position = newest + 1;
-        set_live(&mut self.slots, position, newest)?;
+        self.slots.set_live(position, newest)?;
         let below = replace_contents(&mut self.current, into_contents(context));
-        let slot = &mut self.slots[newest as usize];
-        slot.contents = below;
-        slot.newer = position;
-        self.slots[0].older = position;
+        self.slots.cover(newest, below, position);
+        self.slots.set_older(0, position);
         Ok(position)
     }
 
@@ -130,69 +101,20 @@ impl Slots {
         ensures given { result ≡ context_at position (live_of self.old) }
         ensures live { live_of self.new ≡ detach position (live_of self.old) }
         ensures stepped { self.new.stepped ≡ self.old.stepped }
+        ensures asked { self.new.asked ≡ self.old.asked + 1 }
         ensures capacity { self.new.capacity ≡ self.old.capacity }
     {
-        let slot = &self.slots[position as usize];
-        if !slot.is_live {
+        let Some(Neighbors { older, newer }) = self.slots.ask(position) else {
             return None;
-        }
-        let older = slot.older;
-        let newer = slot.newer;
-        unlink(&mut self.slots, position, older, newer);
+        };
         if newer > 0 {
-            let contents = take_contents(&mut self.slots, position);
+            let contents = self.slots.uncover(position);
+            self.slots.unlink(position, older, newer);
             return Some(of_contents(contents));
         }
-        let below = take_contents(&mut self.slots, older);
+        self.slots.unlink(position, older, newer);
+        let below = self.slots.uncover(older);
         let contents = replace_contents(&mut self.current, below);
         Some(of_contents(contents))
     }
-}
-
-/// Makes the slot at a position live, or appends it. No live slot is above it.
-fn set_live(slots: &mut Vec<Slot>, position: u16, older: u16) -> Result<(), AllocError>
-    requires { position ≤ length slots.old.items }
-    ensures live { OnOk result (slots.new.items ≡ put slots.old.items position
-        (live_slot older (get_or slots.old.items position no_slot))) }
-    ensures err { OnErr result (slots.new.items ≡ slots.old.items) }
-    ensures full { OnErr result (vec_capacity slots.old ≤ position) }
-    ensures capacity { vec_capacity slots.old ≤ vec_capacity slots.new }
-{
-    if (position as usize) < slots.len() {
-        let slot = &mut slots[position as usize];
-        slot.is_live = true;
-        slot.older = older;
-        slot.newer = 0;
-    } else {
-        slots.push(Slot {
-            contents: None,
-            is_live: true,
-            older,
-            newer: 0,
-        })?;
-    }
-    Ok(())
-}
-
-/// Makes a position dead, and links its neighbors.
-fn unlink(slots: &mut Vec<Slot>, position: u16, older: u16, newer: u16)
-    requires position { position < length slots.old.items }
-    requires older { older < length slots.old.items }
-    requires newer { newer < length slots.old.items }
-    ensures unlinked { Unlinked slots.old.items slots.new.items position older newer }
-    ensures capacity { vec_capacity slots.new ≡ vec_capacity slots.old }
-{
-    slots[position as usize].is_live = false;
-    slots[older as usize].newer = newer;
-    slots[newer as usize].older = older;
-}
-
-/// Takes the contents out of a slot, and leaves none there.
-fn take_contents(slots: &mut Vec<Slot>, position: u16) -> Option<Rc<Contents>>
-    requires { position < length slots.old.items }
-    ensures given { record_of result ≡ kept_at slots.old.items position }
-    ensures left { Emptied slots.old.items slots.new.items position }
-    ensures capacity { vec_capacity slots.new ≡ vec_capacity slots.old }
-{
-    mem::replace(&mut slots[position as usize].contents, None)
 }

@@ -1,64 +1,68 @@
-use Rattle.std.proofs.Common.{◌≡◌, ◌+◌, ◌<◌, ◌∷◌, [], ◌++◌, length, get_or, refl, sym, ap, ◌∙◌, arith}
-use Rattle.std.specs.Prelude.{slice_set}
-use Rattle.std.proofs.lemmas.List.{length-set}
+use Rattle.std.proofs.Common.{◌≡◌, ◌+◌, ◌<◌, ◌∷◌, [], ◌++◌, refl, sym, ap, ◌∙◌, arith}
 use Rattle.otel_context.specs.Context.{ContextRecord}
 use Rattle.otel_context.specs.Slots.{SlotsState, live_of}
+use Rattle.otel_context.specs.SlotVec.{SlotVecState}
 use Rattle.otel_context.specs.Stack.{newest_position, last_position}
-use Rattle.otel_context.specs.Links.{no_slot, older_at, live_slot}
-use Rattle.otel_context.proofs.LinkLemmas.{read, live_within, newest_live, linked-newest, push-linked, push-live, longer, joined}
+use Rattle.otel_context.specs.Links.{older_at}
+use Rattle.otel_context.proofs.LinkLemmas.{live_within, newest_live, linked-newest, dead-next, newest-stays, base-stays, push-linked, push-live}
 use Rattle.otel_context.proofs.stack.slots.Slots.push.Goals as goal
 
-pub set_live-requires : goal.set_live-requires
-set_live-requires c =
+pub set_live-requires-clause-within : goal.set_live-requires-clause-within
+set_live-requires-clause-within c =
     let xs = c.self.inside.slots.items in
     let now = c.self.inside.current in
     let is : c.newest-newest.result ≡ older_at xs 0 = c.newest-newest.ensures.newest ∙ sym (ap (λ (s : SlotsState). newest_position (live_of s)) c.self.view_is) ∙ linked-newest now xs c.self.invariant in
     let within = live_within xs (older_at xs 0) (newest_live now xs c.self.invariant) in
     omega (arith, within, is)
 
-pub index_mut-slot-requires : goal.index_mut-slot-requires
-index_mut-slot-requires c =
+pub set_live-requires-clause-dead : goal.set_live-requires-clause-dead
+set_live-requires-clause-dead c =
     let xs = c.self.inside.slots.items in
     let now = c.self.inside.current in
     let m = c.newest-newest.result in
     let is : m ≡ older_at xs 0 = c.newest-newest.ensures.newest ∙ sym (ap (λ (s : SlotsState). newest_position (live_of s)) c.self.view_is) ∙ linked-newest now xs c.self.invariant in
-    let within = live_within xs (older_at xs 0) (newest_live now xs c.self.invariant) in
-    let more = longer xs (m + 1) (live_slot m (get_or xs (m + 1) no_slot)) in
-    omega (arith, within, is, more, ap length c.in_ok-set_live.ensures.live)
+    dead-next now xs m (m + 1) c.self.invariant is refl
+
+pub cover-requires : goal.cover-requires
+cover-requires c =
+    let xs = c.self.inside.slots.items in
+    let now = c.self.inside.current in
+    let m = c.newest-newest.result in
+    let is : m ≡ older_at xs 0 = c.newest-newest.ensures.newest ∙ sym (ap (λ (s : SlotsState). newest_position (live_of s)) c.self.view_is) ∙ linked-newest now xs c.self.invariant in
+    newest-stays now xs c.set_live.new.self.items m (m + 1) c.in_ok-set_live.ensures.live c.self.invariant is refl
+
+pub set_older-requires : goal.set_older-requires
+set_older-requires c =
+    let xs = c.self.inside.slots.items in
+    let now = c.self.inside.current in
+    let m = c.newest-newest.result in
+    let is : m ≡ older_at xs 0 = c.newest-newest.ensures.newest ∙ sym (ap (λ (s : SlotsState). newest_position (live_of s)) c.self.view_is) ∙ linked-newest now xs c.self.invariant in
+    let covered = ap (λ (s : SlotVecState). s.items) c.cover.ensures in
+    base-stays now xs c.set_live.new.self.items c.cover.new.self.items m (m + 1) c.replace_contents-below.result c.in_ok-set_live.ensures.live covered c.self.invariant is refl
 
 pub invariant_of-self-2 : goal.invariant_of-self-2
 invariant_of-self-2 c =
     let xs = c.self.inside.slots.items in
     let now = c.self.inside.current in
-    let ys = c.set_live.new.slots.items in
     let m = c.newest-newest.result in
     let is : m ≡ older_at xs 0 = c.newest-newest.ensures.newest ∙ sym (ap (λ (s : SlotsState). newest_position (live_of s)) c.self.view_is) ∙ linked-newest now xs c.self.invariant in
-    let within = live_within xs (older_at xs 0) (newest_live now xs c.self.invariant) in
-    let more = longer xs (m + 1) (live_slot m (get_or xs (m + 1) no_slot)) in
     let low : m < last_position = omega (arith, c.requires, c.newest-newest.ensures.newest) in
-    let m_in : m < length ys = omega (arith, within, is, more, ap length c.in_ok-set_live.ensures.live) in
-    let y = c.index_mut-slot.result.now in
-    let z = c.index_mut.result.now in
-    let is_y = read ys m y c.index_mut-slot.ensures.value m_in in
-    let is_z = read (slice_set ys m (joined c.replace_contents-below.result (m + 1) y)) 0 z c.index_mut.ensures.value (rw length-set (omega (arith, m_in))) in
-    push-linked now c.replace_contents-below.new.context xs ys m (m + 1) c.replace_contents-below.result y z c.in_ok-set_live.ensures.live c.self.invariant is refl low c.replace_contents-below.ensures.given is_y is_z
+    let covered = ap (λ (s : SlotVecState). s.items) c.cover.ensures in
+    let joined = ap (λ (s : SlotVecState). s.items) c.set_older.ensures in
+    push-linked now c.replace_contents-below.new.context xs c.set_live.new.self.items c.cover.new.self.items c.set_older.new.self.items m (m + 1) c.replace_contents-below.result
+    c.in_ok-set_live.ensures.live covered joined c.self.invariant is refl low c.replace_contents-below.ensures.given
 
 pub returns-clause-live : goal.returns-clause-live
 returns-clause-live c =
     let xs = c.self.inside.slots.items in
     let now = c.self.inside.current in
-    let ys = c.set_live.new.slots.items in
     let m = c.newest-newest.result in
     let is : m ≡ older_at xs 0 = c.newest-newest.ensures.newest ∙ sym (ap (λ (s : SlotsState). newest_position (live_of s)) c.self.view_is) ∙ linked-newest now xs c.self.invariant in
-    let within = live_within xs (older_at xs 0) (newest_live now xs c.self.invariant) in
-    let more = longer xs (m + 1) (live_slot m (get_or xs (m + 1) no_slot)) in
     let low : m < last_position = omega (arith, c.requires, c.newest-newest.ensures.newest) in
-    let m_in : m < length ys = omega (arith, within, is, more, ap length c.in_ok-set_live.ensures.live) in
-    let y = c.index_mut-slot.result.now in
-    let z = c.index_mut.result.now in
-    let is_y = read ys m y c.index_mut-slot.ensures.value m_in in
-    let is_z = read (slice_set ys m (joined c.replace_contents-below.result (m + 1) y)) 0 z c.index_mut.ensures.value (rw length-set (omega (arith, m_in))) in
-    push-live now c.replace_contents-below.new.context xs ys m (m + 1) c.replace_contents-below.result y z c.in_ok-set_live.ensures.live c.self.invariant is refl low c.replace_contents-below.ensures.given is_y is_z
+    let covered = ap (λ (s : SlotVecState). s.items) c.cover.ensures in
+    let joined = ap (λ (s : SlotVecState). s.items) c.set_older.ensures in
+    push-live now c.replace_contents-below.new.context xs c.set_live.new.self.items c.cover.new.self.items c.set_older.new.self.items m (m + 1) c.replace_contents-below.result
+    c.in_ok-set_live.ensures.live covered joined c.self.invariant is refl low c.replace_contents-below.ensures.given
     ∙ ap (λ (s : SlotsState). live_of s ++ (m + 1, c.replace_contents-below.new.context) ∷ []) c.self.view_is
     ∙ ap (λ (r : ContextRecord). live_of c.args.self.now ++ (m + 1, r) ∷ []) (c.replace_contents-below.ensures.replaced ∙ c.into_contents.ensures)
     ∙ ap (λ n. live_of c.args.self.now ++ (n + 1, c.args.context) ∷ []) c.newest-newest.ensures.newest
