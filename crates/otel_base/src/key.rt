@@ -135,7 +135,7 @@ impl From<RcStr> for Key {
 impl fmt::Display for Key {
     ghost output = { λ k. Some k };
 
-    /// Writes the text, as `str` does: a width, a fill or a precision is obeyed.
+    /// Writes the plain text: a width, a fill and a precision are left out.
     fn fmt<W: fmt::Write>(&self, f: &mut fmt::Formatter<W>) -> fmt::Result {
         fmt::Display::fmt(&self.text, f)
     }

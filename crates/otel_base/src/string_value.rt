@@ -148,7 +148,7 @@ impl From<RcStr> for StringValue {
 impl fmt::Display for StringValue {
     ghost output = { λ k. Some k };
 
-    /// Writes the text, as `str` does: a width, a fill or a precision is obeyed.
+    /// Writes the plain text: a width, a fill and a precision are left out.
     fn fmt<W: fmt::Write>(&self, f: &mut fmt::Formatter<W>) -> fmt::Result {
         fmt::Display::fmt(&self.text, f)
     }

@@ -156,7 +156,7 @@ impl fmt::Display for Text {
     ghost output = { λ t. Some t };
 
     fn fmt<W: fmt::Write>(&self, f: &mut fmt::Formatter<W>) -> fmt::Result {
-        fmt::Display::fmt(self.as_str(), f)
+        f.write_str(self.as_str())
     }
 }
 

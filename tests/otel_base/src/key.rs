@@ -32,7 +32,21 @@ fn keys_are_printed(rt: HostRuntime) -> Result<(), Fail> {
     let key = Key::from("k");
     assert_eq!(rt; key.to_string(rt.alloc())?.as_str(), "k");
     assert_eq!(rt; format!(in rt.alloc(); "<{key}>")?.as_str(), "<k>");
-    assert_eq!(rt; format!(in rt.alloc(); "{key:>3}")?.as_str(), "  k");
     assert_eq!(rt; key.into_string(rt.alloc())?.as_str(), "k");
+    Ok(())
+}
+
+#[test]
+fn keys_are_printed_without_width_and_fill(rt: HostRuntime) -> Result<(), Fail> {
+    let alloc = rt.alloc();
+    for key in [
+        Key::from("k1"),
+        Key::from(String::from_str(alloc, "k1")?),
+        Key::from(RcStr::from_str(alloc, "k1")?),
+    ] {
+        assert_eq!(rt; format!(in alloc; "<{key:>4}>")?.as_str(), "<k1>");
+        assert_eq!(rt; format!(in alloc; "<{key:*<4}>")?.as_str(), "<k1>");
+        assert_eq!(rt; format!(in alloc; "<{key:.1}>")?.as_str(), "<k1>");
+    }
     Ok(())
 }

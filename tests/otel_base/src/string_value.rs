@@ -30,7 +30,21 @@ fn text_values_are_printed(rt: HostRuntime) -> Result<(), Fail> {
     let value = StringValue::from("v");
     assert_eq!(rt; value.to_string(rt.alloc())?.as_str(), "v");
     assert_eq!(rt; format!(in rt.alloc(); "<{value}>")?.as_str(), "<v>");
-    assert_eq!(rt; format!(in rt.alloc(); "{value:>3}")?.as_str(), "  v");
     assert_eq!(rt; value.into_string(rt.alloc())?.as_str(), "v");
+    Ok(())
+}
+
+#[test]
+fn text_values_are_printed_without_width_and_fill(rt: HostRuntime) -> Result<(), Fail> {
+    let alloc = rt.alloc();
+    for value in [
+        StringValue::from("v1"),
+        StringValue::from(String::from_str(alloc, "v1")?),
+        StringValue::from(RcStr::from_str(alloc, "v1")?),
+    ] {
+        assert_eq!(rt; format!(in alloc; "<{value:>4}>")?.as_str(), "<v1>");
+        assert_eq!(rt; format!(in alloc; "<{value:*<4}>")?.as_str(), "<v1>");
+        assert_eq!(rt; format!(in alloc; "<{value:.1}>")?.as_str(), "<v1>");
+    }
     Ok(())
 }

@@ -94,7 +94,7 @@ impl Clone for BaggageMetadata {
 impl fmt::Display for BaggageMetadata {
     ghost output = { λ m. Some m };
 
-    /// Writes the text.
+    /// Writes the plain text: a width, a fill and a precision are left out.
     fn fmt<W: fmt::Write>(&self, f: &mut fmt::Formatter<W>) -> fmt::Result {
         fmt::Display::fmt(&self.text, f)
     }

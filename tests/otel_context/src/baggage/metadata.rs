@@ -28,6 +28,15 @@ fn metadata_is_cut_at_both_ends(rt: HostRuntime) -> Result<(), Fail> {
 }
 
 #[test]
+fn metadata_is_printed_without_width_and_fill(rt: HostRuntime) -> Result<(), Fail> {
+    let metadata = BaggageMetadata::new(rt.alloc(), "m1")?;
+    assert_eq!(rt; format!(in rt.alloc(); "<{metadata:>4}>")?.as_str(), "<m1>");
+    assert_eq!(rt; format!(in rt.alloc(); "<{metadata:*<4}>")?.as_str(), "<m1>");
+    assert_eq!(rt; format!(in rt.alloc(); "<{metadata:.1}>")?.as_str(), "<m1>");
+    Ok(())
+}
+
+#[test]
 fn metadata_is_cloned(rt: HostRuntime) -> Result<(), Fail> {
     let a = BaggageMetadata::new(rt.alloc(), " a ")?;
     assert!(rt; a == a.clone()?);
