@@ -10,7 +10,7 @@ use Rattle.std.specs.Map.{keys_of, lookup, remove_entry}
 use Rattle.std.specs.Option.{option_map_or}
 use Rattle.std.specs.Str.{bytes_eq, is_utf8}
 use Rattle.std.proofs.Math.Bool.{and-true, and-false}
-use Rattle.std.proofs.lemmas.Option.{slice_get-map, get_or_from_slice_get}
+use Rattle.std.proofs.lemmas.Option.{slice_get-map, get_or_from_slice_get, slice_get_cases}
 use Rattle.std.proofs.lemmas.Bool.{cases_Bool, and_parts, cond-true, cond-false, or_left, leb-true}
 use Rattle.std.proofs.lemmas.Bool.{ltb-true}
 use Rattle.std.proofs.lemmas.List.{length-map}
@@ -28,6 +28,7 @@ use Rattle.otel_context.specs.Baggage.{get_with_metadata, put, accepts, insert, 
 use Rattle.otel_context.specs.BaggageWeight.{weight_of_others, weight_after}
 use Rattle.otel_context.specs.BaggageView.{Entry, entry_member, entry_members}
 use Rattle.otel_context.proofs.BaggageLists.{same_text, keys, AreDistinct, filter_others, none_after}
+use Rattle.otel_context.proofs.NameLemmas.{distinct_none}
 use Rattle.otel_context.proofs.BaggageLists.{put_here, put_later, remove_here, remove_later, tail}
 
 at_here : (key : List ℕ) (o : Member) (ms : List Member) → has_key key o ≡ true → member_at (o ∷ ms) key ≡ Some o
@@ -326,6 +327,11 @@ module _ (es : List Entry) (key : List ℕ) (new : Bool) (h : lookup (bytes_eq k
 
 -- ---- what the calls leave
 
+pub none_held : (es : List Entry) → es ≡ [] → IsBaggage (entry_members es) × (0 ≡ weight (entry_members es))
+none_held es is =
+    subst (λ l. IsBaggage (entry_members l) × (0 ≡ weight (entry_members l))) (sym is)
+    (record { few = omega arith; distinct = distinct_none; valid = All-nil IsValidMember; light = omega arith }, refl)
+
 pub record Inserted (old new : List Member) (m : Member) (n : ℕ) : Type 0 where
   pub baggage : IsBaggage new
   pub sum : n ≡ weight new
@@ -353,9 +359,18 @@ pub record Removed (old new : List Member) (key : List ℕ) (m : Member) : Type 
   pub list : new ≡ remove old key
   pub given : Some (m.value, m.metadata) ≡ get_with_metadata old key
 
+pub found_pair : (es : List Entry) (key : List ℕ) (i : ℕ) → position (bytes_eq key) (keys_of es) ≡ Some i → option_map (λ (o : Entry). o.1) (slice_get es i) ≡ get_with_metadata (entry_members es) key
+found_pair es key i p = sym (slice_get-map (λ (o : Entry). o.1) es i) ∙ sym (Found-position (bytes_eq key) es i p).value ∙ get_is es key
+
 pub found_at : (es : List Entry) (key : List ℕ) (i : ℕ) (e : Entry) → position (bytes_eq key) (keys_of es) ≡ Some i → Some e ≡ slice_get es i → Some e.1 ≡ get_with_metadata (entry_members es) key
-found_at es key i e p at =
-    ap (option_map (λ (o : Entry). o.1)) at ∙ sym (slice_get-map (λ (o : Entry). o.1) es i) ∙ sym (Found-position (bytes_eq key) es i p).value ∙ get_is es key
+found_at es key i e p at = ap (option_map (λ (o : Entry). o.1)) at ∙ found_pair es key i p
+
+pub not_past : (es : List Entry) (key : List ℕ) (i : ℕ) → position (bytes_eq key) (keys_of es) ≡ Some i → None ≡ slice_get es i → ⊥
+not_past es key i p none =
+    ⊎_elim
+    (λ at. let same : None ≡ Some at.0 = none ∙ at.2 in absurd (cc))
+    (λ past. omega (arith, (Found-position (bytes_eq key) es i p).within, past.0))
+    (slice_get_cases es i).1
 
 pub not_found : (es : List Entry) (key : List ℕ) → position (bytes_eq key) (keys_of es) ≡ None → get_with_metadata (entry_members es) key ≡ None
 not_found es key p = sym (get_is es key) ∙ (Missing-position (bytes_eq key) es p).value

@@ -16,6 +16,10 @@ entry_member e = member_of e.0 e.1.0 e.1.1
 abbrev pub entry_members : List Entry → List Member
 entry_members es = map entry_member es
 
+-- What a pair of references points to.
+abbrev pub lent_entry : Bor (List ℕ) × Bor (List ℕ × List ℕ) → Entry
+lent_entry p = deref_pair p
+
 -- The member that a pair of references stands for.
 abbrev pub lent_member : Bor (List ℕ) × Bor (List ℕ × List ℕ) → Member
-lent_member p = entry_member (deref_pair p)
+lent_member p = entry_member (lent_entry p)

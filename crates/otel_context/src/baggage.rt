@@ -2,12 +2,10 @@
 //!
 //! A contract sees a baggage as the list of its members, each a key with its value and its metadata
 //! (W3C baggage, `list-member`): at most 64 with distinct keys, and at most 8192 bytes in all.
-ghost use Rattle.std.specs.Prelude.{◌≡◌, List, [], length, position, map as map_list, Some, IfOk};
+ghost use Rattle.std.specs.Prelude.{◌≡◌, List, [], length, map as map_list, Some, IfOk};
 ghost use Rattle.std.specs.Prelude.{IsOk, IsTrue, ◌↔◌};
-ghost use Rattle.std.specs.Map.{keys_of};
 ghost use Rattle.std.specs.Map.Iter.{ShowsInOrder};
 ghost use Rattle.std.specs.Option.{option_copied};
-ghost use Rattle.std.specs.Str.{bytes_eq};
 ghost use Rattle.otel_context.specs.Baggage.{accepts, get, get_with_metadata, Inserts, replaced};
 ghost use Rattle.otel_context.specs.Baggage.{replaced_value, remove, from_members, IsBaggage};
 ghost use Rattle.otel_context.specs.BaggageHeader.{header};
@@ -17,15 +15,15 @@ ghost use Rattle.otel_context.specs.KeyValueMetadata.{from_key_value, AreTexts};
 
 mod header;
 mod key;
+mod members;
 mod metadata;
 mod weight;
 
 use self::header::write_header;
+use self::members::{Entries, Members};
 pub use self::metadata::{BaggageMetadata, KeyValueMetadata};
 pub use self::weight::{MAX_KEY_VALUE_PAIRS, MAX_LEN_OF_ALL_PAIRS};
 use self::weight::{weight_after, weight_of};
-use crate::names::{Name, is_same};
-use indexmap::{IndexMap, map};
 use otel_base::{Key, KeyValue, StringValue};
 use std::alloc::{AllocError, Global};
 use std::fmt;
@@ -49,7 +47,7 @@ use std::marker::Model;
 /// ```
 #[derive(Debug, Drop)]
 pub struct Baggage {
-    inner: IndexMap<Key, (StringValue, BaggageMetadata)>,
+    inner: Members,
     // The bytes of all keys, values and metadata in `inner`.
     content_len: usize,
 }
@@ -62,10 +60,10 @@ impl Model for Baggage {
 
     ghost Value = { List Member };
 
-    ghost view = { λ b. entry_members b.inner.entries };
+    ghost view = { λ b. entry_members b.inner };
 
-    ghost invariant = { λ b. IsBaggage (entry_members b.inner.entries)
-        × (b.content_len ≡ weight (entry_members b.inner.entries)) };
+    ghost invariant = { λ b. IsBaggage (entry_members b.inner)
+        × (b.content_len ≡ weight (entry_members b.inner)) };
 }
 
 impl Baggage {
@@ -74,14 +72,15 @@ impl Baggage {
         ensures { result ≡ [] }
     {
         Baggage {
-            inner: IndexMap::new(alloc),
+            inner: Members::new(alloc),
             content_len: 0,
         }
     }
 
     /// Returns the value of the key, or `None` if no member has the key.
     ///
-    /// Compares at most 64 keys, and takes no memory.
+    /// Takes no memory. Up to four keys are compared one by one; among more, the key is found by
+    /// its hash.
     pub fn get(&self, key: &str) -> Option<&StringValue>
         ensures { option_copied result ≡ get self.now key.now }
     {
@@ -91,13 +90,12 @@ impl Baggage {
 
     /// Returns the value and the metadata of the key, or `None` if no member has the key.
     ///
-    /// Compares at most 64 keys, and takes no memory.
+    /// Finds the key as [`get`](Self::get) does, and takes no memory.
     pub fn get_with_metadata(&self, key: &str) -> Option<&(StringValue, BaggageMetadata)>
         ensures { option_copied result ≡ get_with_metadata self.now key.now }
     {
-        let index = index_of(&self.inner, key)?;
-        let (_, pair) = self.inner.get_index(index)?;
-        Some(pair)
+        let index = self.inner.index_of(key)?;
+        self.inner.pair_at(index)
     }
 
     /// Sets the value of the key, with empty metadata, and returns the value that it replaces.
@@ -146,7 +144,7 @@ impl Baggage {
         let name = key.as_str();
         let text = value.as_str();
         let properties = metadata.as_str();
-        let pair = self.inner.get(&key);
+        let pair = self.get_with_metadata(name);
         let Some(total) = weight_after(&self.inner, self.content_len, name, pair, text, properties)
         else {
             return Ok(None);
@@ -159,7 +157,7 @@ impl Baggage {
     /// Returns `true` if the member is accepted: if an insert of it, as
     /// [`insert_with_metadata`](Self::insert_with_metadata) does, would set it.
     ///
-    /// Compares at most 64 keys, and takes no memory. Not in the Rust crate.
+    /// Finds the key as [`get`](Self::get) does, and takes no memory. Not in the Rust crate.
     pub fn accepts(&self, key: &str, value: &str, metadata: &str) -> bool
         ensures { let m = member_of key.now value.now metadata.now in
             result ≡ accepts self.now m }
@@ -171,14 +169,14 @@ impl Baggage {
     /// Removes the member with the key, and returns its value and metadata, or `None` if no member
     /// has the key.
     ///
-    /// The others keep their order, and the member's bytes no longer count. Compares at most 64
-    /// keys, and takes no memory.
+    /// The others keep their order, and the member's bytes no longer count. Finds the key as
+    /// [`get`](Self::get) does, and takes no memory.
     pub fn remove(&mut self, key: &str) -> Option<(StringValue, BaggageMetadata)>
         ensures list { self.new ≡ remove self.old key.now }
         ensures old { result ≡ get_with_metadata self.old key.now }
     {
-        let index = index_of(&self.inner, key)?;
-        let (name, pair) = self.inner.shift_remove_index(index)?;
+        let index = self.inner.index_of(key)?;
+        let (name, pair) = self.inner.remove_at(index)?;
         self.content_len -= weight_of(name.as_str(), &pair);
         Some(pair)
     }
@@ -196,7 +194,7 @@ impl Baggage {
         ensures empty { IsTrue result ↔ (self.now ≡ []) }
         ensures baggage { IsBaggage self.now }
     {
-        self.inner.is_empty()
+        self.len() == 0
     }
 
     /// Returns an iterator over the members in order, each a key with its value and metadata. It
@@ -289,19 +287,6 @@ impl Baggage {
     }
 }
 
-/// The greatest number of members that a look-up walks. It finds a key among more by its hash.
-const WALKED: usize = 4;
-
-/// Returns the index of the key, if present.
-fn index_of(held: &IndexMap<Key, (StringValue, BaggageMetadata)>, key: &str) -> Option<usize>
-    ensures { result ≡ position (bytes_eq key.now) (keys_of held.now.entries) }
-{
-    if held.len() <= WALKED {
-        return held.keys().position(|name| is_same(key, name.as_str()));
-    }
-    held.get_index_of(Name { text: key })
-}
-
 impl fmt::Display for Baggage {
     ghost output = { λ baggage. Some (header baggage) };
 
@@ -332,7 +317,7 @@ impl<'a> IntoIterator for &'a Baggage {
 /// ```
 #[derive(Debug, Drop)]
 pub struct Iter<'a> {
-    entries: map::Iter<'a, Key, (StringValue, BaggageMetadata)>,
+    entries: Entries<'a>,
 }
 
 impl<'a> Model for Iter<'a> {

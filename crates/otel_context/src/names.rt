@@ -1,30 +1,74 @@
-//! Comparing names.
+//! Names: the texts by which keys are found.
 ghost use Rattle.std.specs.Prelude.{◌≡◌};
 ghost use Rattle.std.specs.Str.{bytes_eq};
+ghost use Rattle.otel_context.specs.Names.{text_of};
 
-use indexmap::Equivalent;
 use otel_base::Key;
+use std::fmt;
+use std::hash::{Hash, Hasher};
 
-/// A text by which a map is asked for the key that has that text.
-#[derive(Clone, Copy, PartialEq, Eq, Hash)]
-pub struct Name<'a> {
-    pub text: &'a str,
+/// A key that a map holds, or a text by which the map is asked for it. Equality and hash depend on
+/// the text only, so asking takes no memory.
+#[derive(Drop)]
+pub enum Name<'a> {
+    Held(Key),
+    Asked(&'a str),
 }
 
-impl<'a> Equivalent<Key> for Name<'a> {
-    ghost use Rattle.std.proofs.Common.{ap};
-    ghost use Rattle.std.specs.Cmp.Lexicographic.{bytes_decides, nat_list_eq_equiv};
+impl Name<'_> {
+    /// Returns the text.
+    pub fn as_str(&self) -> &str
+        ensures { result.now ≡ text_of self.now }
+    {
+        match self {
+            Name::Held(key) => key.as_str(),
+            Name::Asked(text) => text,
+        }
+    }
+}
+
+impl PartialEq for Name<'_> {
+    ghost use Rattle.std.specs.Cmp.{partial_equiv_from_equiv};
+    ghost use Rattle.std.specs.Cmp.Lexicographic.{on_texts_equal};
+    ghost use Rattle.otel_context.specs.Names.{text_of, has_same_text};
+
+    ghost eq = { has_same_text };
+
+    ghost laws = { partial_equiv_from_equiv (on_texts_equal text_of) };
+
+    fn eq(&self, other: &Self) -> bool {
+        is_same(self.as_str(), other.as_str())
+    }
+}
+
+impl Eq for Name<'_> {
+    ghost use Rattle.std.specs.Cmp.Lexicographic.{on_texts_equal};
+    ghost use Rattle.otel_context.specs.Names.{text_of};
+
+    ghost laws = { on_texts_equal text_of };
+}
+
+impl Hash for Name<'_> {
     ghost use Rattle.std.specs.Hash as fed;
-    ghost use Rattle.std.specs.Str.{bytes_eq};
+    ghost use Rattle.std.proofs.Common.{ap};
+    ghost use Rattle.std.specs.Cmp.Lexicographic.{bytes_decides};
+    ghost use Rattle.otel_context.specs.Names.{text_of};
 
-    ghost equivalent = { λ name key. bytes_eq name.text.now key };
+    ghost hash_input = { λ name. fed.str (text_of name) };
 
-    ghost respects_hash = { λ name key h. ap fed.str ((bytes_decides name.text.now key).0 h) };
+    ghost respects_eq = { λ x y h. ap fed.str ((bytes_decides (text_of x) (text_of y)).0 h) };
 
-    ghost respects_eq = { λ name x y. nat_list_eq_equiv.congr name.text.now x y };
+    fn hash<H: Hasher>(&self, state: &mut H) {
+        self.as_str().hash(state);
+    }
+}
 
-    fn equivalent(&self, key: &Key) -> bool {
-        is_same(self.text, key.as_str())
+impl fmt::Debug for Name<'_> {
+    fn fmt<W: fmt::Write>(&self, f: &mut fmt::Formatter<W>) -> fmt::Result {
+        match self {
+            Name::Held(key) => fmt::Debug::fmt(key, f),
+            Name::Asked(text) => fmt::Debug::fmt(text, f),
+        }
     }
 }
 

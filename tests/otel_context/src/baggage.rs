@@ -7,8 +7,9 @@ mod metadata;
 use otel_base::{Array, Key, KeyValue, StringValue, Value};
 use otel_context::baggage::{Baggage, BaggageMetadata, KeyValueMetadata};
 use std::alloc::{AllocError, Global};
+use std::process::Abort;
 use std::test::Fail;
-use test_support::baggage_of;
+use test_support::{Member, baggage_of};
 
 /// What the baggage prints.
 fn printed(alloc: Global, baggage: &Baggage) -> Result<String, AllocError> {
@@ -60,6 +61,57 @@ fn look_ups_give_the_pair(rt: HostRuntime) -> Result<(), Fail> {
     assert_eq!(rt; text_of(baggage.get("m")), "none");
     assert_eq!(rt; metadata_of(baggage.get_with_metadata("k")), "m");
     Ok(())
+}
+
+/// Six members, so many that a look-up goes by hash. `tenant` is the beginning of `tenants`.
+const SIX: &[Member] = &[
+    ("tenant", "acme", "m"),
+    ("tenants", "2", ""),
+    ("region", "eu", "ttl=30"),
+    ("user", "7", ""),
+    ("user-id", "8", "n"),
+    ("plan", "free", "o"),
+];
+
+/// Names that none of [`SIX`] has: beginnings of theirs, longer ones, another case.
+const ABSENT: &[&str] = &[
+    "", "t", "tenan", "use", "user-", "regions", "user-ids", "Plan", "x",
+];
+
+/// Asserts that each member is found by a text of its own, with its value and its metadata, and
+/// that nothing else is found.
+fn assert_found(
+    rt: &impl Abort,
+    alloc: Global,
+    baggage: &Baggage,
+    members: &[Member],
+) -> Result<(), Fail> {
+    for (key, value, metadata) in members {
+        let asked = String::from_str(alloc, *key)?;
+        let pair = baggage.get_with_metadata(asked.as_str());
+        assert_eq!(rt; text_of(baggage.get(asked.as_str())), *value);
+        assert_eq!(rt; text_of(pair.map(|pair| &pair.0)), *value);
+        assert_eq!(rt; metadata_of(pair), *metadata);
+    }
+    for absent in ABSENT {
+        assert!(rt; baggage.get(*absent).is_none());
+        assert!(rt; baggage.get_with_metadata(*absent).is_none());
+    }
+    assert_eq!(rt; baggage.len(), members.len());
+    Ok(())
+}
+
+#[test]
+fn more_than_four_members_are_found(rt: HostRuntime) -> Result<(), Fail> {
+    let mut baggage = baggage_of(rt.alloc(), SIX)?;
+    assert_found(&rt, rt.alloc(), &baggage, SIX)?;
+    assert!(rt; baggage.remove("user-").is_none());
+    let removed = baggage.remove("tenant");
+    assert_eq!(rt; text_of(removed.as_ref().map(|pair| &pair.0)), "acme");
+    assert_eq!(rt; metadata_of(removed.as_ref()), "m");
+    assert!(rt; baggage.get("tenant").is_none());
+    assert!(rt; baggage.remove("tenant").is_none());
+    assert_found(&rt, rt.alloc(), &baggage, &SIX[1..])
 }
 
 #[test]

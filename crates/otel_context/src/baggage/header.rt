@@ -6,8 +6,8 @@ ghost use Rattle.otel_context.specs.BaggageHeader.{header, member_text};
 ghost use Rattle.otel_context.specs.BaggageText.{escaped};
 ghost use Rattle.otel_context.specs.BaggageView.{entry_member, entry_members};
 
+use super::members::Members;
 use super::metadata::BaggageMetadata;
-use indexmap::IndexMap;
 use otel_base::{Key, StringValue};
 use percent_encoding::{AsciiSet, NON_ALPHANUMERIC, PercentEncode, ascii_set, utf8_percent_encode};
 use std::fmt;
@@ -45,11 +45,8 @@ fn write_member<W: fmt::Write>(
 }
 
 /// Writes the members in order, joined by commas, in one pass.
-pub(super) fn write_header<W: fmt::Write>(
-    held: &IndexMap<Key, (StringValue, BaggageMetadata)>,
-    f: &mut fmt::Formatter<W>,
-) -> fmt::Result
-    ensures { let ms = entry_members held.now.entries in
+pub(super) fn write_header<W: fmt::Write>(held: &Members, f: &mut fmt::Formatter<W>) -> fmt::Result
+    ensures { let ms = entry_members held.now in
         WritesOnOk W.write_str_gives f.old result (header ms) f.new }
 {
     let mut comma = "";

@@ -9,9 +9,9 @@ ghost use Rattle.otel_context.specs.BaggageView.{entry_member, entry_members};
 ghost use Rattle.otel_context.specs.BaggageWeight.{weight_of_others, weight_after};
 
 use super::key::is_key_valid;
+use super::members::Members;
 use super::metadata::BaggageMetadata;
-use indexmap::IndexMap;
-use otel_base::{Key, StringValue};
+use otel_base::StringValue;
 
 /// The maximum number of members of a baggage (W3C baggage, "Limits").
 pub const MAX_KEY_VALUE_PAIRS: usize = 64;
@@ -43,8 +43,8 @@ fn weight_with(others: usize, key: &str, value: &str, metadata: &str) -> Option<
 
 /// Returns `true` if a member with this new key may be added: it is valid, and there are fewer than
 /// 64 members.
-fn takes_new_key(held: &IndexMap<Key, (StringValue, BaggageMetadata)>, key: &str) -> bool
-    ensures { let few = nat_lt (length held.now.entries) max_key_value_pairs in
+fn takes_new_key(held: &Members, key: &str) -> bool
+    ensures { let few = nat_lt (length held.now) max_key_value_pairs in
         result ≡ (is_key key.now && few) }
 {
     is_key_valid(key) && held.len() < MAX_KEY_VALUE_PAIRS
@@ -53,16 +53,16 @@ fn takes_new_key(held: &IndexMap<Key, (StringValue, BaggageMetadata)>, key: &str
 /// Returns the bytes of the members with other keys, or `None` if this key isn't accepted. `pair`
 /// is what the key has. A key that is present isn't checked again.
 fn weight_of_others(
-    held: &IndexMap<Key, (StringValue, BaggageMetadata)>,
+    held: &Members,
     total: usize,
     key: &str,
     pair: Option<&(StringValue, BaggageMetadata)>,
 ) -> Option<usize>
-    requires baggage { IsBaggage (entry_members held.now.entries) }
-    requires sum { total ≡ weight (entry_members held.now.entries) }
+    requires baggage { IsBaggage (entry_members held.now) }
+    requires sum { total ≡ weight (entry_members held.now) }
     requires pair { option_copied pair
-        ≡ get_with_metadata (entry_members held.now.entries) key.now }
-    ensures { result ≡ weight_of_others (entry_members held.now.entries) key.now }
+        ≡ get_with_metadata (entry_members held.now) key.now }
+    ensures { result ≡ weight_of_others (entry_members held.now) key.now }
 {
     match pair {
         Some(pair) => Some(total - weight_of(key, pair)),
@@ -79,19 +79,19 @@ fn weight_of_others(
 /// Returns the bytes of all members after inserting this one, or `None` if it isn't accepted.
 /// `pair` is what the key has.
 pub(super) fn weight_after(
-    held: &IndexMap<Key, (StringValue, BaggageMetadata)>,
+    held: &Members,
     total: usize,
     key: &str,
     pair: Option<&(StringValue, BaggageMetadata)>,
     value: &str,
     metadata: &str,
 ) -> Option<usize>
-    requires baggage { IsBaggage (entry_members held.now.entries) }
-    requires sum { total ≡ weight (entry_members held.now.entries) }
+    requires baggage { IsBaggage (entry_members held.now) }
+    requires sum { total ≡ weight (entry_members held.now) }
     requires pair { option_copied pair
-        ≡ get_with_metadata (entry_members held.now.entries) key.now }
+        ≡ get_with_metadata (entry_members held.now) key.now }
     ensures { let m = member_of key.now value.now metadata.now in
-        result ≡ weight_after (entry_members held.now.entries) m }
+        result ≡ weight_after (entry_members held.now) m }
 {
     let others = weight_of_others(held, total, key, pair)?;
     weight_with(others, key, value, metadata)
