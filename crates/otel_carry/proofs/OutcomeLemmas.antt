@@ -1,6 +1,7 @@
 -- What the program's exit status says of its input and of what was written.
-use Rattle.std.proofs.Common.{◌≡◌, ◌≢◌, ℕ, ◌≤◌, List, Option, Some, None, Result, Ok, Err, inl, inr, refl, sym, ◌∙◌, arith, subst, IfSome, IfOk, OnOk, IsOk}
+use Rattle.std.proofs.Common.{◌≡◌, ◌≢◌, ℕ, zero, suc, ◌≤◌, List, Option, Some, None, Result, Ok, Err, inl, inr, refl, sym, ◌∙◌, arith, subst, IfSome, IfOk, OnOk, IsOk}
 use Rattle.std.specs.Io.KnownBytes.{Appends, Keeps}
+use Rattle.std.specs.Result.{result_unwrap_or}
 use Rattle.std.specs.FinMap as fin
 use Rattle.otel_context.specs.Context.{ContextRecord}
 use Rattle.opentelemetry.specs.Carrier.{Pairs, TextMap}
@@ -12,7 +13,7 @@ use Rattle.otel_carry.specs.Events.{lines_of}
 use Rattle.otel_carry.specs.Failures.{status_of}
 use Rattle.otel_carry.specs.Outcome.{IsFailureOf, IsFaultyInput, IsGood, IsGoodInput}
 use Rattle.otel_carry.specs.Report.{Writes, failure_line}
-use Rattle.otel_carry.specs.Run.{Ends, IsFailureReport, IsReport, IsRunOf, IsRunText}
+use Rattle.otel_carry.specs.Run.{Ends, IsCutOff, IsFailureReport, IsReport, IsRunOf, IsRunText}
 use Rattle.otel_carry.proofs.GrammarLemmas.{never_both}
 
 -- what is appended stays
@@ -46,6 +47,13 @@ failed_not_0 Unreadable h = absurd (let one : 1 ≡ 0 = h in omega (arith, one))
 failed_not_0 NotUtf8 h = absurd (let two : 2 ≡ 0 = h in omega (arith, two))
 failed_not_0 (Line number fault) h = absurd (let two : 2 ≡ 0 = h in omega (arith, two))
 failed_not_0 NoMemory h = absurd (let one : 1 ≡ 0 = h in omega (arith, one))
+
+-- a status that is neither 0 nor 2 is 1
+is_1 : (status : ℕ) → status ≤ 2 → status ≢ 0 → status ≢ 2 → status ≡ 1
+is_1 zero most not_0 not_2 = absurd (not_0 refl)
+is_1 (suc zero) most not_0 not_2 = refl
+is_1 (suc (suc zero)) most not_0 not_2 = absurd (not_2 refl)
+is_1 (suc (suc (suc n))) most not_0 not_2 = absurd (omega (arith, most))
 
 at_ok : {T F P : Type 0} (r : Result T F) → IsOk r → OnOk r P → P
 at_ok (Ok x) h p = p
@@ -113,3 +121,21 @@ module _ (pairs : ContextRecord → Pairs) (extracted : ContextRecord → TextMa
           appended = w.appended;
         };
   }
+
+  -- the status 1 stands for a failed write, of which nothing is known
+  pub ends_or_1 : {E : Type 0} (known old new : Option (List ℕ)) (r : Result ℕ E) (status : ℕ)
+      → status ≡ result_unwrap_or r 1 → IfOk r (λ n. IfSome known (λ input. Ends pairs extracted input n old new))
+      → status ≢ 1 → IfSome known (λ input. Ends pairs extracted input status old new)
+  ends_or_1 known old new (Ok n) status said ends other =
+      subst (λ n. IfSome known (λ input. Ends pairs extracted input n old new)) (sym said) ends
+  ends_or_1 known old new (Err e) status said ends other = absurd (other said)
+
+  -- where the output is cut off, the status is neither 0 nor 2
+  pub cut_off_is_1 : {E : Type 0} (known old new : Option (List ℕ)) (r : Result ℕ E) (status : ℕ)
+      → status ≡ result_unwrap_or r 1 → IfOk r (λ n. n ≤ 2)
+      → IfOk r (λ n. IfSome known (λ input. Ends pairs extracted input n old new))
+      → IfSome known (λ input. IsCutOff pairs extracted input old new → status ≡ 1)
+  cut_off_is_1 None old new r status said most ends = tt
+  cut_off_is_1 (Some input) old new (Err e) status said most ends = λ cut. said
+  cut_off_is_1 (Some input) old new (Ok n) status said most ends = λ cut.
+      said ∙ is_1 n most (λ zero. cut.no_report (ends.report zero)) (λ two. cut.no_fault (ends.fault two))

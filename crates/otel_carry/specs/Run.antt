@@ -107,3 +107,21 @@ EndsBy composite pairs extracted input old new status =
     IfSome input (λ bytes.
     Ends (pairs_of (λ m. pairs (m.vtable, m.value)) composite)
     (extracted_of (λ m. extracted (m.vtable, m.value)) composite) bytes status old new)
+
+-- The output was cut off, as by a write that failed: neither the whole report of a run of the input
+-- is written nor the line of its first fault.
+pub record IsCutOff (pairs : ContextRecord → Pairs)
+    (extracted : ContextRecord → TextMap → ContextRecord) (input : List ℕ)
+    (old new : Option (List ℕ)) : Type 0 where
+  pub no_report : ¬ Writes (IsReport pairs extracted input) old new
+  pub no_fault : ¬ Writes (IsFailureReport 2 input) old new
+
+-- if the output was cut off, the exit status is 1, if the input is known
+abbrev pub FailsIfCutOff : {I : Type 0} {D : I → Type 0} → TextMapCompositePropagator I D
+    → ((x : I) × D x → ContextRecord → Pairs)
+    → ((x : I) × D x → ContextRecord → TextMap → ContextRecord)
+    → Option (List ℕ) → Option (List ℕ) → Option (List ℕ) → ℕ → Type 0
+FailsIfCutOff composite pairs extracted input old new status =
+    IfSome input (λ bytes.
+    IsCutOff (pairs_of (λ m. pairs (m.vtable, m.value)) composite)
+    (extracted_of (λ m. extracted (m.vtable, m.value)) composite) bytes old new → status ≡ 1)

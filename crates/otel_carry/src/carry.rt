@@ -1,10 +1,11 @@
 //! A whole run: from the bytes of the input to the lines of the output.
-ghost use Rattle.std.specs.Prelude.{◌≡◌, ◌≤◌, IsOk, IfOk, IfErr, IfSome, OnOk};
+ghost use Rattle.std.specs.Prelude.{◌≡◌, ◌≢◌, ◌≤◌, IsOk, IfOk, IfErr, IfSome, OnOk};
 ghost use Rattle.std.specs.Io.KnownBytes.{Appends};
 ghost use Rattle.otel_carry.specs.Failures.{status_of};
 ghost use Rattle.otel_carry.specs.Outcome.{IsFailureOf, IsGood, IsGoodInput};
 ghost use Rattle.otel_carry.specs.Report.{failure_line};
-ghost use Rattle.otel_carry.specs.Run.{EndsBy, ExtractsFromMap, IsRunReport, WritesRun};
+ghost use Rattle.otel_carry.specs.Run.{EndsBy, ExtractsFromMap, FailsIfCutOff, IsRunReport};
+ghost use Rattle.otel_carry.specs.Run.{WritesRun};
 
 use crate::events::events_of;
 use crate::extraction::Extracted;
@@ -21,11 +22,33 @@ use std::io::{self, Read, Write};
 /// Reads the whole input, runs its attaches and detaches, writes the report of the run, or why
 /// there is none, and flushes the output. Returns the exit status of the program.
 ///
+/// It is 0 if the whole report was written, and 2 if the input isn't UTF-8 or has a faulty line and
+/// the line that says so was written. Otherwise it is 1: the input can't be read, the injection or
+/// the extraction failed, a write or the flush failed, or memory ran out. After a failed write
+/// nothing more is written.
+pub fn carry<R: Read + Drop, W: Write>(
+    alloc: Global,
+    input: R,
+    output: &mut W,
+    composite: &TextMapCompositePropagator,
+) -> u8
+    ensures status { result ≤ 2 }
+    ensures ends { result ≢ 1 → EndsBy composite.now (λ m. pairs m) (λ m. extracted m)
+        (R.remaining input) (W.contents output.old) (W.contents output.new) result }
+    ensures failed_write { FailsIfCutOff composite.now (λ m. pairs m) (λ m. extracted m)
+        (R.remaining input) (W.contents output.old) (W.contents output.new) result }
+{
+    write_and_flush(alloc, input, output, composite).unwrap_or(1)
+}
+
+/// Reads the whole input, runs its attaches and detaches, writes the report of the run, or why
+/// there is none, and flushes the output. Returns the exit status of the program.
+///
 /// # Errors
 ///
 /// The error of a write or a flush that fails, and `OutOfMemory` if out of memory while the report
 /// is written. A prefix of the report may have been written.
-pub fn carry<R: Read + Drop, W: Write>(
+fn write_and_flush<R: Read + Drop, W: Write>(
     alloc: Global,
     input: R,
     output: &mut W,

@@ -2,7 +2,7 @@
 //! contexts, what was injected from the current one, and what is extracted again.
 #![tactic(auto)]
 
-mod carry;
+pub mod carry;
 mod events;
 mod extraction;
 mod failure;
@@ -26,7 +26,7 @@ fn serve(alloc: Global, input: Stdin, output: Stdout) -> Result<u8, AllocError> 
     members.push(Box::new(alloc, BaggagePropagator::new(alloc)?)?)?;
     let composite = TextMapCompositePropagator::new(alloc, members)?;
     let mut output = BufWriter::new(alloc, output).map_err(|_| AllocError)?;
-    Ok(carry::carry(alloc, input, &mut output, &composite).unwrap_or(1))
+    Ok(carry::carry(alloc, input, &mut output, &composite))
 }
 
 fn main(rt: HostRuntime) -> ExitCode {

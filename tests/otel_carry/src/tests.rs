@@ -16,19 +16,28 @@ use std::process::Abort;
 /// What is written where no context is attached.
 const BASE: &str = "current: base\nbaggage=\nextracted: none\n";
 
-/// Carries out the input with the program's composite.
-fn status_of<R: Read + Drop, W: Write + Drop>(
+/// Carries out the input with the program's composite, on an output without a buffer.
+fn unbuffered<R: Read + Drop, W: Write>(
     alloc: Global,
     input: R,
-    output: W,
+    output: &mut W,
 ) -> Result<u8, AllocError> {
     let mut members: Vec<Box<dyn TextMapPropagator>> = Vec::new(alloc);
     members.push(Box::new(alloc, NameMember::new(alloc)?)?)?;
     members.push(Box::new(alloc, TraceContextPropagator::new(alloc)?)?)?;
     members.push(Box::new(alloc, BaggagePropagator::new(alloc)?)?)?;
     let composite = TextMapCompositePropagator::new(alloc, members)?;
+    Ok(crate::carry::carry(alloc, input, output, &composite))
+}
+
+/// The same with a buffer, as the program has one.
+fn status_of<R: Read + Drop, W: Write + Drop>(
+    alloc: Global,
+    input: R,
+    output: W,
+) -> Result<u8, AllocError> {
     let mut output = BufWriter::new(alloc, output).map_err(|_| AllocError)?;
-    Ok(crate::carry::carry(alloc, input, &mut output, &composite).unwrap_or(1))
+    unbuffered(alloc, input, &mut output)
 }
 
 /// Checks what the program writes for this input, and its status.

@@ -86,7 +86,7 @@ fn reports_a_member_that_gives_up(rt: HostRuntime) -> Result<(), Fail> {
         members.push(Box::new(alloc, odd)?)?;
         let composite = TextMapCompositePropagator::new(alloc, members)?;
         let mut output = Vec::new(alloc);
-        let met = carry(alloc, b"attach a".as_slice(), &mut output, &composite)?;
+        let met = carry(alloc, b"attach a".as_slice(), &mut output, &composite);
         assert_eq!(rt; met, status);
         let text = format!(in alloc; "attach 0: position 1\ncurrent: a\n{lines}")?;
         assert_eq!(rt; str::from_utf8(&output), Ok(text.as_str()));
@@ -102,7 +102,7 @@ fn extracts_from_the_carrier_into_the_empty_context(rt: HostRuntime) -> Result<(
     members.push(Box::new(alloc, NameMember::new(alloc)?)?)?;
     let composite = TextMapCompositePropagator::new(alloc, members)?;
     let mut output = Vec::new(alloc);
-    let status = carry(alloc, b"attach a v=1".as_slice(), &mut output, &composite)?;
+    let status = carry(alloc, b"attach a v=1".as_slice(), &mut output, &composite);
     assert_eq!(rt; status, 0);
     let text = "attach 0: position 1\ncurrent: a\ncontext-name=a\nextracted: none\n";
     assert_eq!(rt; str::from_utf8(&output), Ok(text));
@@ -135,7 +135,7 @@ fn extracts_by_all_members_in_order(rt: HostRuntime) -> Result<(), Fail> {
         }
         let composite = TextMapCompositePropagator::new(alloc, members)?;
         let mut output = Vec::new(alloc);
-        let status = carry(alloc, b"attach a v=1".as_slice(), &mut output, &composite)?;
+        let status = carry(alloc, b"attach a v=1".as_slice(), &mut output, &composite);
         assert_eq!(rt; status, 0);
         let text = str::from_utf8(&output).unwrap_or("not UTF-8");
         assert!(rt; text.ends_with(extracted), "{text}");
