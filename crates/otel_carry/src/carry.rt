@@ -22,10 +22,10 @@ use std::io::{self, Read, Write};
 /// Reads the whole input, runs its attaches and detaches, writes the report of the run, or why
 /// there is none, and flushes the output. Returns the exit status of the program.
 ///
-/// It is 0 if the whole report was written, and 2 if the input isn't UTF-8 or has a faulty line,
-/// and the line of the first fault was written. Otherwise it is 1: the input can't be read, the
-/// injection or the extraction failed, a write or the flush failed, or memory ran out. After a
-/// failed write nothing more is written.
+/// It is 0 if the whole report was written, and 2 if the input isn't UTF-8 or has a faulty line and
+/// the line that says so was written. Otherwise it is 1: the input can't be read, the injection or
+/// the extraction failed, a write or the flush failed, or memory ran out. After a failed write
+/// nothing more is written.
 pub fn carry<R: Read + Drop, W: Write>(
     alloc: Global,
     input: R,

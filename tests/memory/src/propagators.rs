@@ -3,6 +3,7 @@ mod carriers;
 mod composites;
 mod headers;
 mod http;
+mod runs;
 
 use crate::lines::Lines;
 use std::alloc::Global;
@@ -12,4 +13,5 @@ pub fn play<R: Print>(alloc: Global, lines: &Lines<'_, R>) {
     composites::play(alloc, lines);
     headers::play(alloc, lines);
     http::play(alloc, lines);
+    runs::play(alloc, lines);
 }

@@ -4,6 +4,9 @@ use opentelemetry::propagation::{Extractor, Injector, PropagationError};
 use std::alloc::{AllocError, Global};
 use std::collections::HashMap;
 
+/// The key of the text that a carrier begins with.
+pub const KEPT: &str = "kept";
+
 pub fn play<R: Print>(alloc: Global, lines: &Lines<'_, R>) {
     if lines.begin("carrier-set") {
         lines.end(set(alloc, lines));
@@ -20,12 +23,13 @@ pub fn play<R: Print>(alloc: Global, lines: &Lines<'_, R>) {
 pub fn carrier(alloc: Global) -> Result<HashMap<String, String>, AllocError> {
     let mut carrier: HashMap<String, String> = HashMap::new(alloc);
     let value = String::from_str(alloc, "0")?;
-    let key = String::from_str(alloc, "kept")?;
+    let key = String::from_str(alloc, KEPT)?;
     carrier.insert(key, value)?;
     Ok(carrier)
 }
 
-fn holds(carrier: &HashMap<String, String>, key: &str, value: &str) -> bool {
+/// Whether the carrier holds this value under the key.
+pub fn holds(carrier: &HashMap<String, String>, key: &str, value: &str) -> bool {
     match carrier.get(key) {
         Some(held) => held.as_str() == value,
         None => false,
@@ -34,11 +38,11 @@ fn holds(carrier: &HashMap<String, String>, key: &str, value: &str) -> bool {
 
 /// Whether the first so many of `kept` and `x` are there with their values, and nothing else.
 fn is_beginning(carrier: &HashMap<String, String>, len: usize) -> bool {
-    carrier.len() == len && holds(carrier, "kept", "0") && (len < 2 || holds(carrier, "x", "1"))
+    carrier.len() == len && holds(carrier, KEPT, "0") && (len < 2 || holds(carrier, "x", "1"))
 }
 
 /// Whether the carrier holds the texts under a beginning of these keys, and nothing else.
-fn holds_beginning(carrier: &HashMap<String, String>, keys: &[&str]) -> bool {
+pub fn holds_beginning(carrier: &HashMap<String, String>, keys: &[&str]) -> bool {
     for place in 0..keys.len() {
         if carrier.get(keys[place]).is_some() != (place < carrier.len()) {
             return false;
@@ -57,7 +61,7 @@ pub fn injected<R: Print>(
 ) {
     let is_due = answer.is_err() || carrier.len() == keys.len();
     lines.answer_named("injected", answer);
-    lines.due(is_due && holds(carrier, "kept", "0") && holds_beginning(carrier, keys));
+    lines.due(is_due && holds(carrier, KEPT, "0") && holds_beginning(carrier, keys));
 }
 
 fn set<R: Print>(alloc: Global, lines: &Lines<'_, R>) -> Result<(), AllocError> {

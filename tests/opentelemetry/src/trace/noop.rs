@@ -3,11 +3,11 @@ use crate::members::{entry, with_text};
 use opentelemetry::context::{Context, ContextStack};
 use opentelemetry::propagation::TextMapPropagator;
 use opentelemetry::trace::noop::{NoopSpan, NoopTextMapPropagator, NoopTracer, NoopTracerProvider};
-use opentelemetry::trace::{Span, SpanContext, Status, Tracer, TracerProvider};
-use opentelemetry::{InstrumentationScope, Key, KeyValue, StringValue, Value};
+use opentelemetry::trace::{Span, SpanContext, Spans, Status, Tracer, TracerProvider};
+use opentelemetry::{InstrumentationScope, Key, KeyValue, SpanId, StringValue, TraceId, Value};
 use std::alloc::Global;
 use std::test::Fail;
-use test_support::{held, map_of, remote_span_context, span_context};
+use test_support::{held, map_of, remote_span_context, span, span_context};
 
 /// The ids of a parent, valid or not.
 const PARENTS: &[u64] = &[42, 0];
@@ -28,6 +28,27 @@ fn a_span_has_its_parents_span_context(rt: HostRuntime) -> Result<(), Fail> {
     let named = NoopTracerProvider::default().tracer(alloc, StringValue::from("m"))?;
     let span = named.start(alloc, &stack, StringValue::from("n"))?;
     assert!(rt; *span.span_context() == SpanContext::NONE);
+    Ok(())
+}
+
+/// The parent's span may be of any type. Without one the span context isn't valid.
+#[test]
+fn a_span_starts_under_a_span_that_records(rt: HostRuntime) -> Result<(), Fail> {
+    let alloc = rt.alloc();
+    let tracer = NoopTracer::new();
+    let alone = tracer.start_with_context(alloc, StringValue::from("foo"), &Context::new())?;
+    assert!(rt; *alone.span_context() == SpanContext::NONE);
+    assert!(rt; !alone.span_context().is_valid());
+    let mut spans = Spans::new(alloc);
+    let Ok(parent) = Context::new().with_span(alloc, &mut spans, span(alloc, 42)) else {
+        panic!(&rt; "the span is refused");
+    };
+    let under = tracer.start_with_context(alloc, StringValue::from("foo"), &parent)?;
+    assert_eq!(rt; under.span_context().trace_id(), TraceId::from(42));
+    assert_eq!(rt; under.span_context().span_id(), SpanId::from(42));
+    assert!(rt; *under.span_context() == span_context(42));
+    assert!(rt; under.span_context().is_valid() && !under.is_recording());
+    assert_eq!(rt; spans.len(), 1);
     Ok(())
 }
 

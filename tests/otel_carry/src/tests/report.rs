@@ -1,5 +1,5 @@
 //! Writers: what a run writes doesn't depend on how its bytes go, and a writer that fails is given up.
-use super::{INPUTS, plainly, status_of};
+use super::{BASE, INPUTS, plainly, status_of, unbuffered};
 use std::io::{self, ErrorKind, Write};
 use std::test::Fail;
 
@@ -128,11 +128,12 @@ fn a_report_that_cannot_be_flushed_ends_with_status_1(rt: HostRuntime) -> Result
     Ok(())
 }
 
-/// Fails at one write, and takes what comes after it.
+/// Fails at one write, and takes what comes after it, at most so many bytes a write.
 #[derive(Drop)]
 struct FailsOnce<'a> {
     bytes: &'a mut Vec<u8>,
     before: u32,
+    most: usize,
 }
 
 impl Write for FailsOnce<'_> {
@@ -142,7 +143,7 @@ impl Write for FailsOnce<'_> {
         if is_failing {
             return Err(io::Error::from(ErrorKind::Other));
         }
-        let count = buf.len().min(5);
+        let count = buf.len().min(self.most);
         self.bytes.extend_from_slice(&buf[..count])?;
         Ok(count)
     }
@@ -163,6 +164,7 @@ fn nothing_is_written_after_a_failed_write(rt: HostRuntime) -> Result<(), Fail> 
             let writer = FailsOnce {
                 bytes: &mut output,
                 before,
+                most: 5,
             };
             let met = status_of(alloc, input.as_bytes(), writer)?;
             if met == status {
@@ -173,6 +175,70 @@ fn nothing_is_written_after_a_failed_write(rt: HostRuntime) -> Result<(), Fail> 
             let is_beginning = wanted.as_slice().starts_with(output.as_slice());
             assert!(rt; is_beginning, "write {before} fails for {input:?}");
         }
+    }
+    Ok(())
+}
+
+/// Inputs, what is written for them, and the status.
+const REPORTS: &[(&str, &str, u8)] = &[
+    (
+        "attach a v=1\nattach b\n",
+        "attach 0: position 1\nattach 1: position 2\ncurrent: b\nbaggage=\ncontext-name=b\nextracted: none\n",
+        0,
+    ),
+    (
+        "attach a v=1\n",
+        "attach 0: position 1\ncurrent: a\nbaggage=\ncontext-name=a\ntraceparent=00-00000000000000000000000000000001-0000000000000001-01\ntracestate=v=1\nextracted: 00000000000000000000000000000001 0000000000000001\n",
+        0,
+    ),
+    ("", BASE, 0),
+    ("attach a\nattach", "line 2: unknown command\n", 2),
+    ("detach x", "line 1: bad number\n", 2),
+];
+
+/// Without a buffer each line takes a write or more. Each of them may fail: the status is then 1, and a
+/// beginning of the text is written, without its end.
+#[test]
+fn each_write_to_an_output_without_a_buffer_may_fail(rt: HostRuntime) -> Result<(), Fail> {
+    let alloc = rt.alloc();
+    for (input, report, status) in REPORTS {
+        let mut failed = 0;
+        for before in 0..200 {
+            let mut output = Vec::new(alloc);
+            let mut writer = FailsOnce {
+                bytes: &mut output,
+                before,
+                most: usize::MAX,
+            };
+            let met = unbuffered(alloc, input.as_bytes(), &mut writer)?;
+            let written = str::from_utf8(&output).unwrap_or("not UTF-8");
+            if met != 1 {
+                assert_eq!(rt; met, *status, "{input:?}");
+                assert_eq!(rt; written, *report, "{input:?}");
+                break;
+            }
+            failed = before + 1;
+            let is_part = report.starts_with(written) && written.len() < report.len();
+            assert!(rt; is_part, "write {before} fails for {input:?}: {written:?}");
+        }
+        let lines = report.lines().count();
+        assert!(rt;
+            failed as usize >= lines && failed < 200,
+            "{failed} writes failed in turn for {input:?}"
+        );
+    }
+    Ok(())
+}
+
+/// All is written, and the flush fails.
+#[test]
+fn a_flush_of_an_output_without_a_buffer_may_fail(rt: HostRuntime) -> Result<(), Fail> {
+    let alloc = rt.alloc();
+    for (input, report, _) in REPORTS {
+        let mut output = Vec::new(alloc);
+        let mut writer = NoFlush { bytes: &mut output };
+        assert_eq!(rt; unbuffered(alloc, input.as_bytes(), &mut writer)?, 1);
+        assert_eq!(rt; str::from_utf8(&output), Ok(*report));
     }
     Ok(())
 }

@@ -417,14 +417,24 @@ fn a_removal_makes_room_at_the_end(rt: HostRuntime) -> Result<(), Fail> {
     Ok(())
 }
 
+/// A replaced key keeps its place, and one that was removed comes back at the end.
 #[test]
 fn a_key_that_comes_back_goes_last(rt: HostRuntime) -> Result<(), Fail> {
-    let mut baggage = baggage_of(
-        rt.alloc(),
-        &[("a", "4", ""), ("b", "2", ""), ("c", "3", "")],
-    )?;
-    drop(baggage.remove("b"));
-    drop(baggage.insert(Key::from("b"), StringValue::from("2"))?);
+    let mut baggage = Baggage::new(rt.alloc());
+    for (key, value, old, header) in [
+        ("a", "1", "none", "a=1"),
+        ("b", "2", "none", "a=1,b=2"),
+        ("c", "3", "none", "a=1,b=2,c=3"),
+        ("a", "4", "1", "a=4,b=2,c=3"),
+    ] {
+        let replaced = baggage.insert(Key::from(key), StringValue::from(value))?;
+        assert_eq!(rt; text_of(replaced.as_ref()), old);
+        assert_eq!(rt; printed(rt.alloc(), &baggage)?.as_str(), header);
+    }
+    assert!(rt; baggage.remove("b").is_some());
+    assert_eq!(rt; printed(rt.alloc(), &baggage)?.as_str(), "a=4,c=3");
+    let replaced = baggage.insert(Key::from("b"), StringValue::from("2"))?;
+    assert_eq!(rt; text_of(replaced.as_ref()), "none");
     assert_eq!(rt; printed(rt.alloc(), &baggage)?.as_str(), "a=4,c=3,b=2");
     Ok(())
 }

@@ -31,7 +31,10 @@ fn metadata_is_cut_at_both_ends(rt: HostRuntime) -> Result<(), Fail> {
 fn metadata_is_printed_without_width_and_fill(rt: HostRuntime) -> Result<(), Fail> {
     let metadata = BaggageMetadata::new(rt.alloc(), "m1")?;
     assert_eq!(rt; format!(in rt.alloc(); "<{metadata:>4}>")?.as_str(), "<m1>");
-    assert_eq!(rt; format!(in rt.alloc(); "<{metadata:*<4}>")?.as_str(), "<m1>");
+    assert_eq!(rt;
+        format!(in rt.alloc(); "<{metadata:*<4}>")?.as_str(),
+        "<m1>"
+    );
     assert_eq!(rt; format!(in rt.alloc(); "<{metadata:.1}>")?.as_str(), "<m1>");
     Ok(())
 }
