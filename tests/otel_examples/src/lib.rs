@@ -3,6 +3,7 @@
 
 // Depends on: test_support
 
+mod active;
 mod baggage;
 mod headers;
 mod in_span;
