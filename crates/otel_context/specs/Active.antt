@@ -20,9 +20,15 @@ abbrev pub OnSpan : Type 0 → Type 0 → Type 0 → Type 1
 OnSpan F T S = Once F (MutBor (SpanRef S) × Unit {0}) (T × (MutBor (SpanRef S) × Unit {0}))
 
 module _ {F T S : Type 0} (g : OnSpan F T S) (f : F) where
-  -- f was called once, on a reference to the context's span in the table, and returned that. If it
-  -- left a reference into the same table, as each call of a `SpanRef` does, the table is as f left
-  -- it, and no other span changed
+  -- whatever reference f is lent, it leaves that one there and no other, as each call of a
+  -- `SpanRef` does
+  abbrev pub KeepsReference : Type 0
+  KeepsReference =
+      (lent left : MutBor (SpanRef S)) (returned : T)
+      → g.post f (lent, tt) (returned, (left, tt)) → IsSameReference lent.now left.now
+
+  -- f was called once, on a reference to the context's span in the table, and returned that. The
+  -- table is as f left it, and no other span changed
   pub record CallsOnce (context : ContextRecord) (old : SpansState S) (returned : T)
       (new : SpansState S) : Type 0 where
     pub before : SpanRef S
@@ -31,5 +37,5 @@ module _ {F T S : Type 0} (g : OnSpan F T S) (f : F) where
     pub span_context_is : reference.span_context before ≡ span_context context
     pub after : SpanRef S
     pub called : FnOnceReturnsAtMut g f before returned after
-    pub left : IsSameReference before after → new ≡ table_of after
-    pub others : IsSameReference before after → OthersStay (span_number context) old new
+    pub left : new ≡ table_of after
+    pub others : OthersStay (span_number context) old new

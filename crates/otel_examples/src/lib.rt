@@ -2,6 +2,7 @@
 //! in which to learn them.
 #![tactic(auto)]
 
+pub mod active;
 pub mod baggage;
 pub mod composite;
 pub mod header_names;

@@ -3,6 +3,7 @@
 
 // Depends on: test_support
 
+mod active;
 mod baggage;
 mod header_names;
 mod headers;

@@ -1,6 +1,6 @@
 //! The span of the current context.
 ghost use Rattle.std.specs.Prelude.{◌≡◌, IfOk, IfErr, IsErr, OnOk, OnErr};
-ghost use Rattle.otel_context.specs.Active.{AttachesAt, CallsOnce};
+ghost use Rattle.otel_context.specs.Active.{AttachesAt, CallsOnce, KeepsReference};
 ghost use Rattle.otel_context.specs.Context.{with_span};
 ghost use Rattle.otel_context.specs.Spans.{IsNumbered, insert, used_up, refusal, HasSameSpans};
 ghost use Rattle.otel_context.specs.Stack.{current};
@@ -52,8 +52,10 @@ pub fn mark_span_as_active<S: Span>(
 
 /// Calls `f` once on a reference to the current context's span, and returns what it returns.
 ///
-/// The calls of [`SpanRef`] say what `f` does to the span; they change no other span of the table.
-/// If `f` replaces the reference that it was lent, nothing is promised about the table.
+/// The calls of [`SpanRef`] say what `f` does to the span. No other span of the table changes.
+///
+/// `f` puts no other reference in the place of the one that it is lent. The prover sees that of a
+/// closure whose body is calls of the reference, as here:
 ///
 /// ```
 /// get_active_span(&stack, &mut spans, |span| span.end(NOW));
@@ -63,7 +65,8 @@ pub fn get_active_span<T, S: Span, F: FnOnce(&mut SpanRef<'_, S>) -> T>(
     spans: &mut Spans<S>,
     f: F,
 ) -> T
-    requires { F.IsAlwaysCallable f }
+    requires callable { F.IsAlwaysCallable f }
+    requires keeps { KeepsReference F.FnOnce f }
     ensures { CallsOnce F.FnOnce f (current stack.now.live) spans.old result spans.new }
 {
     let mut active = stack.current().span(spans);

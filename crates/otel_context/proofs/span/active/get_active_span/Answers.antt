@@ -11,6 +11,7 @@ returns g c =
     let after = c.f.new.arg2 in
     let made = c.span-active.ensures in
     let number : before.number ≡ span_number (current c.args.stack.now.live) = made.number ∙ ap span_number c.current.ensures in
+    let same : IsSameReference before after = c.requires.keeps _ _ _ c.f.ensures in
     record {
       before = before;
       table = made.table;
@@ -18,6 +19,6 @@ returns g c =
       span_context_is = made.context ∙ ap span_context c.current.ensures;
       after = after;
       called = record { shown = _; shows = refl; left = _; met = c.f.ensures; leaves = refl };
-      left = λ (same : IsSameReference before after). search rules;
-      others = λ (same : IsSameReference before after). OthersStay-along _ after.number _ after.first.value _ after.spans.now (same.number ∙ number) (same.first ∙ made.first) (search rules) after.others;
+      left = search (rules, same);
+      others = OthersStay-along _ after.number _ after.first.value _ after.spans.now (same.number ∙ number) (same.first ∙ made.first) (search (rules, same)) after.others;
     }
