@@ -37,7 +37,7 @@ impl PartialEq for Name<'_> {
     ghost laws = { partial_equiv_from_equiv (on_texts_equal text_of) };
 
     fn eq(&self, other: &Self) -> bool {
-        is_same(self.as_str(), other.as_str())
+        self.as_str() == other.as_str()
     }
 }
 

@@ -130,8 +130,19 @@ fn index_of<'a>(
     if map.len() <= WALKED {
         walk(map, key)
     } else {
-        map.get_index_of(&Name::Asked(key))
+        find(map, key)
     }
+}
+
+/// Returns the index of the key, if present, by its hash. Out of line, so that a walk stays short.
+#[inline(never)]
+fn find<'a>(
+    map: &'a IndexMap<Name<'a>, (StringValue, BaggageMetadata)>,
+    key: &'a str,
+) -> Option<usize>
+    ensures { result ≡ position (bytes_eq key.now) (keys_of (entries_of map.now.entries)) }
+{
+    map.get_index_of(&Name::Asked(key))
 }
 
 /// Returns the index of the key, if present, by comparing key after key.

@@ -5,6 +5,3 @@ use Rattle.otel_context.proofs.baggage.members.index_of.Goals as goal
 
 pub returns-then-len-le-WALKED : goal.returns-then-len-le-WALKED
 returns-then-len-le-WALKED c = c.walk.ensures ∙ position_is (Asked c.args.key) c.args.map.now.entries
-
-pub returns-else-len-le-WALKED : goal.returns-else-len-le-WALKED
-returns-else-len-le-WALKED c = c.get_index_of.ensures.index ∙ position_is (Asked c.args.key) c.args.map.now.entries
