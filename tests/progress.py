@@ -2,7 +2,7 @@
 """Shows where long work is: one line, rewritten in place on a terminal, elsewhere printed at most every 15 seconds.
 
     tests/progress.py [--part] WHAT CMD ..     runs the command, and shows what it is at under this name
-    tests/progress.py --failing FILE           the lines of the prover in the file that say what isn't proved
+    tests/progress.py --failing FILE           the lines of the file that say what failed
 
 What the command prints goes to a file. If it succeeds, one line says what was proved or passed and how long that took, and the
 file is removed; if it fails, the failing part is shown and the file is named. With --part the command is one that ends with a
@@ -26,9 +26,10 @@ from built import below, crates
 # The seconds between two lines where they can't be rewritten, and the variable that says so to a command below this one.
 APART, BELOW = 15, "PROGRESS_IS_SHOWN_ABOVE"
 MARK = ".. "
-# Lines of rt and of the prover that say nothing of what isn't proved.
+# Lines of rt, of the prover and of the tests that say nothing of what failed.
 QUIET = re.compile(r".*: proved$|checked \S+, \d+ of \d+$|so far: |statements |by-macro: |crate \w+: modules|logic \S+: |"
-                   r"by checked crates: |empty contracts: |rt: (chose|\w+: begins with|\w+ proved$|\w+ is kept)|\s*$|" + re.escape(MARK))
+                   r"by checked crates: |empty contracts: |rt: (chose|\w+: begins with|\w+ proved$|\w+ is kept)|"
+                   r"\S+: refused\b|test \S+ \.\.\. ok$|ok |\s*$|" + re.escape(MARK))
 # So much of a failing part is shown, in lines and in characters of a line.
 SHOWN, WIDTH = 60, 240
 
@@ -123,7 +124,7 @@ class Told:
 
 
 def failing(text):
-    """The lines of a log that say what isn't proved, or its last ones if none does."""
+    """The lines of a log that say what failed, or its last ones if none does."""
     lines = [it[:WIDTH] for it in text.rstrip("\n").split("\n")]
     found = [it for it in lines if not QUIET.match(it)]
     return "\n".join((found or lines)[-SHOWN:])
