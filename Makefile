@@ -42,65 +42,65 @@ IS_CRATE = @$(if $(filter $(CRATE),$(CRATES)),true,echo 'make $@: name a crate, 
 .PHONY: run prove example example-c test check tests edit mutants vectors otlp c misuse memory long calls fuzz documents bench
 
 run:
-	@program=$$(tests/programs.py path otel_carry) && "$$program" $(GIVEN)
+	@program=$$(tests/tools/programs.py path otel_carry) && "$$program" $(GIVEN)
 
 prove:
-	@tests/programs.py prove
+	@tests/tools/programs.py prove
 
 example:
-	@program=$$(tests/programs.py path otel_service) && spans=crates/otel_service/out/spans.jsonl && rm -f "$$spans" \
+	@program=$$(tests/tools/programs.py path otel_service) && spans=crates/otel_service/out/spans.jsonl && rm -f "$$spans" \
 		&& for input in examples/service /dev/null; do "$$program" --fixed --waterfall < "$$input" || exit; done \
 		&& "$$program" "$$spans" < examples/service > /dev/null && echo "the spans as lines of JSON: $$spans" >&2
 
 example-c:
-	@archive=$$(tests/programs.py archive) && room=$$(mktemp -d) && trap 'rm -rf "$$room"' EXIT \
+	@archive=$$(tests/tools/programs.py archive) && room=$$(mktemp -d) && trap 'rm -rf "$$room"' EXIT \
 		&& cc -Icrates/otel_c/include examples/c/forward.c "$$archive" "$$(dirname "$$(rt doc)")/c/liblibc_c.a" -o "$$room/forward" \
 		&& "$$room/forward" < examples/c/received
 
 test:
-	@tests/all
+	@tests/tools/all
 
 check:
 	$(IS_CRATE)
-	@cd "crates/$(CRATE)" && ../../tests/progress.py 'check $(CRATE)' rt check
+	@cd "crates/$(CRATE)" && ../../tests/tools/progress.py 'check $(CRATE)' rt check
 
 tests:
-	@tests/unit "$(CRATE)" "$(TEST)"
+	@tests/tools/unit "$(CRATE)" "$(TEST)"
 
 edit:
 	$(IS_CRATE)
-	@tests/edits "$(CRATE)" "$(EDIT)"
+	@tests/tools/edits "$(CRATE)" "$(EDIT)"
 
 mutants:
-	@tests/edits $(CRATE)
+	@tests/tools/edits $(CRATE)
 
 vectors:
-	@tests/progress.py --part vectors tests/vectors/run
+	@tests/tools/progress.py --part vectors tests/vectors/run
 
 otlp:
-	@tests/progress.py --part otlp tests/otlp/run
+	@tests/tools/progress.py --part otlp tests/otlp/run
 
 c:
-	@tests/progress.py --part 'calls from C' tests/c/run
+	@tests/tools/progress.py --part 'calls from C' tests/c/run
 
 misuse:
-	@tests/progress.py --part misuse tests/misuse/run $(CASE)
+	@tests/tools/progress.py --part misuse tests/misuse/run $(CASE)
 
 memory:
-	@program=$$(tests/programs.py path otel_carry) && tests/progress.py --part 'runs out of memory' tests/memory/sweep "$$program"
+	@program=$$(tests/tools/programs.py path otel_carry) && tests/tools/progress.py --part 'runs out of memory' tests/memory/sweep "$$program"
 
 long:
-	@for name in otel_carry otel_service; do program=$$(tests/programs.py path $$name) \
-		&& tests/progress.py --part 'long inputs' tests/long/run $$name "$$program" || exit; done
+	@for name in otel_carry otel_service; do program=$$(tests/tools/programs.py path $$name) \
+		&& tests/tools/progress.py --part 'long inputs' tests/long/run $$name "$$program" || exit; done
 
 calls:
 	@tests/memory/calls
 
 fuzz:
-	@tests/progress.py --part fuzz tests/fuzz/run "$(COUNT)" "$(SEED)"
+	@tests/tools/progress.py --part fuzz tests/fuzz/run "$(COUNT)" "$(SEED)"
 
 documents:
-	@tests/documents
+	@tests/tools/documents
 
 bench:
-	@tests/progress.py --part bench bench/run
+	@tests/tools/progress.py --part bench bench/run

@@ -6,7 +6,7 @@ import sys
 
 HERE = os.path.dirname(os.path.abspath(__file__))
 sys.dont_write_bytecode = True
-sys.path.insert(0, os.path.dirname(HERE))
+sys.path.insert(0, f"{os.path.dirname(HERE)}/tools")
 import unproved
 from built import crates
 from unproved import Failed
@@ -14,7 +14,7 @@ from unproved import Failed
 NAME = "memory_scenarios"
 # The crates that the scenarios call.
 CALLED = (
-    "otel_appender_log", "otel_http", "otel_propagators", "otel_recording", "otel_sdk", "otel_sdk_logs", "otel_stdout",
+    "otel_appender_log", "otel_http", "otel_propagators", "otel_recording", "otel_sdk", "otel_sdk_logs", "otel_otlp",
     "otel_waterfall",
 )
 

@@ -28,7 +28,7 @@ use otel_sdk::trace::{
     BatchConfigBuilder, BatchSpanProcessor, Clock, CountedIdGenerator, InMemorySpanExporter,
     Pipeline, SdkTracer, SdkTracerProvider, SpanExporter, SpanProcessor, SystemClock,
 };
-use otel_stdout::OtlpJsonSpanExporter;
+use otel_otlp::OtlpJsonSpanExporter;
 use otel_waterfall::WaterfallExporter;
 use requests::serve_all;
 use service::Service;

@@ -4,7 +4,7 @@ use opentelemetry::logs::{AnyValue, LogRecord, Severity};
 use opentelemetry::trace::{SpanId, TraceFlags, TraceId};
 use opentelemetry::{InstrumentationScope, Key, StringValue};
 use otel_sdk_logs::{LogData, LogExporter, SdkLogRecord};
-use otel_stdout::OtlpJsonLogExporter;
+use otel_otlp::OtlpJsonLogExporter;
 use std::alloc::{AllocError, Global};
 use std::io::{self, ErrorKind, Write};
 use std::rc::Rc;

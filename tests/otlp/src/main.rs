@@ -9,7 +9,7 @@ use opentelemetry::trace::{
 use opentelemetry::{Array, InstrumentationScope, Key, KeyValue, StringValue, Value};
 use otel_sdk_span::resource::Resource;
 use otel_sdk_span::{SpanData, SpanEvents, SpanExporter, SpanLinks};
-use otel_stdout::OtlpJsonSpanExporter;
+use otel_otlp::OtlpJsonSpanExporter;
 use std::alloc::{AllocError, Global};
 use std::io::{self, ErrorKind, Write};
 use std::rc::Rc;

@@ -5,7 +5,7 @@ use opentelemetry::logs::{AnyValue, LogRecord, Severity};
 use opentelemetry::trace::{SpanId, TraceFlags, TraceId};
 use opentelemetry::{InstrumentationScope, Key, StringValue};
 use otel_sdk::logs::{LogData, LogExporter, SdkLogRecord};
-use otel_stdout::{OtlpJsonLogExporter, logs_data, logs_text};
+use otel_otlp::{OtlpJsonLogExporter, logs_data, logs_text};
 use std::alloc::{AllocError, Global};
 use std::io;
 use std::rc::Rc;

@@ -1,0 +1,43 @@
+-- Records under their scopes, and these under a resource: what batches of spans and of log records
+-- share [opentelemetry/proto/trace/v1/trace.proto, logs/v1/logs.proto].
+use Rattle.std.specs.Prelude.{List, [], ◌∷◌, ◌++◌, map, ℕ, Bool, codes, if◌then◌else◌, filter}
+use Rattle.std.specs.List.{list_any}
+use Rattle.otel_base.specs.InstrumentationScope as scope
+use Rattle.otel_base.specs.InstrumentationScope.{Scope}
+use Rattle.otel_sdk_span.specs.Resource.{Parts}
+use Rattle.serde_json.specs.Data.{Data}
+use Rattle.otel_otlp.specs.Common.{instrumentation_scope, resource}
+use Rattle.otel_otlp.specs.Json.{object_of, list_member, text_if_given}
+
+-- ---- scopes; `scope_of` gives the scope of a record
+module _ {R : Type 0} (scope_of : R → Scope) where
+  -- whether the record is of the scope
+  abbrev pub is_of : Scope → R → Bool
+  is_of wanted r = scope.eq (scope_of r) wanted
+
+  -- the scope of a record, unless a record before it is of that scope
+  abbrev pub new_scope : List R → R → List Scope
+  new_scope before r =
+      if list_any (is_of (scope_of r)) before then [] else scope_of r ∷ []
+
+  -- the scopes of these records, in the order in which they first appear; `before` are the records
+  -- that stand before them
+  abbrev pub first_scopes : List R → List R → List Scope
+  first_scopes before [] = []
+  first_scopes before (r ∷ more) = new_scope before r ++ first_scopes (before ++ r ∷ []) more
+
+  -- the records of the scope among these, in order, with the scope (the protocol's `ScopeSpans` and
+  -- `ScopeLogs`); `value_of` gives the value of a record
+  abbrev pub scope_group : (R → Data) → List ℕ → List R → Scope → Data
+  scope_group value_of name records of =
+      object_of ((codes "scope", instrumentation_scope of)
+      ∷ list_member name (map value_of (filter (is_of of) records))
+      ++ text_if_given (codes "schemaUrl") of.schema_url)
+
+-- ---- resources
+-- the groups of one resource (the protocol's `ResourceSpans` and `ResourceLogs`)
+abbrev pub resource_group : Parts → List ℕ → List Data → Data
+resource_group of name groups =
+    object_of ((codes "resource", resource of)
+    ∷ list_member name groups
+    ++ text_if_given (codes "schemaUrl") of.schema_url)

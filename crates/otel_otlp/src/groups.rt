@@ -1,0 +1,154 @@
+//! Records under their scopes, and these under a resource: what the messages of traces and of logs
+//! share.
+ghost use Rattle.std.specs.Prelude.{◌≡◌, [], ◌∷◌, ◌++◌, IfOk, OnOk, map, filter};
+ghost use Rattle.std.specs.List.{list_any};
+ghost use Rattle.serde_json.specs.View.{view};
+ghost use Rattle.otel_otlp.specs.Groups as spec;
+ghost use Rattle.otel_otlp.specs.Json.{object_of, list_member};
+
+use crate::common::{instrumentation_scope, resource};
+use crate::object::{put_list, put_text_if_given};
+use opentelemetry::InstrumentationScope;
+use otel_sdk_span::resource::Resource;
+use serde_json::{Map, Value, put};
+use std::alloc::{AllocError, Global};
+
+/// A record of a batch: a span or a log record.
+pub(crate) trait Grouped {
+    ghost use Rattle.std.specs.Prelude.{◌≡◌, IfOk};
+    ghost use Rattle.otel_base.specs.InstrumentationScope.{Scope};
+    ghost use Rattle.serde_json.specs.Data.{Data};
+    ghost use Rattle.serde_json.specs.View.{view};
+
+    ghost scope_of: { Self → Scope };
+
+    ghost value_of: { Self → Data };
+
+    /// Returns the scope.
+    fn scope(&self) -> &InstrumentationScope
+        ensures { result.now ≡ scope_of self.now };
+
+    /// Returns the message of the record.
+    fn value(&self, alloc: Global) -> Result<Value, AllocError>
+        ensures { IfOk result (λ v. view v ≡ value_of self.now) };
+}
+
+/// Returns whether the record is of the scope.
+fn is_of<R: Grouped>(scope: &InstrumentationScope, item: &R) -> bool
+    ensures { result ≡ spec.is_of R.scope_of scope.now item.now }
+{
+    *item.scope() == *scope
+}
+
+/// Returns the records of the scope, in order.
+fn records_of<R: Grouped>(
+    alloc: Global,
+    batch: &[R],
+    scope: &InstrumentationScope,
+) -> Result<Vec<Value>, AllocError>
+    ensures { IfOk result (λ v. map view v.items
+        ≡ map R.value_of (filter (spec.is_of R.scope_of scope.now) batch.now)) }
+{
+    let mut values = Vec::new(alloc);
+    for item in batch {
+        if is_of(scope, item) {
+            values.push(item.value(alloc)?)?;
+        }
+    }
+    Ok(values)
+}
+
+/// Returns the records of the scope, with the scope (the protocol's `ScopeSpans`, `ScopeLogs`).
+fn scope_group<R: Grouped>(
+    alloc: Global,
+    name: &str,
+    batch: &[R],
+    scope: &InstrumentationScope,
+) -> Result<Value, AllocError>
+    ensures { IfOk result (λ v. view v
+        ≡ spec.scope_group R.scope_of R.value_of name.now batch.now scope.now) }
+{
+    let mut members = Map::new(alloc);
+    let of = instrumentation_scope(alloc, scope)?;
+    put(&mut members, alloc, "scope", of)?;
+    let records = records_of(alloc, batch, scope)?;
+    put_list(&mut members, alloc, name, records)?;
+    put_text_if_given(&mut members, alloc, "schemaUrl", scope.schema_url())?;
+    Ok(Value::from(members))
+}
+
+/// Returns whether one of the records is of the scope.
+fn appears<R: Grouped>(scope: &InstrumentationScope, records: &[R]) -> bool
+    ensures { result ≡ list_any (spec.is_of R.scope_of scope.now) records.now }
+{
+    records.iter().any(|item| is_of(scope, item))
+}
+
+/// Adds the records of this record's scope, unless a record before it is of that scope.
+fn add_group<R: Grouped>(
+    values: &mut Vec<Value>,
+    alloc: Global,
+    name: &str,
+    batch: &[R],
+    before: &[R],
+    item: &R,
+) -> Result<(), AllocError>
+    ensures { OnOk result (map view values.new.items ≡ map view values.old.items
+        ++ map (spec.scope_group R.scope_of R.value_of name.now batch.now)
+        (spec.new_scope R.scope_of before.now item.now)) }
+{
+    if appears(item.scope(), before) {
+        return Ok(());
+    }
+    let group = scope_group(alloc, name, batch, item.scope())?;
+    values.push(group)?;
+    Ok(())
+}
+
+/// Returns the records of each scope under this name, the scopes in the order in which they first
+/// appear.
+pub(crate) fn groups<R: Grouped>(
+    alloc: Global,
+    name: &str,
+    batch: &[R],
+) -> Result<Vec<Value>, AllocError>
+    ensures { IfOk result (λ v. map view v.items
+        ≡ map (spec.scope_group R.scope_of R.value_of name.now batch.now)
+        (spec.first_scopes R.scope_of [] batch.now)) }
+{
+    let mut values = Vec::new(alloc);
+    for (place, item) in batch.iter().enumerate() {
+        add_group(&mut values, alloc, name, batch, &batch[..place], item)?;
+    }
+    Ok(values)
+}
+
+/// Returns the groups of the resource (the protocol's `ResourceSpans`, `ResourceLogs`).
+pub(crate) fn resource_group(
+    alloc: Global,
+    of: &Resource,
+    name: &str,
+    groups: Vec<Value>,
+) -> Result<Value, AllocError>
+    ensures { IfOk result (λ v. view v
+        ≡ spec.resource_group of.now name.now (map view groups.items)) }
+{
+    let mut members = Map::new(alloc);
+    let value = resource(alloc, of)?;
+    put(&mut members, alloc, "resource", value)?;
+    put_list(&mut members, alloc, name, groups)?;
+    put_text_if_given(&mut members, alloc, "schemaUrl", of.schema_url())?;
+    Ok(Value::from(members))
+}
+
+/// Returns the object that has a list of this one value under the name (the protocol's
+/// `TracesData`, `LogsData`).
+pub(crate) fn list_of_one(alloc: Global, name: &str, value: Value) -> Result<Value, AllocError>
+    ensures { IfOk result (λ v. view v ≡ object_of (list_member name.now (view value ∷ []))) }
+{
+    let mut members = Map::new(alloc);
+    let mut list = Vec::new(alloc);
+    list.push(value)?;
+    put_list(&mut members, alloc, name, list)?;
+    Ok(Value::from(members))
+}

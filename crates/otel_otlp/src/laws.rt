@@ -1,0 +1,29 @@
+//! Laws of the definitions, each the contract of a function that does nothing.
+ghost use Rattle.otel_otlp.specs.Lossless.{EqualValuesSaySame, EqualGroupsNameSame};
+ghost use Rattle.otel_otlp.specs.Lossless.{EqualBatchesSaySame, EqualTextsSaySame};
+
+/// States that spans with equal values have the same ids, the parent's too, the same flags, kind,
+/// name, times and status, the same attributes, events and links, the same counts of what was
+/// dropped, the same trace state in a header, and either both have a remote parent or neither.
+/// Attributes are the same but for the type of an array without items.
+pub fn equal_values_say_same()
+    ensures { EqualValuesSaySame }
+{}
+
+/// States that groups of spans with equal values are of scopes with the same name and version.
+pub fn equal_groups_name_same()
+    ensures { EqualGroupsNameSame }
+{}
+
+/// States that batches with equal values are of resources with the same attributes and schema URL,
+/// and have the same groups, in order: their scopes have the same name, version, schema URL and
+/// attributes, and their spans say the same of what [`equal_values_say_same`] names.
+pub fn equal_batches_say_same()
+    ensures { EqualBatchesSaySame }
+{}
+
+/// States that no text is of two batches, unless they are the same as [`equal_batches_say_same`]
+/// says.
+pub fn equal_texts_say_same()
+    ensures { EqualTextsSaySame }
+{}

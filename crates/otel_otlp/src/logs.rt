@@ -1,0 +1,243 @@
+//! The messages of log records.
+ghost use Rattle.std.specs.Prelude.{◌≡◌, ◌++◌, IfOk, OnOk, codes, map, option_map, string_bytes};
+ghost use Rattle.std.specs.List.{list_any};
+ghost use Rattle.serde_json.specs.View.{view};
+ghost use Rattle.otel_base.specs.Severity.{number};
+ghost use Rattle.otel_base.specs.View.{tree, pairs_view};
+ghost use Rattle.otel_otlp.specs.Json.{IsTextOf, number_if_given, text_if_given};
+ghost use Rattle.otel_otlp.specs.Logs as spec;
+ghost use Rattle.otel_otlp.specs.View.{Adds};
+
+use crate::common::{pair, text_value};
+use crate::groups::{Grouped, groups, list_of_one, resource_group};
+use crate::object::{
+    Members, put_decimal_if_given, put_list_unless_empty, put_number, put_number_if_given,
+    put_number_unless_zero, put_span_id, put_text, put_trace_id, to_text,
+};
+use crate::trees::tree_value;
+use opentelemetry::logs::{AnyValue, Severity};
+use opentelemetry::trace::TraceFlags;
+use opentelemetry::{InstrumentationScope, Key, StringValue};
+use otel_sdk_logs::{LogData, SdkLogRecord, TraceContext};
+use otel_sdk_span::resource::Resource;
+use serde_json::{Map, Value, put};
+use std::alloc::{AllocError, Global};
+
+/// Puts when the event happened, and when it was observed.
+fn put_times(members: &mut Members, alloc: Global, log: &SdkLogRecord) -> Result<(), AllocError>
+    ensures { Adds result members.old members.new (spec.times log.now) }
+{
+    put_decimal_if_given(members, alloc, "timeUnixNano", log.timestamp)?;
+    put_decimal_if_given(
+        members,
+        alloc,
+        "observedTimeUnixNano",
+        log.observed_timestamp,
+    )
+}
+
+/// Puts a text, if it is given.
+fn put_name(
+    members: &mut Members,
+    alloc: Global,
+    name: &str,
+    text: &Option<StringValue>,
+) -> Result<(), AllocError>
+    ensures { Adds result members.old members.new (text_if_given name.now text.now) }
+{
+    match text {
+        Some(text) => put_text(members, alloc, name, text.as_str()),
+        None => Ok(()),
+    }
+}
+
+/// Puts the number of the severity, if it is given (the protocol's `SeverityNumber`).
+fn put_severity(
+    members: &mut Members,
+    alloc: Global,
+    severity: Option<Severity>,
+) -> Result<(), AllocError>
+    ensures { Adds result members.old members.new
+        (number_if_given (codes "severityNumber") (option_map number severity)) }
+{
+    match severity {
+        Some(severity) => {
+            let number = u32::from(severity.number());
+            put_number(members, alloc, "severityNumber", number)
+        }
+        None => Ok(()),
+    }
+}
+
+/// Puts the body, if there is one.
+fn put_body(members: &mut Members, alloc: Global, body: &Option<AnyValue>) -> Result<(), AllocError>
+    ensures { Adds result members.old members.new (spec.body_member (option_map tree body.now)) }
+{
+    match body {
+        Some(body) => {
+            let value = tree_value(alloc, body)?;
+            put(members, alloc, "body", value)
+        }
+        None => Ok(()),
+    }
+}
+
+/// Puts what the record says.
+fn put_content(members: &mut Members, alloc: Global, log: &SdkLogRecord) -> Result<(), AllocError>
+    ensures { Adds result members.old members.new (spec.content log.now) }
+{
+    put_severity(members, alloc, log.severity_number)?;
+    put_name(members, alloc, "severityText", &log.severity_text)?;
+    put_name(members, alloc, "eventName", &log.event_name)?;
+    put_body(members, alloc, &log.body)
+}
+
+/// Returns each of the attributes.
+fn pairs(alloc: Global, attributes: &[(Key, AnyValue)]) -> Result<Vec<Value>, AllocError>
+    ensures { IfOk result (λ v. map view v.items
+        ≡ map spec.attribute (pairs_view attributes.now)) }
+{
+    let mut values = Vec::with_capacity(alloc, attributes.len())?;
+    for attribute in attributes {
+        let value = tree_value(alloc, &attribute.1)?;
+        values.push(pair(alloc, attribute.0.as_str(), value)?)?;
+    }
+    Ok(values)
+}
+
+/// Returns whether the attribute has the key of a target.
+fn is_target(attribute: &(Key, AnyValue)) -> bool
+    ensures { result ≡ spec.is_target (attribute.now.0, tree attribute.now.1) }
+{
+    attribute.0.as_str() == "log.target"
+}
+
+/// Returns whether one of the attributes has the key of a target.
+fn has_target(attributes: &[(Key, AnyValue)]) -> bool
+    ensures { result ≡ list_any spec.is_target (pairs_view attributes.now) }
+{
+    attributes.iter().any(|attribute| is_target(attribute))
+}
+
+/// Adds the target, unless one of the attributes has its key.
+fn add_target(
+    values: &mut Vec<Value>,
+    alloc: Global,
+    held: &[(Key, AnyValue)],
+    target: &Option<StringValue>,
+) -> Result<(), AllocError>
+    ensures { OnOk result (map view values.new.items ≡ map view values.old.items
+        ++ map spec.attribute (spec.target_attribute (pairs_view held.now) target.now)) }
+{
+    let Some(target) = target else {
+        return Ok(());
+    };
+    if has_target(held) {
+        return Ok(());
+    }
+    let value = text_value(alloc, target.as_str())?;
+    values.push(pair(alloc, "log.target", value)?)?;
+    Ok(())
+}
+
+/// Returns each of the record's attributes, the target as the last one.
+fn attributes(alloc: Global, log: &SdkLogRecord) -> Result<Vec<Value>, AllocError>
+    ensures { IfOk result (λ v. map view v.items
+        ≡ map spec.attribute (spec.attributes log.now)) }
+{
+    let held = log.attributes.as_slice();
+    let mut values = pairs(alloc, held)?;
+    add_target(&mut values, alloc, held, &log.target)?;
+    Ok(values)
+}
+
+/// Puts the attributes, and how many were dropped because of the limit.
+fn put_details(members: &mut Members, alloc: Global, log: &SdkLogRecord) -> Result<(), AllocError>
+    ensures { Adds result members.old members.new (spec.details log.now) }
+{
+    let values = attributes(alloc, log)?;
+    put_list_unless_empty(members, alloc, "attributes", values)?;
+    let dropped = log.dropped_attributes_count;
+    put_number_unless_zero(members, alloc, "droppedAttributesCount", dropped)
+}
+
+/// Puts the span that was active, if there was one.
+fn put_trace(
+    members: &mut Members,
+    alloc: Global,
+    context: &Option<TraceContext>,
+) -> Result<(), AllocError>
+    ensures { Adds result members.old members.new (spec.trace_members context.now) }
+{
+    let Some(context) = context else {
+        return Ok(());
+    };
+    put_trace_id(members, alloc, "traceId", context.trace_id)?;
+    put_span_id(members, alloc, "spanId", context.span_id)?;
+    let flags = context
+        .trace_flags
+        .map(|flags: TraceFlags| u32::from(flags.to_u8()));
+    put_number_if_given(members, alloc, "flags", flags)
+}
+
+/// Returns a log record (the protocol's `LogRecord`).
+fn log_record(alloc: Global, log: &SdkLogRecord) -> Result<Value, AllocError>
+    ensures { IfOk result (λ v. view v ≡ spec.log_record log.now) }
+{
+    let mut members = Map::new(alloc);
+    put_times(&mut members, alloc, log)?;
+    put_content(&mut members, alloc, log)?;
+    put_details(&mut members, alloc, log)?;
+    put_trace(&mut members, alloc, &log.trace_context)?;
+    Ok(Value::from(members))
+}
+
+impl Grouped for LogData {
+    ghost use Rattle.otel_otlp.specs.Logs as spec;
+
+    ghost scope_of = { spec.scope_of };
+
+    ghost value_of = { spec.value_of };
+
+    fn scope(&self) -> &InstrumentationScope {
+        &self.instrumentation_scope
+    }
+
+    fn value(&self, alloc: Global) -> Result<Value, AllocError> {
+        log_record(alloc, &self.record)
+    }
+}
+
+/// Returns a batch of log records of one resource (the protocol's `LogsData`).
+///
+/// The scopes stand in the order in which they first appear, under each its records in order. A
+/// record's target is its last attribute, `log.target`, unless that key is there.
+///
+/// # Errors
+///
+/// `AllocError` if out of memory.
+pub fn logs_data(alloc: Global, resource: &Resource, batch: &[LogData]) -> Result<Value, AllocError>
+    ensures { IfOk result (λ v. view v ≡ spec.logs_data resource.now batch.now) }
+{
+    let groups = groups(alloc, "logRecords", batch)?;
+    let value = resource_group(alloc, resource, "scopeLogs", groups)?;
+    list_of_one(alloc, "resourceLogs", value)
+}
+
+/// Returns a batch of log records of one resource as one JSON object, without a line break (the
+/// protocol's `LogsData`).
+///
+/// # Errors
+///
+/// `AllocError` if out of memory.
+pub fn logs_text(
+    alloc: Global,
+    resource: &Resource,
+    batch: &[LogData],
+) -> Result<String, AllocError>
+    ensures text { IfOk result (λ s.
+        IsTextOf (string_bytes s) (spec.logs_data resource.now batch.now)) }
+{
+    let value = logs_data(alloc, resource, batch)?;
+    to_text(alloc, &value)
+}

@@ -1,7 +1,0 @@
-use Rattle.std.proofs.Common.{◌≡◌, map, take}
-use Rattle.serde_json.specs.View.{view}
-use Rattle.otel_stdout.specs.Common.{integer_value}
-use Rattle.otel_stdout.proofs.common.integer_values.Given as goal
-
-abbrev pub invariant-loop-item : goal.invariant-loop-item
-invariant-loop-item l = map view l.values.items ≡ map integer_value (take l.item-index l.items)

@@ -1,5 +1,0 @@
-use Rattle.otel_stdout.proofs.OneGroup.{equal_groups_name_same}
-use Rattle.otel_stdout.proofs.laws.equal_groups_name_same.Goals as goal
-
-pub returns : goal.returns
-returns c = equal_groups_name_same

@@ -1,9 +1,0 @@
-use Rattle.std.proofs.Common.{codes, subst}
-use Rattle.otel_stdout.specs.Json.{list_unless_empty}
-use Rattle.otel_stdout.specs.View.{Adds}
-use Rattle.otel_stdout.proofs.traces.put_links.Goals as goal
-
-pub returns : goal.returns
-returns c =
-    subst (λ ds. Adds c.put_list_unless_empty.result c.args.members.now c.put_list_unless_empty.new.members
-    (list_unless_empty (codes "links") ds)) c.in_ok-values.ensures c.put_list_unless_empty.ensures

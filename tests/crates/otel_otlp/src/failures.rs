@@ -1,0 +1,185 @@
+//! A writer that fails at each write in turn: flushed again later, each span and each log record is
+//! exported once.
+use crate::batches::{root, scope};
+use crate::records::observed;
+use otel_sdk::logs::{BatchConfigBuilder as LogConfigBuilder, BatchLogProcessor, LogProcessor};
+use otel_sdk::trace::{BatchConfigBuilder, BatchSpanProcessor, SpanProcessor};
+use otel_otlp::{OtlpJsonLogExporter, OtlpJsonSpanExporter};
+use serde_json::Value;
+use std::alloc::Global;
+use std::io;
+use std::io::{ErrorKind, Write};
+use std::test::Fail;
+
+/// A writer that takes at most 100 bytes a call, and fails so many times, first at this call.
+#[derive(Drop)]
+struct Failing {
+    taken: Vec<u8>,
+    calls: usize,
+    first: usize,
+    failures: usize,
+}
+
+impl Write for Failing {
+    fn write(&mut self, bytes: &[u8]) -> io::Result<usize> {
+        self.calls += 1;
+        if self.first <= self.calls && self.calls < self.first + self.failures {
+            return Err(ErrorKind::Other.into());
+        }
+        let count = bytes.len().min(100);
+        match self.taken.extend_from_slice(&bytes[..count]) {
+            Ok(()) => Ok(count),
+            Err(_) => Err(ErrorKind::OutOfMemory.into()),
+        }
+    }
+
+    fn flush(&mut self) -> io::Result<()> {
+        Ok(())
+    }
+}
+
+const SPANS: [&'static str; 2] = [
+    "/resourceSpans/0/scopeSpans/0/spans/0/spanId",
+    "/resourceSpans/0/scopeSpans/0/spans/1/spanId",
+];
+
+const RECORDS: [&'static str; 2] = [
+    "/resourceLogs/0/scopeLogs/0/logRecords/0/observedTimeUnixNano",
+    "/resourceLogs/0/scopeLogs/0/logRecords/1/observedTimeUnixNano",
+];
+
+// The last digits of the texts at these places of the whole lines, in order, with how many lines
+// aren't whole.
+fn digits_at(alloc: Global, places: &[&str], bytes: &[u8]) -> Result<(Vec<u8>, usize), Fail> {
+    let (mut digits, mut torn) = (Vec::new(alloc), 0);
+    for line in bytes.split(|byte| *byte == b'\n') {
+        let text = String::from_utf8_lossy(alloc, line)?;
+        let Ok(value) = Value::from_str(alloc, text.as_str()) else {
+            torn += usize::from(!line.is_empty());
+            continue;
+        };
+        for place in places {
+            if let Some(found) = value.pointer(place).and_then(Value::as_str) {
+                digits.push(*found.as_bytes().last().ok_or("no digit")?)?;
+            }
+        }
+    }
+    Ok((digits, torn))
+}
+
+fn failing(alloc: Global, first: usize, failures: usize) -> Failing {
+    Failing {
+        taken: Vec::new(alloc),
+        calls: 0,
+        first,
+        failures,
+    }
+}
+
+// What the writer took of the spans 1 to 5 in batches of two, flushed until that succeeds, in how
+// many calls, and after how many flushes that failed.
+fn taken(alloc: Global, first: usize, failures: usize) -> Result<(Vec<u8>, usize, usize), Fail> {
+    let config = BatchConfigBuilder::default()
+        .with_max_queue_size(8)
+        .with_max_export_batch_size(2)
+        .build();
+    let exporter = OtlpJsonSpanExporter::new(alloc, failing(alloc, first, failures))?;
+    let mut processor = BatchSpanProcessor::new(alloc, exporter, config);
+    for number in 1..6 {
+        if processor
+            .on_end(root(alloc, number, scope(alloc, "s")?)?)
+            .is_err()
+        {
+            return Err(Fail::from("not queued"));
+        }
+    }
+    let mut failed = 0;
+    while failed <= failures && processor.force_flush().is_err() {
+        failed += 1;
+    }
+    if processor.queued_spans() > 0 || processor.dropped_spans() > 0 {
+        return Err(Fail::from("not exported"));
+    }
+    let writer = processor.exporter().get_ref();
+    Ok((writer.taken.clone()?, writer.calls, failed))
+}
+
+// The same of the log records of the moments 1 to 5.
+fn taken_of_logs(
+    alloc: Global,
+    first: usize,
+    failures: usize,
+) -> Result<(Vec<u8>, usize, usize), Fail> {
+    let config = LogConfigBuilder::default()
+        .with_max_queue_size(8)
+        .with_max_export_batch_size(2)
+        .build();
+    let exporter = OtlpJsonLogExporter::new(alloc, failing(alloc, first, failures))?;
+    let mut processor = BatchLogProcessor::new(alloc, exporter, config)?;
+    for moment in 1..6 {
+        processor.on_emit(observed(alloc, moment, scope(alloc, "s")?));
+    }
+    let mut failed = 0;
+    while failed <= failures && processor.force_flush().is_err() {
+        failed += 1;
+    }
+    if processor.queued_records() > 0 || processor.dropped_records() > 0 {
+        return Err(Fail::from("not exported"));
+    }
+    let writer = processor.exporter().get_ref();
+    Ok((writer.taken.clone()?, writer.calls, failed))
+}
+
+#[test]
+fn each_span_is_exported_once(rt: HostRuntime) -> Result<(), Fail> {
+    let alloc = rt.alloc();
+    let (bytes, calls, failed) = taken(alloc, 0, 0)?;
+    assert_eq!(rt; failed, 0);
+    assert!(rt; calls > 10, "{calls} calls");
+    let (ids, torn) = digits_at(alloc, &SPANS, bytes.as_slice())?;
+    assert_eq!(rt; ids.as_slice(), b"12345".as_slice());
+    assert_eq!(rt; torn, 0);
+    let mut all_torn = 0;
+    for failures in 1..4 {
+        for first in 1..=calls {
+            let (bytes, _, failed) = taken(alloc, first, failures)?;
+            assert!(rt; failed <= failures, "{first}, {failures}");
+            let (ids, torn) = digits_at(alloc, &SPANS, bytes.as_slice())?;
+            assert_eq!(rt; ids.as_slice(), b"12345".as_slice(), "{first}, {failures}");
+            assert!(rt; torn <= 1, "{first}, {failures}");
+            assert_eq!(rt; bytes.last(), Some(&b'\n'), "{first}, {failures}");
+            all_torn += torn;
+        }
+    }
+    assert!(rt; all_torn > 10, "{all_torn} torn lines");
+    Ok(())
+}
+
+#[test]
+fn each_log_record_is_exported_once(rt: HostRuntime) -> Result<(), Fail> {
+    let alloc = rt.alloc();
+    let (bytes, calls, failed) = taken_of_logs(alloc, 0, 0)?;
+    assert_eq!(rt; failed, 0);
+    assert!(rt; calls > 8, "{calls} calls");
+    let (moments, torn) = digits_at(alloc, &RECORDS, bytes.as_slice())?;
+    assert_eq!(rt; moments.as_slice(), b"12345".as_slice());
+    assert_eq!(rt; torn, 0);
+    let mut all_torn = 0;
+    for failures in 1..4 {
+        for first in 1..=calls {
+            let (bytes, _, failed) = taken_of_logs(alloc, first, failures)?;
+            assert!(rt; failed <= failures, "{first}, {failures}");
+            let (moments, torn) = digits_at(alloc, &RECORDS, bytes.as_slice())?;
+            assert_eq!(rt;
+                moments.as_slice(),
+                b"12345".as_slice(),
+                "{first}, {failures}"
+            );
+            assert!(rt; torn <= 1, "{first}, {failures}");
+            assert_eq!(rt; bytes.last(), Some(&b'\n'), "{first}, {failures}");
+            all_torn += torn;
+        }
+    }
+    assert!(rt; all_torn > 4, "{all_torn} torn lines");
+    Ok(())
+}

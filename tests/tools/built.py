@@ -1,0 +1,76 @@
+"""The crates of the repository, and the libraries that `rt ci` built of them, for scripts that call the kit's compiler themselves."""
+import glob
+import os
+import shutil
+import subprocess
+import sys
+
+TOP = os.path.dirname(os.path.dirname(os.path.dirname(os.path.abspath(__file__))))
+# `rt doc` names a page of the kit.
+KIT = os.path.dirname(subprocess.run(["rt", "doc"], stdout=subprocess.PIPE, text=True, check=True).stdout.strip())
+PARTS = "src", "specs", "proofs"
+
+
+def crates():
+    """The lines of crates.txt: what each crate depends on, by its name."""
+    with open(f"{TOP}/crates.txt", encoding="utf-8") as file:
+        lines = [line.split("#", 1)[0].split(":", 1) for line in file]
+    return {line[0].split()[0]: line[1].split() for line in lines if len(line) == 2}
+
+
+def below(crate, known):
+    """The crates of the repository that the crate depends on, lowest first."""
+    found = []
+    for it in known[crate]:
+        if it in known:
+            found += [dep for dep in [*below(it, known), it] if dep not in found]
+    return found
+
+
+def lay_copy(room):
+    """Lays a copy of the repository into the room for `rt ci`, with its wrong bodies of must-fail/ in tests/mutants, and gives its folder."""
+    copy = shutil.copytree(TOP, f"{room}/copy", symlinks=True, ignore=shutil.ignore_patterns(".git", "out", "__pycache__"))
+    for folder in glob.glob(f"{copy}/crates/*/must-fail"):
+        crate = os.path.basename(os.path.dirname(folder))
+        os.makedirs(f"{copy}/tests/mutants/{crate}", exist_ok=True)
+        shutil.move(folder, f"{copy}/tests/mutants/{crate}/must-fail")
+    return copy
+
+
+def rlib(root, crate):
+    return f"{root}/crates/{crate}/out/rlib/{crate}.rlib"
+
+
+def is_of_ci(crate):
+    """Whether `rt ci` built the library, and it is newer than its sources. What rt builds otherwise has a stamp, by which rt knows its age."""
+    built = rlib(TOP, crate)
+    if not os.path.isdir(built) or os.path.exists(f"{os.path.dirname(built)}/stamp"):
+        return False
+    files = (it for part in PARTS for it in glob.glob(f"{TOP}/crates/{crate}/{part}/**/*", recursive=True))
+    return os.path.getmtime(built) > max(map(os.path.getmtime, files))
+
+
+def lay_libraries(root, wanted, known):
+    """Lays the libraries below these crates into a copy of the repository as `rt ci` built them, or has `rt lib` build them there."""
+    libraries = list(dict.fromkeys(dep for it in wanted for dep in below(it, known)))
+    is_kept = all(map(is_of_ci, libraries))
+    for it in libraries:
+        if is_kept:
+            if not os.path.isdir(rlib(root, it)):
+                shutil.copytree(rlib(TOP, it), rlib(root, it))
+            continue
+        ran = subprocess.run(["rt", "lib"], cwd=f"{root}/crates/{it}", stdin=subprocess.DEVNULL, stdout=subprocess.PIPE,
+                             stderr=subprocess.STDOUT, errors="replace")
+        if ran.returncode:
+            sys.exit(f"{ran.stdout[-2000:]}\nthe library {it} is not proved")
+
+
+def words(root, crate, known):
+    """The words of a call of `rattle` over the crate: its source, the libraries that it names and those below them, and the logic."""
+    of_kit = f"{KIT}/rlibs"
+    found = ["--crate-name", crate, f"src/{'main' if os.path.isfile(f'{root}/crates/{crate}/src/main.rt') else 'lib'}.rt"]
+    for name in ["std", *known[crate]]:
+        found += ["--extern", f"{name}={rlib(root, name) if name in known else f'{of_kit}/{name}.rlib'}"]
+    for folder in [of_kit, *(os.path.dirname(rlib(root, it)) for it in below(crate, known))]:
+        found += ["-L", f"dependency={folder}"]
+    return [*found, "--antt-project", f"{KIT}/rattle/logic/antt-project.json", "--logic-built", f"{KIT}/logic_built"]

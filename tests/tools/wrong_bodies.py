@@ -1,0 +1,139 @@
+"""The wrong bodies of a crate, as its files of edits have them, and the checksum of all that their trial reads.
+
+tests/mutants/CRATE/PATH.edits has the wrong bodies of crates/CRATE/src/PATH.rt, in sections:
+
+    == NAME         `Type.function--fault`
+    old: TEXT       a text of one line, which the source has exactly once
+    new: TEXT       the text in its place
+
+Further pairs of a section apply to what the earlier ones made. `file: src/PATH.rt` before a pair names another source.
+A crate's must-fail/ has one file NAME.edit for each wrong body, in the form that the kit reads: `file:` and then the pairs.
+
+tests/mutants/refused has a line `CRATE CHECKSUM` for each crate with wrong bodies. The checksum is of all that their trial
+reads, and is written once the prover has refused every one of them. If it is still right, they needn't be tried again.
+"""
+import functools
+import glob
+import hashlib
+import os
+import subprocess
+
+from built import PARTS, TOP, below, crates
+
+HERE = os.path.dirname(os.path.abspath(__file__))
+MUTANTS = f"{TOP}/tests/mutants"
+REFUSED = f"{MUTANTS}/refused"
+# What the trial runs, beside the kit.
+SCRIPTS = "edits", "trial.py", "wrong_bodies.py", "functions.py", "built.py"
+# The files of a proof that no other crate can name.
+OF_ONE_FUNCTION = "Proof.antt", "Invariants.antt", "Answers.antt"
+
+
+def read(path):
+    with open(path, encoding="utf-8") as file:
+        return file.read()
+
+
+class WrongBody:
+    """A wrong body: its name, and its edits, each a source, a text of it and the text in its place."""
+
+    def __init__(self, name, file=None):
+        self.name, self.file, self.pairs, self.old = name, file, [], None
+
+    def take(self, line):
+        """Reads a line."""
+        word, _, text = line.partition(":")
+        text = text.removeprefix(" ")
+        if word == "file":
+            self.file = text.strip()
+        elif word == "old":
+            self.old = text
+        elif word == "new" and self.file and self.old is not None:
+            self.pairs.append((self.file, self.old, text))
+        elif line.strip():
+            raise ValueError(f"{self.name}: a line of no known form: {line!r}")
+
+
+def in_file(path, file):
+    """The wrong bodies of a file PATH.edits, whose source this is."""
+    found = []
+    for line in read(path).split("\n"):
+        if line.startswith("== "):
+            found.append(WrongBody(line[3:].strip(), file))
+        elif found:
+            found[-1].take(line)
+        elif line.strip():
+            raise ValueError(f"{os.path.relpath(path, TOP)}: begins with no line `== NAME`")
+    return found
+
+
+def of_kit(path):
+    """The wrong body of a file of must-fail/."""
+    found = WrongBody(os.path.basename(path).removesuffix(".edit"))
+    for line in read(path).split("\n"):
+        found.take(line)
+    return found
+
+
+def wrong_bodies(crate):
+    """The wrong bodies of the crate, by their names: those of tests/mutants, and those of must-fail/, which the gate lays beside them."""
+    top, found = f"{MUTANTS}/{crate}", []
+    for path in sorted(glob.glob(f"{top}/**/*.edits", recursive=True)):
+        found += in_file(path, f"src/{os.path.relpath(path, top).removesuffix('.edits')}.rt")
+    for folder in (f"{TOP}/crates/{crate}/must-fail", f"{top}/must-fail"):
+        found += map(of_kit, sorted(glob.glob(f"{folder}/*.edit")))
+    twice = {it.name for it in found if sum(it.name == other.name for other in found) > 1}
+    if twice:
+        raise ValueError(f"{crate}: more than one wrong body is named {', '.join(sorted(twice))}")
+    return {it.name: it for it in sorted(found, key=lambda it: it.name)}
+
+
+# Checksums
+
+def files_of(crate, is_below):
+    """The files of the crate that the trial reads: of a crate below, those that other crates can name."""
+    found = (it for part in PARTS for it in glob.glob(f"{TOP}/crates/{crate}/{part}/**/*", recursive=True) if os.path.isfile(it))
+    return sorted(it for it in found if not (is_below and os.path.basename(it) in OF_ONE_FUNCTION))
+
+
+@functools.cache
+def logic():
+    """The logic of the kit: the last word of `rt version`."""
+    return subprocess.run(["rt", "version"], stdout=subprocess.PIPE, text=True, check=True).stdout.split()[-1]
+
+
+def checksum(crate, read=read):
+    """The checksum of all that the trial of the crate's wrong bodies reads, its files by this function."""
+    known = crates()
+    digest = hashlib.sha256()
+    for word in [logic(), *(it.pairs for it in wrong_bodies(crate).values()), *wrong_bodies(crate)]:
+        digest.update(repr(word).encode())
+    paths = [f"{HERE}/{it}" for it in SCRIPTS]
+    for it in [*below(crate, known), crate]:
+        digest.update(repr((it, known[it])).encode())
+        paths += files_of(it, is_below=it != crate)
+    for path in paths:
+        digest.update(repr((os.path.relpath(path, TOP), read(path))).encode())
+    return digest.hexdigest()[:32]
+
+
+def committed(path=REFUSED):
+    """The checksums of tests/mutants/refused, by their crates."""
+    lines = (line.split("#")[0].split() for line in read(path).split("\n")) if os.path.isfile(path) else ()
+    return {line[0]: line[1] for line in lines if len(line) == 2}
+
+
+def stale(names):
+    """The crates of these whose line isn't right."""
+    lines = committed()
+    return [it for it in names if lines.get(it) != (checksum(it) if wrong_bodies(it) else None)]
+
+
+def write_line(crate):
+    """Writes the crate's line, which says that each of its wrong bodies was refused."""
+    lines = {**committed(), crate: checksum(crate)}
+    lines = {it: lines[it] for it in sorted(lines) if it in crates() and wrong_bodies(it)}
+    head = "# Of each crate a checksum of all that the trial of its wrong bodies reads. `make mutants CRATE=NAME` writes it\n" \
+           "# if the prover refuses every one of them; `make test` tries only the crates whose line isn't right.\n"
+    with open(REFUSED, "w", encoding="utf-8") as file:
+        file.write(head + "".join(f"{it} {lines[it]}\n" for it in lines))
