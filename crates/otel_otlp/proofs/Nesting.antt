@@ -11,7 +11,7 @@ use Rattle.otel_context.specs.declared.span.status.Status.{Status}
 use Rattle.otel_context.specs.declared.span.status.Status.TheVariants as status
 use Rattle.otel_ids.specs.SpanContext.{SpanContextRecord}
 use Rattle.otel_ids.specs.TraceState.{header}
-use Rattle.otel_sdk_span.specs.Resource.{Parts}
+use Rattle.otel_sdk_base.specs.Resource.{Parts}
 use Rattle.otel_sdk_span.specs.SpanData.{SpanRecord}
 use Rattle.serde_json.specs.Data.{Data, string, number, unsigned, Members, no_members, member, put, depth, items_depth, members_depth}
 use Rattle.serde_json.specs.View.{items_of}

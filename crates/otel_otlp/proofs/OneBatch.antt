@@ -5,8 +5,8 @@ use Rattle.std.specs.List.{All, list_any}
 use Rattle.std.specs.Option.{option_map_or}
 use Rattle.otel_base.specs.InstrumentationScope.{Scope}
 use Rattle.otel_base.specs.KeyValue.{Attribute}
-use Rattle.otel_sdk_span.specs.Attributes as attributes
-use Rattle.otel_sdk_span.specs.Resource.{Parts}
+use Rattle.otel_sdk_base.specs.Attributes as attributes
+use Rattle.otel_sdk_base.specs.Resource.{Parts}
 use Rattle.otel_sdk_span.specs.SpanData.{SpanRecord}
 use Rattle.serde_json.specs.Data.{Data, null}
 use Rattle.otel_otlp.specs.Common.{attributes_member, instrumentation_scope, key_value, resource, unique}

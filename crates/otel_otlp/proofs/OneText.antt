@@ -1,6 +1,6 @@
 -- A text that is of two batches.
 use Rattle.std.proofs.Common.{◌≤◌, List, sym, ap, ◌∙◌, arith}
-use Rattle.otel_sdk_span.specs.Resource.{Parts}
+use Rattle.otel_sdk_base.specs.Resource.{Parts}
 use Rattle.otel_sdk_span.specs.SpanData.{SpanRecord}
 use Rattle.serde_json.specs.Data.{depth}
 use Rattle.serde_json.specs.Read.{max_depth}

@@ -14,8 +14,8 @@ use Rattle.otel_base.specs.Value as value
 use Rattle.otel_base.specs.Value.{AttributeValue}
 use Rattle.otel_base.specs.KeyValue.{Attribute}
 use Rattle.otel_base.specs.InstrumentationScope.{Scope}
-use Rattle.otel_sdk_span.specs.Attributes as attributes
-use Rattle.otel_sdk_span.specs.Resource.{Parts}
+use Rattle.otel_sdk_base.specs.Attributes as attributes
+use Rattle.otel_sdk_base.specs.Resource.{Parts}
 use Rattle.serde_json.specs.Data.{Data, boolean}
 use Rattle.serde_json.specs.Written.{compact_text}
 use Rattle.serde_json.proofs.OnLiterals.{serde_json_on_literals}

@@ -5,7 +5,7 @@ use Rattle.std.specs.Prelude.{if◌then◌else◌}
 use Rattle.std.specs.Io.KnownBytes.{Appends}
 use Rattle.otel_sdk_logs.specs.LogRecord.{LogEntry}
 use Rattle.otel_sdk_span.specs.SpanData.{SpanRecord}
-use Rattle.otel_sdk_span.specs.Resource.{Parts}
+use Rattle.otel_sdk_base.specs.Resource.{Parts}
 use Rattle.serde_json.specs.Data.{Data}
 use Rattle.otel_otlp.specs.Json.{IsTextOf}
 use Rattle.otel_otlp.specs.Logs.{logs_data}

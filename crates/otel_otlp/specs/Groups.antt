@@ -4,7 +4,7 @@ use Rattle.std.specs.Prelude.{List, [], ◌∷◌, ◌++◌, map, ℕ, Bool, cod
 use Rattle.std.specs.List.{list_any}
 use Rattle.otel_base.specs.InstrumentationScope as scope
 use Rattle.otel_base.specs.InstrumentationScope.{Scope}
-use Rattle.otel_sdk_span.specs.Resource.{Parts}
+use Rattle.otel_sdk_base.specs.Resource.{Parts}
 use Rattle.serde_json.specs.Data.{Data}
 use Rattle.otel_otlp.specs.Common.{instrumentation_scope, resource}
 use Rattle.otel_otlp.specs.Json.{object_of, list_member, text_if_given}

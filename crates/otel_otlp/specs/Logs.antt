@@ -9,7 +9,7 @@ use Rattle.otel_base.specs.InstrumentationScope.{Scope}
 use Rattle.otel_sdk_logs.specs.Attributes.{Attribute}
 use Rattle.otel_sdk_logs.specs.LogRecord.{LogState, LogEntry, empty}
 use Rattle.otel_sdk_logs.specs.declared.record.TraceContext.{TraceContext}
-use Rattle.otel_sdk_span.specs.Resource.{Parts}
+use Rattle.otel_sdk_base.specs.Resource.{Parts}
 use Rattle.serde_json.specs.Data.{Data}
 use Rattle.otel_otlp.specs.Common.{pair, tree_value}
 use Rattle.otel_otlp.specs.Groups as groups

@@ -10,7 +10,7 @@ use Rattle.otel_base.specs.Value.{AttributeValue}
 use Rattle.otel_ids.specs.SpanContext.{SpanContextRecord}
 use Rattle.otel_ids.specs.TraceState.{header}
 use Rattle.opentelemetry.specs.Event.{EventRecord, LinkRecord}
-use Rattle.otel_sdk_span.specs.Resource.{Parts}
+use Rattle.otel_sdk_base.specs.Resource.{Parts}
 use Rattle.otel_sdk_span.specs.SpanData.{SpanRecord}
 use Rattle.otel_otlp.specs.Common.{unique}
 use Rattle.otel_otlp.specs.Groups.{is_of, first_scopes}

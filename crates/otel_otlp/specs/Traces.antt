@@ -10,7 +10,7 @@ use Rattle.otel_ids.specs.SpanContext.{SpanContextRecord}
 use Rattle.otel_ids.specs.TraceState.{header}
 use Rattle.opentelemetry.specs.Event.{EventRecord, LinkRecord}
 use Rattle.otel_sdk_span.specs.SpanData.{SpanRecord}
-use Rattle.otel_sdk_span.specs.Resource.{Parts}
+use Rattle.otel_sdk_base.specs.Resource.{Parts}
 use Rattle.serde_json.specs.Data.{Data}
 use Rattle.otel_otlp.specs.Json.{Member, object_of, text_member, number_member, decimal_member}
 use Rattle.otel_otlp.specs.Json.{list_member, text_unless_empty}

@@ -8,7 +8,7 @@ ghost use Rattle.otel_otlp.specs.View.{Adds};
 use crate::object::{Members, put_list, put_list_unless_empty, put_text, put_text_if_given};
 use itoa::Buffer;
 use opentelemetry::{Array, InstrumentationScope, KeyValue, StringValue, Value};
-use otel_sdk_span::resource::Resource;
+use otel_sdk_base::resource::Resource;
 use serde_json::{Map, Value as Json, put};
 use std::alloc::{AllocError, Global};
 

@@ -2,13 +2,13 @@
 ghost use Rattle.std.specs.Prelude.{◌≡◌, ℕ, List, [], ◌∷◌, ◌++◌, true, false};
 ghost use Rattle.std.specs.Prelude.{IsTrue, IsOk, IfOk, OnOk, OnErr, IsErrOf, alloc_error};
 ghost use Rattle.std.specs.Rc.{rc_value};
-ghost use Rattle.otel_sdk_span.specs.Resource as resource;
+ghost use Rattle.otel_sdk_base.specs.Resource as resource;
 ghost use Rattle.otel_otlp.specs.Exporter.{Takes, IsLineOf, IsTornLineOf};
 
 use crate::lines::Lines;
 use crate::traces::traces_text;
-use otel_sdk_span::error::{OTelSdkError, OTelSdkResult};
-use otel_sdk_span::resource::Resource;
+use otel_sdk_base::error::{OTelSdkError, OTelSdkResult};
+use otel_sdk_base::resource::Resource;
 use otel_sdk_span::{Accepted, Batch, SpanData, SpanExporter};
 use std::alloc::{AllocError, Global};
 use std::io::Write;

@@ -9,7 +9,7 @@ ghost use Rattle.otel_otlp.specs.Json.{object_of, list_member};
 use crate::common::{instrumentation_scope, resource};
 use crate::object::{put_list, put_text_if_given};
 use opentelemetry::InstrumentationScope;
-use otel_sdk_span::resource::Resource;
+use otel_sdk_base::resource::Resource;
 use serde_json::{Map, Value, put};
 use std::alloc::{AllocError, Global};
 

@@ -4,7 +4,7 @@ ghost use Rattle.std.specs.Prelude.{IsTrue, OnOk, OnErr, IsErrOf, alloc_error};
 ghost use Rattle.otel_otlp.specs.Exporter.{Takes, IsTorn};
 
 use crate::written::write_bytes;
-use otel_sdk_span::error::{OTelSdkError, OTelSdkResult};
+use otel_sdk_base::error::{OTelSdkError, OTelSdkResult};
 use std::alloc::Global;
 use std::io::Write;
 

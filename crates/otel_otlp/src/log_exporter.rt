@@ -2,15 +2,15 @@
 ghost use Rattle.std.specs.Prelude.{◌≡◌, ℕ, List, [], ◌∷◌, ◌++◌, true, false};
 ghost use Rattle.std.specs.Prelude.{IsTrue, IsOk, IfOk, OnOk, OnErr, IsErrOf, alloc_error};
 ghost use Rattle.std.specs.Rc.{rc_value};
-ghost use Rattle.otel_sdk_span.specs.Resource as resource;
+ghost use Rattle.otel_sdk_base.specs.Resource as resource;
 ghost use Rattle.otel_otlp.specs.Exporter.{Takes, IsLogLineOf, IsTornLogLineOf};
 
 use crate::accepted::{AcceptedLogs, LogBatch};
 use crate::lines::Lines;
 use crate::logs::logs_text;
 use otel_sdk_logs::{LogData, LogExporter};
-use otel_sdk_span::error::{OTelSdkError, OTelSdkResult};
-use otel_sdk_span::resource::Resource;
+use otel_sdk_base::error::{OTelSdkError, OTelSdkResult};
+use otel_sdk_base::resource::Resource;
 use std::alloc::{AllocError, Global};
 use std::io::Write;
 use std::marker::Model;

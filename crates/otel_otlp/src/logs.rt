@@ -19,7 +19,7 @@ use opentelemetry::logs::{AnyValue, Severity};
 use opentelemetry::trace::TraceFlags;
 use opentelemetry::{InstrumentationScope, Key, StringValue};
 use otel_sdk_logs::{LogData, SdkLogRecord, TraceContext};
-use otel_sdk_span::resource::Resource;
+use otel_sdk_base::resource::Resource;
 use serde_json::{Map, Value, put};
 use std::alloc::{AllocError, Global};
 

@@ -15,7 +15,7 @@ use crate::object::{
 use opentelemetry::InstrumentationScope;
 use opentelemetry::trace::{Event, Link, SpanContext, SpanId, SpanKind, Status};
 use otel_sdk_span::SpanData;
-use otel_sdk_span::resource::Resource;
+use otel_sdk_base::resource::Resource;
 use serde_json::{Map, Value, put};
 use std::alloc::{AllocError, Global};
 

@@ -14,12 +14,12 @@ use Rattle.otel_sdk.specs.Processor.{FailedIfOpen, FlushedIfClosed, IsClosed, Is
 use Rattle.otel_sdk.specs.Processor.{new as new_processor, Limits, ProcessorState}
 use Rattle.opentelemetry.specs.declared.trace.span_builder.SpanBuilder.{SpanBuilder}
 use Rattle.opentelemetry.specs.View.{builder_of}
-use Rattle.otel_sdk_span.specs.declared.error.OTelSdkError.TheVariants.{AlreadyShutdown, Memory}
+use Rattle.otel_sdk_base.specs.declared.error.OTelSdkError.TheVariants.{AlreadyShutdown, Memory}
 use Rattle.otel_sdk.specs.Run.{Applies, AttachesOne, StartsActive, StartsOne, IsCollected, IsExported, IsShutDown, Plays}
 use Rattle.otel_sdk.specs.Run.{at_start, state_of}
 use Rattle.otel_sdk_span.specs.Span.{SpanState}
 use Rattle.otel_sdk.specs.SpanChange.{change_of}
-use Rattle.otel_sdk_span.specs.declared.error.OTelSdkError.{OTelSdkError}
+use Rattle.otel_sdk_base.specs.declared.error.OTelSdkError.{OTelSdkError}
 use Rattle.otel_sdk_span.specs.SpanData.{SpanRecord}
 use Rattle.otel_sdk.specs.declared.trace.change.SpanChange.{SpanChange}
 use Rattle.otel_sdk.specs.declared.trace.program.event.SpanEvent.TheVariants.{Start, StartCurrent, StartActive, Attach, Detach}

@@ -20,7 +20,7 @@ use Rattle.otel_sdk.specs.declared.trace.program.event.EventOutcome.{EventOutcom
 use Rattle.otel_sdk.specs.declared.trace.program.event.EventOutcome.TheVariants.{Done, NumbersUsedUp, NotAttached, Failed}
 use Rattle.otel_sdk_span.specs.Span.{SpanState}
 use Rattle.otel_sdk_span.specs.SpanData.{SpanRecord}
-use Rattle.otel_sdk_span.specs.declared.error.OTelSdkError.{OTelSdkError}
+use Rattle.otel_sdk_base.specs.declared.error.OTelSdkError.{OTelSdkError}
 use Rattle.otel_sdk.proofs.Agreement.{Agree, next-changed}
 use Rattle.otel_sdk.proofs.KinLemmas.{Kin, active-comes, attach-kin, change-moves, current-comes, detach-kin, end-moves, end-next}
 use Rattle.otel_sdk.proofs.KinLemmas.{move-kin, no-kin, start-kin}

@@ -20,7 +20,7 @@ use Rattle.otel_sdk.specs.Run.{Takes, Fails, FailsToClose, RunsOut, StaysUnattac
 use Rattle.otel_sdk_span.specs.Span.{SpanState, after_end}
 use Rattle.otel_sdk.specs.SpanChange.{change_of}
 use Rattle.otel_sdk.specs.SpanEnd.{is_running}
-use Rattle.otel_sdk_span.specs.declared.error.OTelSdkError.{OTelSdkError}
+use Rattle.otel_sdk_base.specs.declared.error.OTelSdkError.{OTelSdkError}
 use Rattle.otel_sdk_span.specs.SpanData.{SpanRecord}
 use Rattle.otel_sdk.specs.declared.trace.program.event.SpanEvent.{SpanEvent}
 use Rattle.otel_sdk.specs.declared.trace.program.event.SpanEvent.TheVariants.{Start, StartCurrent, StartActive, Attach, Detach}

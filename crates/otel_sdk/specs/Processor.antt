@@ -5,8 +5,8 @@ use Rattle.std.specs.Prelude.{if◌then◌else◌, alloc_error, refl}
 use Rattle.otel_ids.specs.TraceFlags as flags
 use Rattle.otel_sdk_span.specs.SpanData.{SpanRecord}
 use Rattle.otel_sdk.specs.Export.{AreExported, spans_of}
-use Rattle.otel_sdk_span.specs.declared.error.OTelSdkError.{OTelSdkError}
-use Rattle.otel_sdk_span.specs.declared.error.OTelSdkError.TheVariants.{AlreadyShutdown, Memory}
+use Rattle.otel_sdk_base.specs.declared.error.OTelSdkError.{OTelSdkError}
+use Rattle.otel_sdk_base.specs.declared.error.OTelSdkError.TheVariants.{AlreadyShutdown, Memory}
 
 -- whether the span is exported: its flag `sampled` is set (OpenTelemetry trace SDK, "Sampling")
 abbrev pub is_sampled : SpanRecord → Bool

@@ -16,8 +16,8 @@ use Rattle.otel_sdk.specs.Processor.{IsClosed, IsFlushed, Limits, ProcessorState
 use Rattle.otel_sdk_span.specs.Span.{SpanState}
 use Rattle.otel_sdk.specs.SpanChange.{change_of}
 use Rattle.otel_sdk_span.specs.SpanData.{SpanRecord}
-use Rattle.otel_sdk_span.specs.declared.error.OTelSdkError.{OTelSdkError}
-use Rattle.otel_sdk_span.specs.declared.error.OTelSdkError.TheVariants.{AlreadyShutdown, Memory}
+use Rattle.otel_sdk_base.specs.declared.error.OTelSdkError.{OTelSdkError}
+use Rattle.otel_sdk_base.specs.declared.error.OTelSdkError.TheVariants.{AlreadyShutdown, Memory}
 use Rattle.otel_sdk.specs.declared.trace.program.event.SpanEvent.{SpanEvent}
 use Rattle.otel_sdk.specs.declared.trace.program.event.SpanEvent.TheVariants.{Start, StartCurrent}
 use Rattle.otel_sdk.specs.declared.trace.program.event.SpanEvent.TheVariants.{StartActive, Attach}

@@ -11,7 +11,7 @@ use Rattle.otel_context.specs.declared.span.status.Status.TheVariants.{Unset}
 use Rattle.otel_ids.specs.SpanContext.{SpanContextRecord, no_span_context}
 use Rattle.otel_ids.specs.TraceState.{Pair}
 use Rattle.opentelemetry.specs.SpanBuilder.{BuilderRecord}
-use Rattle.otel_sdk_span.specs.Resource.{Parts, with_defaults}
+use Rattle.otel_sdk_base.specs.Resource.{Parts, with_defaults}
 use Rattle.otel_sdk_sampling.specs.Sampler.{Asked, Answer, has_parent}
 use Rattle.otel_sdk_span.specs.Span.{SpanState, started, unrecorded}
 use Rattle.otel_sdk_span.specs.SpanData.{SpanRecord}

@@ -5,5 +5,5 @@
 pub mod laws;
 pub mod trace;
 
+pub use otel_sdk_base::{error, resource};
 pub use otel_sdk_logs as logs;
-pub use otel_sdk_span::{error, resource};

@@ -12,13 +12,13 @@ mod tracer;
 pub use change::SpanChange;
 pub use in_memory_exporter::InMemorySpanExporter;
 pub use live::LiveSpans;
+pub use otel_sdk_base::{Clock, ManualClock, SystemClock};
 pub use otel_sdk_sampling::{
     CountedIdGenerator, IdError, IdGenerator, ParentBased, RandomIdGenerator, Sampler,
     SamplingDecision, SamplingResult, ShouldSample, laws,
 };
 pub use otel_sdk_span::{
-    Clock, ManualClock, SdkSpan, SpanData, SpanEvents, SpanExporter, SpanLimits, SpanLinks,
-    SystemClock,
+    SdkSpan, SpanData, SpanEvents, SpanExporter, SpanLimits, SpanLinks,
 };
 pub use processor::batch::BatchSpanProcessor;
 pub use processor::config::{BatchConfig, BatchConfigBuilder};

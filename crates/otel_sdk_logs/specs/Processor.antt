@@ -4,8 +4,8 @@ use Rattle.std.specs.Prelude.{length, Result, IsErr, IsErrOf, IsTrue, not, nat_l
 use Rattle.std.specs.Prelude.{if◌then◌else◌, refl}
 use Rattle.otel_sdk_logs.specs.LogRecord.{LogEntry}
 use Rattle.otel_sdk_logs.specs.Export.{AreExported, records_of}
-use Rattle.otel_sdk_span.specs.declared.error.OTelSdkError.{OTelSdkError}
-use Rattle.otel_sdk_span.specs.declared.error.OTelSdkError.TheVariants.{AlreadyShutdown}
+use Rattle.otel_sdk_base.specs.declared.error.OTelSdkError.{OTelSdkError}
+use Rattle.otel_sdk_base.specs.declared.error.OTelSdkError.TheVariants.{AlreadyShutdown}
 
 -- ---- what every processor owes
 -- The records that a processor took, in order: those that its exporter accepted, followed by those

@@ -3,8 +3,8 @@ ghost use Rattle.std.specs.Prelude.{◌≡◌, [], ◌∷◌, ◌++◌, OnOk, On
 
 use crate::record::SdkLogRecord;
 use opentelemetry::InstrumentationScope;
-use otel_sdk_span::error::OTelSdkResult;
-use otel_sdk_span::resource::Resource;
+use otel_sdk_base::error::OTelSdkResult;
+use otel_sdk_base::resource::Resource;
 use std::alloc::AllocError;
 use std::clone::Clone;
 use std::marker::Model;

@@ -4,7 +4,7 @@ ghost use Rattle.std.specs.Prelude.{IsOk, IsTrue, OnOk, OnErr, IfOk, IsErrOf};
 ghost use Rattle.otel_sdk_logs.specs.Export.{records_of};
 
 use crate::export::{LogData, LogExporter};
-use otel_sdk_span::error::{OTelSdkError, OTelSdkResult};
+use otel_sdk_base::error::{OTelSdkError, OTelSdkResult};
 use std::alloc::{AllocError, Global};
 use std::marker::Model;
 

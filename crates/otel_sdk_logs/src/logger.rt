@@ -9,7 +9,7 @@ use crate::provider::LoggerProviderInner;
 use crate::record::SdkLogRecord;
 use opentelemetry::InstrumentationScope;
 use opentelemetry::logs::{Logger, Severity};
-use otel_sdk_span::Clock;
+use otel_sdk_base::Clock;
 use std::alloc::{AllocError, Global};
 use std::marker::Model;
 use std::rc::Rc;

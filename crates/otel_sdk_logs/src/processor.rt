@@ -8,8 +8,8 @@ pub(crate) mod config;
 pub(crate) mod simple;
 
 use crate::export::LogData;
-use otel_sdk_span::error::OTelSdkResult;
-use otel_sdk_span::resource::Resource;
+use otel_sdk_base::error::OTelSdkResult;
+use otel_sdk_base::resource::Resource;
 use std::rc::Rc;
 
 /// Takes log records, and hands them to an exporter (the Rust crate's `LogProcessor`). There are no

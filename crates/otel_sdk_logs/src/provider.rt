@@ -1,16 +1,16 @@
 //! What makes the loggers of the SDK.
 ghost use Rattle.std.specs.Prelude.{◌≡◌, IfOk, Some, None};
 ghost use Rattle.std.specs.Option.{option_map_or, unwrap_or};
-ghost use Rattle.otel_sdk_span.specs.Resource.{merge, with_defaults};
+ghost use Rattle.otel_sdk_base.specs.Resource.{merge, with_defaults};
 
 use crate::export::LogData;
 use crate::logger::SdkLogger;
 use crate::processor::LogProcessor;
 use opentelemetry::logs::LoggerProvider;
 use opentelemetry::{InstrumentationScope, StringValue};
-use otel_sdk_span::error::{OTelSdkError, OTelSdkResult};
-use otel_sdk_span::resource::Resource;
-use otel_sdk_span::{Clock, SystemClock};
+use otel_sdk_base::error::{OTelSdkError, OTelSdkResult};
+use otel_sdk_base::resource::Resource;
+use otel_sdk_base::{Clock, SystemClock};
 use std::alloc::{AllocError, Global};
 use std::cell::{BorrowError, Cell, Ref, RefCell};
 use std::marker::Model;
@@ -90,7 +90,7 @@ pub struct SdkLoggerProvider<P, C> {
 
 impl<P, C> Model for SdkLoggerProvider<P, C> {
     ghost use Rattle.std.specs.Rc.{rc_value};
-    ghost use Rattle.otel_sdk_span.specs.Resource.{Parts};
+    ghost use Rattle.otel_sdk_base.specs.Resource.{Parts};
 
     ghost Value = { Parts };
 

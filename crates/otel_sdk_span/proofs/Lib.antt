@@ -1,6 +1,2 @@
-mod FirstChars
-pub mod Lists
-pub mod PieceTurns
-mod SetInTurn
 mod SpanContexts
 mod Walks

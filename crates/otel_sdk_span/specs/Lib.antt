@@ -1,7 +1,3 @@
-pub mod Attributes
-pub mod Clock
-pub mod Resource
-pub mod ResourceTexts
 pub mod Span
 pub mod SpanData
 pub mod SpanExamples

@@ -8,9 +8,9 @@ use Rattle.otel_context.specs.Status.{cmp}
 use Rattle.otel_context.specs.declared.span.status.Status.{Status}
 use Rattle.otel_ids.specs.SpanContext.{SpanContextRecord}
 use Rattle.opentelemetry.specs.Event.{EventRecord, LinkRecord}
-use Rattle.otel_sdk_span.specs.Attributes.{cut, keeps, set}
+use Rattle.otel_sdk_base.specs.Attributes.{cut, keeps, set, up_by}
 use Rattle.otel_sdk_span.specs.SpanData.{SpanRecord}
-use Rattle.otel_sdk_span.specs.SpanLimits.{default_limits, up_by, limited_event, limited_link}
+use Rattle.otel_sdk_span.specs.SpanLimits.{default_limits, limited_event, limited_link}
 use Rattle.otel_sdk_span.specs.declared.limits.SpanLimits.{SpanLimits}
 
 -- ---- what a span has recorded, after a call

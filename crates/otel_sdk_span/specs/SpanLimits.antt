@@ -3,7 +3,7 @@ use Rattle.std.specs.Prelude.{◌≡◌, ℕ, ◌+◌, List, [], map, nat_lt, re
 use Rattle.std.specs.Prelude.{None, if◌then◌else◌}
 use Rattle.otel_base.specs.KeyValue.{Attribute}
 use Rattle.opentelemetry.specs.Event.{EventRecord, LinkRecord}
-use Rattle.otel_sdk_span.specs.Attributes.{cut, set_all, dropped}
+use Rattle.otel_sdk_base.specs.Attributes.{cut, set_all, dropped, up_by}
 use Rattle.otel_sdk_span.specs.declared.limits.SpanLimits.{SpanLimits}
 
 -- 128 of each, and values of any length [OpenTelemetry trace SDK, "Span Limits"]
@@ -16,10 +16,6 @@ default_limits = record {
   max_attributes_per_link = 128;
   max_attribute_length = None;
 }
-
--- a count that rises by some, and stops at the greatest `u32`
-abbrev pub up_by : ℕ → ℕ → ℕ
-up_by count more = if nat_lt (count + more) 4294967296 then count + more else 4294967295
 
 -- the attributes with their values cut
 abbrev pub cut_all : SpanLimits → List Attribute → List Attribute

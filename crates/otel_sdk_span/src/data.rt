@@ -2,14 +2,14 @@
 ghost use Rattle.std.specs.Prelude.{◌≡◌, IfOk, OnOk, OnErr, fold, map};
 ghost use Rattle.otel_base.specs.View.{attribute_of};
 ghost use Rattle.opentelemetry.specs.View.{event_of, link_of};
-ghost use Rattle.otel_sdk_span.specs.Attributes.{attributes_of};
+ghost use Rattle.otel_sdk_base.specs.Attributes.{attributes_of};
 ghost use Rattle.otel_sdk_span.specs.Span as spec;
 
-use crate::attributes::set;
-use crate::cutting::cut;
-use crate::limits::{SpanLimits, limited_event, limited_link, up_by};
+use crate::limits::{SpanLimits, limited_event, limited_link};
 use opentelemetry::trace::{Event, Link, SpanContext, SpanId, SpanKind, Status, TraceState};
 use opentelemetry::{InstrumentationScope, KeyValue, StringValue};
+use otel_sdk_base::attributes::{set, up_by};
+use otel_sdk_base::cutting::cut;
 use std::alloc::{AllocError, Global};
 use std::marker::Model;
 use std::mem;

@@ -2,8 +2,8 @@
 ghost use Rattle.std.specs.Prelude.{◌≡◌, [], ◌∷◌, ◌++◌, OnOk, OnErr};
 
 use crate::data::SpanData;
-use crate::error::OTelSdkResult;
-use crate::resource::Resource;
+use otel_sdk_base::error::OTelSdkResult;
+use otel_sdk_base::resource::Resource;
 use std::rc::Rc;
 
 /// Takes spans out of the program, in batches (the Rust crate's `SpanExporter`).

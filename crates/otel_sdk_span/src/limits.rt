@@ -3,8 +3,8 @@ ghost use Rattle.std.specs.Prelude.{◌≡◌, IfOk};
 ghost use Rattle.opentelemetry.specs.View.{event_of, link_of};
 ghost use Rattle.otel_sdk_span.specs.SpanLimits as spec;
 
-use crate::attributes::limited;
 use opentelemetry::trace::{Event, Link};
+use otel_sdk_base::attributes::limited;
 use std::alloc::{AllocError, Global};
 
 /// How much a span keeps of what its calls give it (the Rust crate's `SpanLimits`). What exceeds a
@@ -49,13 +49,6 @@ impl Default for SpanLimits {
             max_attribute_length: None,
         }
     }
-}
-
-/// Returns the count plus `more`, or the greatest `u32` if that is less.
-pub(crate) fn up_by(count: u32, more: u32) -> u32
-    ensures { result ≡ spec.up_by count more }
-{
-    count.saturating_add(more)
 }
 
 /// Returns the event with its attributes cut and up to the limit.

@@ -6,7 +6,7 @@ ghost use Rattle.otel_drawing.specs.Columns.{picture_width};
 
 use crate::drawn::drawn;
 use otel_drawing::{Style, picture};
-use otel_sdk_span::error::{OTelSdkError, OTelSdkResult};
+use otel_sdk_base::error::{OTelSdkError, OTelSdkResult};
 use otel_sdk_span::{Accepted, Batch, SpanData, SpanExporter};
 use std::alloc::Global;
 use std::io::{ErrorKind, Write};

@@ -5,7 +5,7 @@ ghost use Rattle.otel_sdk.specs.Export.{spans_of};
 
 mod copies;
 
-use otel_sdk_span::error::{OTelSdkError, OTelSdkResult};
+use otel_sdk_base::error::{OTelSdkError, OTelSdkResult};
 use otel_sdk_span::{SpanData, SpanExporter};
 use std::alloc::{AllocError, Global};
 use std::marker::Model;

@@ -16,7 +16,7 @@ use crate::trace::processor::batch::BatchSpanProcessor;
 use opentelemetry::Context;
 use opentelemetry::context::ContextStack;
 use opentelemetry::trace::{SpanCause, SpanRefused, Spans};
-use otel_sdk_span::error::OTelSdkResult;
+use otel_sdk_base::error::OTelSdkResult;
 use otel_sdk_span::{SdkSpan, SpanExporter};
 use std::alloc::{AllocError, Global};
 use std::marker::Model;

@@ -1,7 +1,7 @@
 //! What makes the tracers of the SDK.
 ghost use Rattle.std.specs.Prelude.{◌≡◌, IfOk, Some, None, map};
 ghost use Rattle.std.specs.Option.{option_map_or};
-ghost use Rattle.otel_sdk_span.specs.Resource.{merge, with_defaults};
+ghost use Rattle.otel_sdk_base.specs.Resource.{merge, with_defaults};
 ghost use Rattle.otel_sdk_span.specs.SpanLimits.{default_limits};
 ghost use Rattle.otel_sdk.specs.Tracer as spec;
 
@@ -9,8 +9,9 @@ use crate::trace::tracer::{SdkTracer, TracerPipeline};
 use opentelemetry::trace::TracerProvider;
 use opentelemetry::{InstrumentationScope, StringValue};
 use otel_sdk_sampling::{IdGenerator, ParentBased, RandomIdGenerator, Sampler, ShouldSample};
-use otel_sdk_span::resource::Resource;
-use otel_sdk_span::{Clock, SpanLimits, SystemClock};
+use otel_sdk_base::resource::Resource;
+use otel_sdk_base::{Clock, SystemClock};
+use otel_sdk_span::SpanLimits;
 use std::alloc::{AllocError, Global};
 use std::cell::Cell;
 use std::marker::Model;

@@ -10,7 +10,8 @@ use crate::trace::start::{Ids, ask, given_data, new_ids, parent_of, records, spa
 use opentelemetry::trace::{SpanBuilder, SpanContext, Tracer};
 use opentelemetry::{Context, InstrumentationScope, KeyValue};
 use otel_sdk_sampling::{IdGenerator, ShouldSample};
-use otel_sdk_span::{Clock, SdkSpan, SpanLimits};
+use otel_sdk_base::Clock;
+use otel_sdk_span::{SdkSpan, SpanLimits};
 use std::alloc::{AllocError, Global};
 use std::marker::Model;
 use std::rc::Rc;

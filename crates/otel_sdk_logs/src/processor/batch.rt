@@ -5,8 +5,8 @@ use crate::export::{LogData, LogExporter};
 use crate::processor::LogProcessor;
 use crate::processor::batches::export_batches;
 use crate::processor::config::BatchConfig;
-use otel_sdk_span::error::{OTelSdkError, OTelSdkResult};
-use otel_sdk_span::resource::Resource;
+use otel_sdk_base::error::{OTelSdkError, OTelSdkResult};
+use otel_sdk_base::resource::Resource;
 use std::alloc::{AllocError, Global};
 use std::rc::Rc;
 

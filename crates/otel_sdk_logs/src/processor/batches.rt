@@ -3,7 +3,7 @@ ghost use Rattle.std.specs.Prelude.{◌≡◌, ◌≤◌, ◌<◌, ◌-◌, ◌�
 ghost use Rattle.otel_sdk_logs.specs.Export.{AreExported};
 
 use crate::export::{LogData, LogExporter};
-use otel_sdk_span::error::OTelSdkResult;
+use otel_sdk_base::error::OTelSdkResult;
 
 /// Exports the records in batches of the size until one is refused. Returns how many records are
 /// left, and the error if there are some.

@@ -9,8 +9,8 @@ use crate::export::{LogData, LogExporter};
 use crate::processor::LogProcessor;
 use crate::processor::batch::BatchLogProcessor;
 use crate::processor::config::BatchConfigBuilder;
-use otel_sdk_span::error::OTelSdkResult;
-use otel_sdk_span::resource::Resource;
+use otel_sdk_base::error::OTelSdkResult;
+use otel_sdk_base::resource::Resource;
 use std::alloc::{AllocError, Global};
 use std::rc::Rc;
 

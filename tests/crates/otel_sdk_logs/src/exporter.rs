@@ -4,7 +4,7 @@ use opentelemetry::logs::{AnyValue, LogRecord, Severity};
 use opentelemetry::trace::{SpanId, TraceFlags, TraceId};
 use opentelemetry::{Key, StringValue};
 use otel_sdk_logs::{InMemoryLogExporter, LogData, LogExporter};
-use otel_sdk_span::error::OTelSdkError;
+use otel_sdk_base::error::OTelSdkError;
 use std::alloc::{AllocError, Global};
 use std::rc::Rc;
 use std::test::Fail;

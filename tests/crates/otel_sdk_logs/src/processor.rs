@@ -5,7 +5,7 @@ use otel_sdk_logs::{
     BatchConfig, BatchConfigBuilder, BatchLogProcessor, LogData, LogExporter, LogProcessor,
     SdkLogRecord, SimpleLogProcessor,
 };
-use otel_sdk_span::error::{OTelSdkError, OTelSdkResult};
+use otel_sdk_base::error::{OTelSdkError, OTelSdkResult};
 use std::alloc::{AllocError, Global};
 use std::rc::Rc;
 use std::test::Fail;

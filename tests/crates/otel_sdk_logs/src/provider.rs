@@ -6,9 +6,9 @@ use otel_sdk_logs::{
     BatchConfig, BatchLogProcessor, InMemoryLogExporter, LogData, LogExporter, LogProcessor,
     SdkLoggerProvider, SimpleLogProcessor,
 };
-use otel_sdk_span::ManualClock;
-use otel_sdk_span::error::{OTelSdkError, OTelSdkResult};
-use otel_sdk_span::resource::Resource;
+use otel_sdk_base::ManualClock;
+use otel_sdk_base::error::{OTelSdkError, OTelSdkResult};
+use otel_sdk_base::resource::Resource;
 use std::alloc::{AllocError, Global};
 use std::default::Default;
 use std::rc::Rc;

@@ -1,5 +1,4 @@
-//! What no clause says of resources and spans: that calls succeed, and worked cases.
+//! What no clause says of spans: that calls succeed, and worked cases.
 #![tactic(auto)]
 
-mod resource;
 mod span;

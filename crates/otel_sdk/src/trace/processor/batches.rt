@@ -2,7 +2,7 @@
 ghost use Rattle.std.specs.Prelude.{◌≡◌, ◌≤◌, ◌<◌, ◌-◌, ◌↔◌, IsOk, length, drop};
 ghost use Rattle.otel_sdk.specs.Export.{AreExported};
 
-use otel_sdk_span::error::OTelSdkResult;
+use otel_sdk_base::error::OTelSdkResult;
 use otel_sdk_span::{SpanData, SpanExporter};
 
 /// Exports the spans in batches of the size until one is refused. Returns how many spans are left,

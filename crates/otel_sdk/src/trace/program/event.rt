@@ -2,7 +2,7 @@
 use crate::trace::change::SpanChange;
 use opentelemetry::Context;
 use opentelemetry::trace::SpanBuilder;
-use otel_sdk_span::error::OTelSdkError;
+use otel_sdk_base::error::OTelSdkError;
 
 /// One event of a run. The spans of a run are numbered from 0, in the order of their starts. A
 /// context is attached at the position above the newest, from 1 on.

@@ -1,5 +1,5 @@
 use Rattle.std.proofs.Common.{◌++◌, ◌∷◌, [], ℕ, List, subst, string_bytes, inr}
-use Rattle.otel_sdk_span.specs.Resource.{Parts}
+use Rattle.otel_sdk_base.specs.Resource.{Parts}
 use Rattle.otel_otlp.specs.Exporter.{SpanLines, Takes, IsLineOf, IsTorn, IsTornLineOf}
 use Rattle.otel_otlp.specs.Json.{IsTextOf}
 use Rattle.otel_otlp.specs.Traces.{traces_data}

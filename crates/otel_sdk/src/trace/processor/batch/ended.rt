@@ -8,7 +8,7 @@ ghost use Rattle.otel_sdk.specs.Ended.{AreCollected, AreListed, LosesNothing};
 
 use super::BatchSpanProcessor;
 use opentelemetry::trace::Spans;
-use otel_sdk_span::error::{OTelSdkError, OTelSdkResult};
+use otel_sdk_base::error::{OTelSdkError, OTelSdkResult};
 use otel_sdk_span::{SdkSpan, SpanExporter};
 
 /// Returns whether the span is exported at its end: it recorded and is sampled.

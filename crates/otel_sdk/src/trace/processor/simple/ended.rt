@@ -7,13 +7,13 @@ ghost use Rattle.otel_sdk.specs.Processor.{cause};
 ghost use Rattle.otel_sdk.specs.Ended as spec;
 ghost use Rattle.otel_sdk.specs.Ended.{AreHandedOn, AreListed, EachIsHandedOn, IsHandedOn};
 ghost use Rattle.otel_sdk.specs.Ended.{LosesNothing};
-ghost use Rattle.otel_sdk_span.specs.declared.error.OTelSdkError.TheVariants.{AlreadyShutdown};
+ghost use Rattle.otel_sdk_base.specs.declared.error.OTelSdkError.TheVariants.{AlreadyShutdown};
 
 use super::SimpleSpanProcessor;
 use crate::trace::processor::SpanProcessor;
 use crate::trace::processor::batch::BatchSpanProcessor;
 use opentelemetry::trace::Spans;
-use otel_sdk_span::error::{OTelSdkError, OTelSdkResult};
+use otel_sdk_base::error::{OTelSdkError, OTelSdkResult};
 use otel_sdk_span::{SdkSpan, SpanExporter};
 
 /// Flushes the processor, and takes the spans with these numbers and flushes it after each, until

@@ -1,0 +1,4 @@
+mod FirstChars
+pub mod Lists
+pub mod PieceTurns
+mod SetInTurn

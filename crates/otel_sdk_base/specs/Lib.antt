@@ -1,0 +1,4 @@
+pub mod Attributes
+pub mod Clock
+pub mod Resource
+pub mod ResourceTexts

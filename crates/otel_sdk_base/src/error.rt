@@ -1,0 +1,44 @@
+//! The error of processors and exporters.
+ghost use Rattle.std.specs.Prelude.{◌≡◌, alloc_error};
+ghost use Rattle.otel_sdk_base.specs.declared.error.OTelSdkError.TheVariants.{Memory};
+
+use std::alloc::{AllocError, AllocFailed};
+use thiserror::Error;
+
+/// Why a processor or an exporter failed (the Rust crate's `OTelSdkError`, without `Timeout`, as
+/// nothing waits here).
+///
+/// ```
+/// assert!(rt; matches!(answer, Err(OTelSdkError::AlreadyShutdown)));
+/// ```
+#[derive(Debug, Drop, Error)]
+pub enum OTelSdkError {
+    /// It was shut down before.
+    #[error("Shutdown already invoked")]
+    AlreadyShutdown,
+    /// Its own failure, in words.
+    #[error("Operation failed: {0}")]
+    InternalFailure(String),
+    /// Out of memory. Not in the Rust crate, which aborts.
+    #[error("no memory")]
+    Memory(AllocError),
+}
+
+/// What calls of processors and exporters return (the Rust crate's `OTelSdkResult`).
+pub type OTelSdkResult = Result<(), OTelSdkError>;
+
+impl From<AllocError> for OTelSdkError {
+    ghost from_gives = { λ error converted. converted ≡ Memory error };
+
+    fn from(error: AllocError) -> OTelSdkError {
+        OTelSdkError::Memory(error)
+    }
+}
+
+impl<T: Drop> From<AllocFailed<T>> for OTelSdkError {
+    ghost from_gives = { λ _ converted. converted ≡ Memory alloc_error };
+
+    fn from(_failed: AllocFailed<T>) -> OTelSdkError {
+        OTelSdkError::Memory(AllocError)
+    }
+}
