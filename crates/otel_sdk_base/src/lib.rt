@@ -6,6 +6,8 @@ pub mod attributes;
 mod clock;
 pub mod cutting;
 pub mod error;
+mod export;
 pub mod resource;
 
 pub use clock::{Clock, ManualClock, SystemClock};
+pub use export::Exporter;
