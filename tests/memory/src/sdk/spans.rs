@@ -36,7 +36,7 @@ fn attributes(alloc: Global) -> Result<Vec<KeyValue>, AllocError> {
 }
 
 /// What a span starts with that has these attributes, and no event and no link.
-fn given(alloc: Global, attributes: Vec<KeyValue>) -> Result<SpanData, AllocError> {
+pub fn given(alloc: Global, attributes: Vec<KeyValue>) -> Result<SpanData, AllocError> {
     let scope = InstrumentationScope::builder(StringValue::from("lib")).build(alloc)?;
     Ok(SpanData {
         span_context: SpanContext::NONE,
