@@ -59,7 +59,7 @@ pub RisesAbove-push : (p : ℕ) (xs : List ℕ) (x : ℕ) → RisesAbove p xs �
 RisesAbove-push p [] x r h = (h, tt)
 RisesAbove-push p (y ∷ xs) x r h = (r.0, RisesAbove-push y xs x r.1 h)
 
--- what rises from above a number rises from above a lower one
+-- a list that rises from above a number rises from above a lower one
 pub RisesAbove-below : (q p : ℕ) (xs : List ℕ) → q ≤ p → RisesAbove p xs → RisesAbove q xs
 RisesAbove-below q p [] h r = tt
 RisesAbove-below q p (x ∷ xs) h r = (omega (arith, r.0), r.1)
@@ -72,7 +72,7 @@ detach-above q p (x ∷ xs) r h =
     let other : (x.0 == p) ≡ false = ne_eqb x.0 p (λ e. omega arith) in
     rw other (ap (λ (l : Live). x ∷ l) (detach-above x.0 p xs r.1 (omega arith)))
 
--- taking out a position leaves the others in order
+-- removing a position leaves the others in order
 pub RisesAbove-detach : (q p : ℕ) (xs : Live) → RisesAbove q (positions xs) → RisesAbove q (positions (detach p xs))
 RisesAbove-detach q p [] r = tt
 RisesAbove-detach q p (x ∷ xs) r = elim (cases_Bool (x.0 == p)) [
