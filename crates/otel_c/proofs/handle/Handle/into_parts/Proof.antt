@@ -1,4 +1,4 @@
--- `into_parts` compares the pointer with null, and what it owns goes to the parts.
+-- `into_parts` compares the pointer with null, and the parts get its ownership.
 use Rattle.std.proofs.Common.{◌≡◌, List, [], ◌∷◌, ◌++◌, refl, sym, ap, ◌∙◌, subst, lit<}
 use lib.Dec.{T}
 use mir.Val.{Val, vnull, vcons, vnil, ptr_eq_ok}
