@@ -1,4 +1,4 @@
--- What a logger is handed for a record of the crate `log`.
+-- The log record that a logger gets for a record of the crate `log`.
 use Rattle.std.specs.Prelude.{◌≡◌, ℕ, List, Option, Some, IfSome}
 use Rattle.log.specs.declared.record.Metadata.{Metadata}
 use Rattle.log.specs.Kv.{Pair}
@@ -12,7 +12,7 @@ use Rattle.otel_appender_log.specs.Attributes.{Attribute}
 use Rattle.otel_appender_log.specs.Location.{IsLocated}
 use Rattle.otel_appender_log.specs.Severity.{severity_of}
 
--- what the setters of a log record do to it
+-- the effects of the setters of a log record
 pub record Setters (R : Type 0) : Type 0 where
   pub number : R → Severity → R
   pub name : R → List ℕ → R
@@ -20,8 +20,8 @@ pub record Setters (R : Type 0) : Type 0 where
   pub target : R → List ℕ → R
   pub attributes : R → List Attribute → R
 
--- what is known of a record of the crate `log`: its level and target, what `{}` writes for its
--- message, its pairs, and its place in the source
+-- a record of the crate `log`: its level and target, the text of its message as written by `{}`,
+-- its pairs, and its source location, as far as they are known
 pub record Source : Type 0 where
   pub metadata : Metadata
   pub message : Option (List ℕ)
