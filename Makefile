@@ -9,7 +9,7 @@
 #   make test                       checks every proof, test, vector, misuse case and run out of memory, and the wrong bodies that
 #                                   may have become right
 #
-# Parts of make test, for short loops:
+# Shorter commands, most of them parts of make test:
 #
 #   make check CRATE=C              proves one crate, reusing the results of earlier checks
 #   make tests                      runs the tests; CRATE=C of one crate; TEST=T whose path contains T
@@ -22,7 +22,7 @@
 #   make memory                     runs programs out of memory: each allocation fails in turn
 #   make long                       runs the programs on long inputs
 #   make calls                      checks that make memory covers each call that can run out of memory
-#   make fuzz                       compares N random programs and rows with a plain model; COUNT=N, SEED=N
+#   make fuzz                       compares random programs and rows with a plain model; COUNT=N sets their number, SEED=N the seed
 #   make documents                  checks that everything the documents mention exists, and that the code they show runs
 #   make bench                      counts the instructions of operations, beside the Rust crate
 #

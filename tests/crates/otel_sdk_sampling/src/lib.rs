@@ -1,5 +1,5 @@
-//! What no clause says of samplers and generators of ids: that calls succeed, texts as printed, and
-//! worked cases.
+//! Behavior of samplers and generators of ids that no clause states: that calls succeed, printed
+//! texts, and worked cases.
 #![tactic(auto)]
 
 mod id_generator;
