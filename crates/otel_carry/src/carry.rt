@@ -24,8 +24,8 @@ use std::io::{self, Read, Write};
 ///
 /// The status is 0 if the whole report was written, and 2 if the input isn't UTF-8 or has a faulty
 /// line and the line that says so was written. Otherwise it is 1: the input couldn't be read, the
-/// injection or the extraction failed, a write or the flush failed, or out of memory. Nothing is
-/// written after a failed write.
+/// injection or the extraction failed, a write or the flush failed, or the program was out of
+/// memory. Nothing is written after a failed write.
 pub fn carry<R: Read + Drop, W: Write>(
     alloc: Global,
     input: R,

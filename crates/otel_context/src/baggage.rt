@@ -171,8 +171,8 @@ impl Baggage {
     /// Removes the member with the key. Returns its value and metadata, or `None` if no member has
     /// the key.
     ///
-    /// The other members keep their order. Finds the key as [`get`](Self::get) does. Doesn't
-    /// allocate.
+    /// The other members keep their order, and the removed bytes no longer count. Finds the key as
+    /// [`get`](Self::get) does. Doesn't allocate.
     pub fn remove(&mut self, key: &str) -> Option<(StringValue, BaggageMetadata)>
         ensures list { self.new ≡ remove self.old key.now }
         ensures old { result ≡ get_with_metadata self.old key.now }

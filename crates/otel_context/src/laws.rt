@@ -3,7 +3,7 @@ ghost use Rattle.otel_context.specs.BaggageLaws.{HeaderDetermines, HeaderIsShort
 ghost use Rattle.otel_context.specs.StackLaws.{DetachRestores, AttachIsCurrent, AttachLeavesAll};
 ghost use Rattle.otel_context.specs.StackLaws.{RemovalLeavesOthers, RemovalKeepsOrder};
 
-/// States that the header of a baggage determines its members. Not in the Rust crate.
+/// States two laws of baggage headers, for callers to cite. Not in the Rust crate.
 ///
 /// - If no metadata contains a comma, baggages with equal headers have equal members.
 /// - A header has at most 24575 bytes.
@@ -13,9 +13,9 @@ pub fn header_reading()
 {}
 
 /// States how attaching and removing change a stack, for callers of
-/// [`ContextStack`](crate::ContextStack). Not in the Rust crate.
+/// [`ContextStack`](crate::ContextStack) to cite. Not in the Rust crate.
 pub fn stack_calls()
-    // Detaching the guard that an attach has just returned restores what was live.
+    // Detaching the guard that an attach has just returned restores the earlier attachments.
     ensures restores { DetachRestores }
     // The context attached last is current.
     ensures current { AttachIsCurrent }

@@ -18,13 +18,13 @@ use std::fmt::Display;
 
 /// A piece of work in a trace. Records what happens while it runs.
 ///
-/// Implementors define, as ghost functions, the effect of each writing call on the span for the
+/// Implementors define the effect of each writing call as a ghost function of the span and of the
 /// arguments' meaning: `after_event` (of a name, a time and attributes), `after_attribute`,
-/// `after_link`, `after_status`, `after_name` and `after_end`; and the results of `span_context`
-/// and `is_recording` (`context_of` and `records`). Each call has its effect or, on an error,
-/// leaves the span unchanged. No effect changes the span context (`event_keeps` and the five
-/// similar laws). The other calls are provided. The type decides what the calls do after the span
-/// has ended.
+/// `after_link`, `after_status`, `after_name` and `after_end`. They also define the results of
+/// `span_context` and `is_recording`: `context_of` and `records`. Each call has its effect or, on
+/// an error, leaves the span unchanged. No effect changes the span context (`event_keeps` and the
+/// five similar laws). The other calls are provided. The type decides the effect of the calls after
+/// the span has ended.
 ///
 /// One effect with its law and its call, for a span type that stores its name:
 ///

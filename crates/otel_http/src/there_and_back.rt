@@ -1,4 +1,4 @@
-//! Sends a context through HTTP headers and receives it, by the W3C propagators.
+//! Sends a context through HTTP headers and receives it, with the W3C propagators.
 ghost use Rattle.std.specs.Prelude.{IfOk, OnOk};
 ghost use Rattle.otel_context.specs.Context.{empty_context};
 ghost use Rattle.opentelemetry.specs.Carrier.{Sets};

@@ -52,7 +52,7 @@ pub trait IdGenerator: Drop {
 }
 
 /// Draws ids from a source of random numbers, such as the system's (the Rust crate's
-/// `RandomIdGenerator`). Draws again if the id is 0, up to 8 times in all.
+/// `RandomIdGenerator`). An id of 0 is drawn again, with at most 8 draws in all.
 ///
 /// Use it in production: `RandomIdGenerator::new(rt)` draws from the system's source.
 #[derive(Drop)]

@@ -83,8 +83,8 @@ pub trait ShouldSample: Drop {
         ensures { IfOk result (λ text. may_describe self.now (string_bytes text)) };
 }
 
-/// Samplers that depend only on the trace id (variants of the Rust crate's `Sampler`). To follow
-/// the parent's decision, wrap one in [`ParentBased`].
+/// Samplers whose decision depends only on the trace id (variants of the Rust crate's `Sampler`).
+/// To follow the parent's decision, wrap one in [`ParentBased`].
 #[derive(Clone, Copy, Debug, PartialEq)]
 pub enum Sampler {
     /// Samples every span.

@@ -20,8 +20,8 @@ use std::alloc::{AllocError, Global};
 pub enum StartError<S> {
     /// Out of memory before the span was built. The table is unchanged.
     Build(AllocError),
-    /// The table has no number left, or is out of memory. Contains the span that was built. In the
-    /// first case, the table is unchanged. In the second, its next number may be one higher.
+    /// The table has no number left, or out of memory after the span was built. Contains the span.
+    /// In the first case, the table is unchanged. In the second, its next number may be one higher.
     Refused(SpanRefused<S>),
 }
 

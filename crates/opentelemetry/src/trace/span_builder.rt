@@ -16,7 +16,7 @@ use std::alloc::{AllocError, Global};
 
 /// The initial parts of a span (the Rust crate's `SpanBuilder`).
 ///
-/// Start spans with it that need more than a name. A field that is `None` is left to the tracer.
+/// Use it to start a span that needs more than a name. A field that is `None` is left to the tracer.
 /// Contracts see the record of the six parts.
 ///
 /// See [`SpanKind`](otel_context::SpanKind).

@@ -11,8 +11,8 @@ use crate::stack::{ContextGuard, ContextStack};
 /// Inserts a span into the table and attaches the current context with that span active. Returns
 /// the guard of the position and the number of the span.
 ///
-/// At position 65534, the span is still inserted, but nothing is attached, and `is_attached` of the
-/// guard is `false`. Spend the guard like one of [`ContextStack::attach`].
+/// If the newest position is 65534, the span is still inserted, but nothing is attached, and
+/// `is_attached` of the guard is `false`. Spend the guard like one of [`ContextStack::attach`].
 ///
 /// # Errors
 ///

@@ -21,7 +21,7 @@ pub enum SpanCause {
 
 /// A refused span, and the reason. Not in the Rust crate.
 ///
-/// For a use, see `otel_examples::service`, which returns the span to the caller.
+/// See `otel_examples::service`, which returns the span to the caller.
 #[derive(Drop)]
 pub struct SpanRefused<S> {
     /// The span that was passed in.

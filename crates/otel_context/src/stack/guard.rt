@@ -4,7 +4,7 @@ ghost use Rattle.otel_context.specs.Stack.{no_position};
 
 use std::marker::Model;
 
-/// The position of a guard that isn't attached.
+/// The position returned if none is left.
 pub(crate) const NO_POSITION: u16 = u16::MAX;
 
 /// The position of an attached context. Pass it to `ContextStack::detach`.

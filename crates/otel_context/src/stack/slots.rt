@@ -73,7 +73,7 @@ impl Slots {
         &self.current
     }
 
-    /// Makes the position above the newest live, and returns it. Adds a slot if there is none yet.
+    /// Makes the position above the newest one live, and returns it. Adds a slot if it has none.
     pub fn push(&mut self, context: Context) -> Result<u16, AllocError>
         requires { newest_position (live_of self.old) < last_position }
         ensures position { IfOk result (λ position.
