@@ -64,7 +64,7 @@ writes_kept : (P : List ℕ → Type 0) (old mid new : Option (List ℕ)) → Ke
 writes_kept P old mid new kept w = record { text = w.text; is = w.is; appended = appends_kept old mid new w.text w.appended kept }
 
 module _ (pairs : ContextRecord → Pairs) (extracted : ContextRecord → TextMap → ContextRecord) where
-  -- a flush keeps what was written
+  -- a flush keeps the written text
   pub ends_kept : (known old mid new : Option (List ℕ)) (status : ℕ) → Keeps mid new
       → IfSome known (λ input. Ends pairs extracted input status old mid) → IfSome known (λ input. Ends pairs extracted input status old new)
   ends_kept None old mid new status kept h = tt

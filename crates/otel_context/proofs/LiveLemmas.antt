@@ -16,14 +16,14 @@ pub length-RisesAbove : (p : ℕ) (xs : List ℕ) → RisesAbove p xs → p + le
 length-RisesAbove p [] r = omega arith
 length-RisesAbove p (x ∷ xs) r = omega (arith, length-RisesAbove x xs r.1, r.0)
 
--- no position at or below `q` is live where they rise from above it
+-- if the positions rise from above `q`, no position at or below `q` is live
 is_live-below : (q p : ℕ) (xs : Live) → RisesAbove q (positions xs) → p ≤ q → is_live p xs ≡ false
 is_live-below q p [] r h = refl
 is_live-below q p (x ∷ xs) r h =
     let other : (x.0 == p) ≡ false = ne_eqb x.0 p (λ e. omega (arith, r.0, e)) in
     rw other (is_live-below x.0 p xs r.1 (omega (arith, r.0)))
 
--- above `x` the test of what isn't live needn't ask for `x`
+-- above `x`, the test for positions that aren't live can skip `x`
 dead-above : (x : ℕ × ContextRecord) (xs : Live) (a n : ℕ) → x.0 < a → filter (λ p. not (is_live p (x ∷ xs))) (range_with_len a n) ≡ filter (λ p. not (is_live p xs)) (range_with_len a n)
 dead-above x xs a zero h = refl
 dead-above x xs a (suc n) h =

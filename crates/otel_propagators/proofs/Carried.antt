@@ -68,7 +68,7 @@ skip_front ps qs k h = last_value-append ps qs k ∙ ap (option_or (last_value q
 skip_back : (ps qs : Pairs) (k : List ℕ) → last_value qs k ≡ None → last_value (ps ++ qs) k ≡ last_value ps k
 skip_back ps qs k h = last_value-append ps qs k ∙ ap (λ o. option_or o (last_value ps k)) h
 
--- ---- what a composite of both sets
+-- ---- the texts that a composite of both sets
 
 module _ (context : ContextRecord) (old m : TextMap) where
   abbrev own : SpanContextRecord

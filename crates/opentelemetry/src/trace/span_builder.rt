@@ -16,8 +16,8 @@ use std::alloc::{AllocError, Global};
 
 /// The initial parts of a span (the Rust crate's `SpanBuilder`).
 ///
-/// Use it to start a span that needs more than a name. A field that is `None` is left to the tracer.
-/// Contracts see the record of the six parts.
+/// Use it to start a span that needs more than a name. A field that is `None` is left to the
+/// tracer. Contracts see the record of the six parts.
 ///
 /// See [`SpanKind`](otel_context::SpanKind).
 #[derive(Debug, Drop)]
