@@ -1,12 +1,14 @@
 -- The log record that a logger gets for a record of the crate `log`.
-use Rattle.std.specs.Prelude.{◌≡◌, ℕ, List, Option, Some, IfSome}
+use Rattle.std.specs.Prelude.{◌≡◌, ℕ, List, Bool, Option, Some, None, IfSome}
 use Rattle.log.specs.declared.record.Metadata.{Metadata}
+use Rattle.log.specs.declared.record.Record.{Record}
 use Rattle.log.specs.Kv.{Pair}
-use Rattle.log.specs.Record.{metadata_level, metadata_target}
+use Rattle.log.specs.Record.{metadata_level, metadata_target, record_metadata, record_args, record_key_values}
 use Rattle.otel_ids.specs.SpanContext.{SpanContextRecord, IsValidSpanContext}
 use Rattle.otel_base.specs.AnyValue.{Tree, text}
 use Rattle.otel_base.specs.Severity.{name}
 use Rattle.otel_base.specs.declared.severity.Severity.{Severity}
+use Rattle.opentelemetry.specs.declared.logs.record.LogRecord.{Ghosts}
 use Rattle.otel_appender_log.specs.declared.attributes.SourceLocation.{SourceLocation}
 use Rattle.otel_appender_log.specs.Attributes.{Attribute}
 use Rattle.otel_appender_log.specs.Location.{IsLocated}
@@ -20,6 +22,16 @@ pub record Setters (R : Type 0) : Type 0 where
   pub target : R → List ℕ → R
   pub attributes : R → List Attribute → R
 
+-- the setters that a type of log records defines
+abbrev pub setters : {R : Type 0} → Ghosts R → Setters R
+setters named = record {
+  number = named.after_severity_number;
+  name = named.after_severity_text;
+  body = named.after_body;
+  target = named.after_target;
+  attributes = named.after_attributes;
+}
+
 -- a record of the crate `log`: its level and target, the text of its message as written by `{}`,
 -- its pairs, and its source location, as far as they are known
 pub record Source : Type 0 where
@@ -27,6 +39,25 @@ pub record Source : Type 0 where
   pub message : Option (List ℕ)
   pub pairs : Option (List Pair)
   pub location : SourceLocation
+
+module _ {D K S : Type 0} where
+  -- the record of the crate `log` with this place; `output` gives what `{}` writes for a message,
+  -- `pairs` the pairs of a source of pairs
+  abbrev pub source_of : (D → Option (List ℕ)) → (K → Option (List Pair)) → Record D K S
+      → SourceLocation → Source
+  source_of output pairs r location = record {
+    metadata = record_metadata r;
+    message = output (record_args r);
+    pairs = pairs (record_key_values r);
+    location = location;
+  }
+
+  -- a logger may answer that records like this one are enabled, or that they aren't
+  abbrev pub MayEnable : (Severity → List ℕ → Option (List ℕ) → Bool → Type 0) → Record D K S
+      → Bool → Type 0
+  MayEnable may_enable r enabled =
+      may_enable (severity_of (metadata_level (record_metadata r)))
+      (metadata_target (record_metadata r)) None enabled
 
 -- the record with this severity, as a number and by its name, this body, target and attributes
 abbrev pub with_content : {R : Type 0} → Setters R → R → Severity → List ℕ → List ℕ
@@ -53,11 +84,10 @@ pub record IsStamped {R : Type 0} (MayBeTraced : R → ℕ → ℕ → Option �
   pub untraced : (IsValidSpanContext span → ⊥) → stamped ≡ plain
 
 -- a record that the logger made, filled from the source and then stamped with the span context
-pub record IsBridged {R : Type 0} (MayCreate : R → Type 0) (set : Setters R)
-    (MayBeTraced : R → ℕ → ℕ → Option ℕ → R → Type 0) (source : Source)
+pub record IsBridged {R : Type 0} (MayCreate : R → Type 0) (named : Ghosts R) (source : Source)
     (span : SpanContextRecord) (bridged : R) : Type 0 where
   pub blank : R
   pub filled : R
   pub may_create : MayCreate blank
-  pub is_filled : IsFilled set source blank filled
-  pub is_stamped : IsStamped MayBeTraced span filled bridged
+  pub is_filled : IsFilled (setters named) source blank filled
+  pub is_stamped : IsStamped named.may_be_traced span filled bridged

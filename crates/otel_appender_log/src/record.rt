@@ -1,8 +1,7 @@
 //! The log record that a logger gets for a record of the crate `log`.
-ghost use Rattle.std.specs.Prelude.{◌≡◌, true, is_some, None, IfOk, IfSome, OnOk, OnErr};
-ghost use Rattle.log.specs.Record.{metadata_level, metadata_target, record_metadata, record_args, record_key_values};
-ghost use Rattle.otel_appender_log.specs.Bridge.{IsFilled, IsStamped, IsBridged};
-ghost use Rattle.otel_appender_log.specs.Severity.{severity_of};
+ghost use Rattle.std.specs.Prelude.{true, is_some, IfOk, IfSome, OnOk, OnErr};
+ghost use Rattle.otel_appender_log.specs.Bridge.{IsFilled, IsStamped, IsBridged, MayEnable};
+ghost use Rattle.otel_appender_log.specs.Bridge.{setters, source_of};
 
 use crate::attributes::{SourceLocation, located_attributes};
 use crate::severity::severity_of_level;
@@ -21,20 +20,8 @@ fn fill<R: LogRecord, D: Display, K: Source, S>(
     source: &Record<'_, D, K, S>,
     location: &SourceLocation<'_>,
 ) -> Result<(), AllocError>
-    ensures { OnOk result (IsFilled
-        (record {
-          number = R.after_severity_number;
-          name = R.after_severity_text;
-          body = R.after_body;
-          target = R.after_target;
-          attributes = R.after_attributes;
-        })
-        (record {
-          metadata = record_metadata source.now;
-          message = D.output (record_args source.now);
-          pairs = K.pairs (record_key_values source.now);
-          location = location.now;
-        }) filled.old filled.new) }
+    ensures { OnOk result (IsFilled (setters R.LogRecord)
+        (source_of D.output K.pairs source.now location.now) filled.old filled.new) }
 {
     let attributes = located_attributes(alloc, source.key_values(), location)?;
     let body = String::format(alloc, source.args())?;
@@ -65,20 +52,8 @@ fn made_record<L: Logger, D: Display, K: Source, S>(
     location: &SourceLocation<'_>,
     span: &SpanContext,
 ) -> Result<L::LogRecord, AllocError>
-    ensures { IfOk result (IsBridged (L.may_create logger.now)
-        (record {
-          number = L.LogRecord.after_severity_number;
-          name = L.LogRecord.after_severity_text;
-          body = L.LogRecord.after_body;
-          target = L.LogRecord.after_target;
-          attributes = L.LogRecord.after_attributes;
-        }) L.LogRecord.may_be_traced
-        (record {
-          metadata = record_metadata source.now;
-          message = D.output (record_args source.now);
-          pairs = K.pairs (record_key_values source.now);
-          location = location.now;
-        }) span.now) }
+    ensures { IfOk result (IsBridged (L.may_create logger.now) L.LogRecord.LogRecord
+        (source_of D.output K.pairs source.now location.now) span.now) }
 {
     let mut made = logger.create_log_record(alloc)?;
     fill(alloc, &mut made, source, location)?;
@@ -105,26 +80,12 @@ pub fn bridged_record<L: Logger, D: Display, K: Source, S>(
     location: &SourceLocation<'_>,
     span: &SpanContext,
 ) -> Result<Option<L::LogRecord>, AllocError>
-    ensures asked { IfOk result (λ made. L.may_enable logger.now
-        (severity_of (metadata_level (record_metadata source.now)))
-        (metadata_target (record_metadata source.now)) None (is_some made)) }
-    ensures err { OnErr result (L.may_enable logger.now
-        (severity_of (metadata_level (record_metadata source.now)))
-        (metadata_target (record_metadata source.now)) None true) }
-    ensures bridged { IfOk result (λ made. IfSome made (IsBridged (L.may_create logger.now)
-        (record {
-          number = L.LogRecord.after_severity_number;
-          name = L.LogRecord.after_severity_text;
-          body = L.LogRecord.after_body;
-          target = L.LogRecord.after_target;
-          attributes = L.LogRecord.after_attributes;
-        }) L.LogRecord.may_be_traced
-        (record {
-          metadata = record_metadata source.now;
-          message = D.output (record_args source.now);
-          pairs = K.pairs (record_key_values source.now);
-          location = location.now;
-        }) span.now)) }
+    ensures asked { IfOk result (λ made.
+        MayEnable (L.may_enable logger.now) source.now (is_some made)) }
+    ensures err { OnErr result (MayEnable (L.may_enable logger.now) source.now true) }
+    ensures bridged { IfOk result (λ made. IfSome made (
+        IsBridged (L.may_create logger.now) L.LogRecord.LogRecord
+        (source_of D.output K.pairs source.now location.now) span.now)) }
 {
     let severity = severity_of_level(source.level());
     if !logger.event_enabled(severity, source.target(), None) {

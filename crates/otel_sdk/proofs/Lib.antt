@@ -1,10 +1,14 @@
 mod Agreement
 mod ApplyLemmas
 mod BatchLemmas
+mod DrawLemmas
 pub mod EndLemmas
 mod KinLemmas
 mod KinRuns
 mod LiveLemmas
+mod Outcomes
 mod ParentLemmas
+mod Rising
 mod RunLemmas
+mod Scaling
 mod Starts

@@ -6,7 +6,7 @@ use Rattle.otel_base.specs.InstrumentationScope.{Scope}
 use Rattle.otel_context.specs.Context.{ContextRecord}
 use Rattle.otel_ids.specs.SpanContext.{SpanContextRecord}
 use Rattle.opentelemetry.specs.SpanBuilder.{BuilderRecord}
-use Rattle.otel_sdk_sampling.specs.Sampler.{Asked, Answer}
+use Rattle.otel_sdk.specs.Sampler.{Asked, Answer}
 use Rattle.otel_sdk_span.specs.Span.{SpanState, started, unrecorded}
 use Rattle.otel_sdk.specs.Tracer.{Records, StartsWith, asked, decided, given_data, has_random_id, parent_of, records, span_context_of}
 use Rattle.otel_sdk_span.specs.declared.limits.SpanLimits.{SpanLimits}

@@ -1,9 +1,15 @@
 pub mod Ended
 pub mod Export
+pub mod IdGenerator
 pub mod LiveState
+pub mod ParentBased
 pub mod Parents
 pub mod Processor
+pub mod Ratio
+pub mod RatioLaws
 pub mod Run
+pub mod Sampler
+pub mod SamplerLaws
 pub mod SpanChange
 pub mod SpanEnd
 pub mod Tracer

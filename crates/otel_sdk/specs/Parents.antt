@@ -8,7 +8,7 @@ use Rattle.otel_ids.specs.SpanContext.{SpanContextRecord, no_span_context}
 use Rattle.opentelemetry.specs.SpanBuilder.{BuilderRecord}
 use Rattle.otel_base.specs.InstrumentationScope.{Scope}
 use Rattle.otel_sdk.specs.Tracer.{MayBuild, parent_of}
-use Rattle.otel_sdk_sampling.specs.Sampler.{Answer, Asked}
+use Rattle.otel_sdk.specs.Sampler.{Answer, Asked}
 use Rattle.otel_sdk_span.specs.declared.limits.SpanLimits.{SpanLimits}
 use Rattle.otel_sdk.specs.declared.trace.program.event.SpanEvent.{SpanEvent}
 use Rattle.otel_sdk.specs.declared.trace.program.event.SpanEvent.TheVariants.{Start, StartCurrent}

@@ -12,12 +12,12 @@ use Rattle.otel_ids.specs.SpanContext.{SpanContextRecord, no_span_context}
 use Rattle.otel_ids.specs.TraceState.{Pair}
 use Rattle.opentelemetry.specs.SpanBuilder.{BuilderRecord}
 use Rattle.otel_sdk_base.specs.Resource.{Parts, with_defaults}
-use Rattle.otel_sdk_sampling.specs.Sampler.{Asked, Answer, has_parent}
+use Rattle.otel_sdk.specs.Sampler.{Asked, Answer, has_parent}
 use Rattle.otel_sdk_span.specs.Span.{SpanState, started, unrecorded}
 use Rattle.otel_sdk_span.specs.SpanData.{SpanRecord}
 use Rattle.otel_sdk_span.specs.declared.limits.SpanLimits.{SpanLimits}
-use Rattle.otel_sdk_sampling.specs.declared.sampler.SamplingDecision.{SamplingDecision}
-use Rattle.otel_sdk_sampling.specs.declared.sampler.SamplingDecision.TheVariants.{Drop, RecordOnly, RecordAndSample}
+use Rattle.otel_sdk.specs.declared.trace.sampler.SamplingDecision.{SamplingDecision}
+use Rattle.otel_sdk.specs.declared.trace.sampler.SamplingDecision.TheVariants.{Drop, RecordOnly, RecordAndSample}
 
 -- ---- parents, ids and flags
 

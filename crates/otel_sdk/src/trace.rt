@@ -1,29 +1,28 @@
 //! Providers, tracers, spans and what they record, exporters and processors, samplers, generators
 //! of ids, and clocks.
 mod change;
+mod id_generator;
 mod in_memory_exporter;
 mod live;
 mod processor;
 mod program;
 mod provider;
+mod sampler;
 mod start;
 mod tracer;
 
 pub use change::SpanChange;
+pub use id_generator::{CountedIdGenerator, IdError, IdGenerator, RandomIdGenerator};
 pub use in_memory_exporter::InMemorySpanExporter;
 pub use live::LiveSpans;
 pub use otel_sdk_base::{Clock, ManualClock, SystemClock};
-pub use otel_sdk_sampling::{
-    CountedIdGenerator, IdError, IdGenerator, ParentBased, RandomIdGenerator, Sampler,
-    SamplingDecision, SamplingResult, ShouldSample, laws,
-};
-pub use otel_sdk_span::{
-    SdkSpan, SpanData, SpanEvents, SpanExporter, SpanLimits, SpanLinks,
-};
+pub use otel_sdk_span::{SdkSpan, SpanData, SpanEvents, SpanExporter, SpanLimits, SpanLinks};
 pub use processor::batch::BatchSpanProcessor;
 pub use processor::config::{BatchConfig, BatchConfigBuilder};
 pub use processor::simple::SimpleSpanProcessor;
 pub use processor::{EndRefused, SpanProcessor};
 pub use program::{EventOutcome, RunReport, SpanEvent, run};
 pub use provider::{SdkTracerProvider, TracerProviderBuilder};
+pub use sampler::parent_based::ParentBased;
+pub use sampler::{Sampler, SamplingDecision, SamplingResult, ShouldSample, laws};
 pub use tracer::{Pipeline, SdkTracer, TracerPipeline};

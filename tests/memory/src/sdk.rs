@@ -1,4 +1,5 @@
 //! Resources, samplers, tracers, spans, and their way to an exporter.
+mod attributes;
 mod export;
 mod json;
 mod json_logs;
@@ -28,6 +29,7 @@ pub fn play<R: Print>(rt: HostRuntime, lines: &Lines<'_, R>) {
         let sampler = ParentBased::new(Sampler::AlwaysOff);
         lines.answer_of(sampler.description(alloc));
     }
+    attributes::play(alloc, lines);
     resources(alloc, lines);
     tracer::play(rt, lines);
     spans::play(alloc, lines);

@@ -7,9 +7,9 @@ mod batches;
 pub(crate) mod config;
 pub(crate) mod simple;
 
-use otel_sdk_span::SpanData;
 use otel_sdk_base::error::{OTelSdkError, OTelSdkResult};
 use otel_sdk_base::resource::Resource;
+use otel_sdk_span::SpanData;
 use std::rc::Rc;
 
 /// Why the end of a span failed. Not in the Rust crate.

@@ -15,8 +15,8 @@ pub use event::{EventOutcome, SpanEvent};
 use opentelemetry::Context;
 use opentelemetry::context::ContextStack;
 use opentelemetry::trace::{SpanBuilder, SpanCause, Tracer};
-use otel_sdk_span::SpanExporter;
 use otel_sdk_base::error::OTelSdkError;
+use otel_sdk_span::SpanExporter;
 use std::alloc::{AllocError, Global};
 
 /// The greatest position of an attachment.

@@ -6,9 +6,9 @@ ghost use Rattle.otel_sdk_span.specs.SpanLimits.{default_limits};
 ghost use Rattle.otel_sdk.specs.Tracer as spec;
 
 use crate::trace::tracer::{SdkTracer, TracerPipeline};
+use crate::trace::{IdGenerator, ParentBased, RandomIdGenerator, Sampler, ShouldSample};
 use opentelemetry::trace::TracerProvider;
 use opentelemetry::{InstrumentationScope, StringValue};
-use otel_sdk_sampling::{IdGenerator, ParentBased, RandomIdGenerator, Sampler, ShouldSample};
 use otel_sdk_base::resource::Resource;
 use otel_sdk_base::{Clock, SystemClock};
 use otel_sdk_span::SpanLimits;

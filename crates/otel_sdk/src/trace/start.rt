@@ -4,15 +4,15 @@ ghost use Rattle.std.specs.Option.{option_map};
 ghost use Rattle.std.specs.Rc.{rc_value};
 ghost use Rattle.otel_base.specs.View.{attribute_of};
 ghost use Rattle.opentelemetry.specs.View.{builder_of, event_of, link_of};
-ghost use Rattle.otel_sdk_sampling.specs.Sampler.{result_of};
+ghost use Rattle.otel_sdk.specs.Sampler.{result_of};
 ghost use Rattle.otel_sdk.specs.Tracer as spec;
 
+use crate::trace::{IdError, IdGenerator, SamplingDecision, SamplingResult, ShouldSample};
 use opentelemetry::trace::{
     Event, Link, SpanBuilder, SpanContext, SpanId, SpanKind, Status, TraceFlags, TraceId,
     TraceState,
 };
 use opentelemetry::{Context, InstrumentationScope, KeyValue};
-use otel_sdk_sampling::{IdError, IdGenerator, SamplingDecision, SamplingResult, ShouldSample};
 use otel_sdk_span::{SpanData, SpanEvents, SpanLinks};
 use std::alloc::{AllocError, Global};
 use std::rc::Rc;

@@ -7,9 +7,9 @@ ghost use Rattle.otel_sdk.specs.Tracer as spec;
 
 use crate::trace::provider::TracerProviderInner;
 use crate::trace::start::{Ids, ask, given_data, new_ids, parent_of, records, span_context_of};
+use crate::trace::{IdGenerator, ShouldSample};
 use opentelemetry::trace::{SpanBuilder, SpanContext, Tracer};
 use opentelemetry::{Context, InstrumentationScope, KeyValue};
-use otel_sdk_sampling::{IdGenerator, ShouldSample};
 use otel_sdk_base::Clock;
 use otel_sdk_span::{SdkSpan, SpanLimits};
 use std::alloc::{AllocError, Global};

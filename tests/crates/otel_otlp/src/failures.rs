@@ -2,9 +2,9 @@
 //! exported once.
 use crate::batches::{root, scope};
 use crate::records::observed;
+use otel_otlp::{OtlpJsonLogExporter, OtlpJsonSpanExporter};
 use otel_sdk::logs::{BatchConfigBuilder as LogConfigBuilder, BatchLogProcessor, LogProcessor};
 use otel_sdk::trace::{BatchConfigBuilder, BatchSpanProcessor, SpanProcessor};
-use otel_otlp::{OtlpJsonLogExporter, OtlpJsonSpanExporter};
 use serde_json::Value;
 use std::alloc::Global;
 use std::io;

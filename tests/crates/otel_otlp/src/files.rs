@@ -1,9 +1,9 @@
 //! What a writer that fails leaves, and what the exporter does about it.
 use crate::batches::{cart, root, scope, three};
+use otel_otlp::{OtlpJsonSpanExporter, traces_text};
 use otel_sdk::error::OTelSdkError;
 use otel_sdk::resource::Resource;
 use otel_sdk::trace::{SpanData, SpanExporter};
-use otel_otlp::{OtlpJsonSpanExporter, traces_text};
 use std::alloc::Global;
 use std::io;
 use std::io::{ErrorKind, Write};

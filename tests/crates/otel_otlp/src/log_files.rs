@@ -2,10 +2,10 @@
 use crate::batches::scope;
 use crate::files::Scripted;
 use crate::records::{cart_service, no_price, observed, under};
+use otel_otlp::{OtlpJsonLogExporter, logs_text};
 use otel_sdk::error::OTelSdkError;
 use otel_sdk::logs::{LogData, LogExporter};
 use otel_sdk::resource::Resource;
-use otel_otlp::{OtlpJsonLogExporter, logs_text};
 use std::alloc::Global;
 use std::rc::Rc;
 use std::test::Fail;

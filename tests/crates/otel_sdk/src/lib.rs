@@ -1,8 +1,12 @@
-//! What no clause says of tracers, processors and exporters: that calls succeed, and worked cases.
+//! What no clause says of tracers, samplers, generators of ids, processors and exporters: that calls
+//! succeed, texts as printed, and worked cases.
 #![tactic(auto)]
 
 mod ended;
 mod exporter;
+mod id_generator;
 mod processor;
+mod ratio;
 mod run;
+mod sampler;
 mod tracer;

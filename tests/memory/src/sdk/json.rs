@@ -5,9 +5,9 @@ use opentelemetry::trace::{
     Event, Link, SpanContext, SpanId, Status, TraceFlags, TraceId, TraceState,
 };
 use opentelemetry::{Array, Key, KeyValue, StringValue, Value};
+use otel_otlp::{OtlpJsonSpanExporter, traces_data, traces_text};
 use otel_sdk::resource::Resource;
 use otel_sdk::trace::{SpanData, SpanExporter};
-use otel_otlp::{OtlpJsonSpanExporter, traces_data, traces_text};
 use std::alloc::{AllocError, Global};
 use std::io::{self, ErrorKind, Write};
 

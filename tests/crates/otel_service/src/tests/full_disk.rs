@@ -1,8 +1,8 @@
 //! The spans of the service go to a disk that is full for a while: each write in turn is refused once.
 //! A later flush exports what is missing, and each span is exported once.
 use super::{Given, serve_by};
-use otel_sdk::trace::{BatchConfigBuilder, BatchSpanProcessor, SpanProcessor};
 use otel_otlp::OtlpJsonSpanExporter;
+use otel_sdk::trace::{BatchConfigBuilder, BatchSpanProcessor, SpanProcessor};
 use serde_json::Value;
 use std::alloc::Global;
 use std::io::{self, ErrorKind, Write};

@@ -1,8 +1,8 @@
 use Rattle.std.proofs.Common.{◌≡◌, true, rules, sym, ◌∙◌, option_copied}
 use Rattle.opentelemetry.specs.View.{builder_of}
-use Rattle.otel_sdk_sampling.specs.Sampler.{result_of}
+use Rattle.otel_sdk.specs.Sampler.{result_of}
 use Rattle.otel_sdk.specs.Tracer as spec
-use Rattle.otel_sdk_sampling.proofs.Outcomes.{weaken}
+use Rattle.otel_sdk.proofs.Outcomes.{weaken}
 use Rattle.otel_sdk.proofs.Starts.{recorded}
 use Rattle.otel_sdk.proofs.trace.tracer.TracerPipeline.start_with_ids.Goals as goal
 

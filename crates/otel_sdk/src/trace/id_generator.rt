@@ -1,0 +1,149 @@
+//! Generators of trace ids and span ids.
+ghost use Rattle.std.specs.Prelude.{◌≡◌, ◌≢◌, IfOk, true, false, nat_eq};
+
+mod draws;
+
+use crate::trace::id_generator::draws::{SpanDraws, TraceDraws, first_valid};
+use opentelemetry::trace::{SpanId, TraceId};
+use std::cell::Cell;
+use std::random::RandomSource;
+use thiserror::Error;
+
+/// The reason why no new id was made.
+#[derive(Clone, Copy, Debug, PartialEq, Eq, Error)]
+pub enum IdError {
+    /// Every number drawn was 0, which isn't a valid id, or the numbers are used up.
+    #[error("no valid id was drawn")]
+    Zero,
+    /// The source of random numbers failed.
+    #[error("the source of random numbers failed")]
+    Source,
+}
+
+/// Makes the ids of spans and traces (the Rust crate's `IdGenerator`). An id is never 0.
+///
+/// Implementors define the ghost function `random`: whether the trace ids are random.
+///
+/// See [`RandomIdGenerator`] and [`CountedIdGenerator`].
+pub trait IdGenerator: Drop {
+    ghost use Rattle.std.specs.Prelude.{Bool};
+
+    ghost random: { Self → Bool };
+
+    /// Returns a new trace id.
+    ///
+    /// # Errors
+    ///
+    /// `Zero` if no valid id was drawn. `Source` if the source of random numbers failed.
+    fn new_trace_id(&self) -> Result<TraceId, IdError>
+        ensures { IfOk result (λ id. id ≢ 0) };
+
+    /// Returns a new span id.
+    ///
+    /// # Errors
+    ///
+    /// `Zero` if no valid id was drawn. `Source` if the source of random numbers failed.
+    fn new_span_id(&self) -> Result<SpanId, IdError>
+        ensures { IfOk result (λ id. id ≢ 0) };
+
+    /// Returns `true` if the trace ids are random (W3C trace-context-2, "Random Trace ID Flag").
+    fn is_random(&self) -> bool
+        ensures { result ≡ random self.now };
+}
+
+/// Draws ids from a source of random numbers, such as the system's (the Rust crate's
+/// `RandomIdGenerator`). An id of 0 is drawn again, with at most 8 draws in all.
+///
+/// Use it in production: `RandomIdGenerator::new(rt)` draws from the system's source.
+#[derive(Drop)]
+pub struct RandomIdGenerator<R> {
+    source: R,
+}
+
+impl<R: RandomSource + Drop> RandomIdGenerator<R> {
+    /// Returns a generator that draws from this source.
+    pub fn new(source: R) -> RandomIdGenerator<R> {
+        RandomIdGenerator { source }
+    }
+}
+
+impl<R: RandomSource + Drop> IdGenerator for RandomIdGenerator<R> {
+    ghost use Rattle.std.specs.Prelude.{true};
+
+    ghost random = { λ _. true };
+
+    fn new_trace_id(&self) -> Result<TraceId, IdError> {
+        first_valid(&mut TraceDraws(&self.source))
+    }
+
+    fn new_span_id(&self) -> Result<SpanId, IdError> {
+        first_valid(&mut SpanDraws(&self.source))
+    }
+
+    fn is_random(&self) -> bool {
+        true
+    }
+}
+
+/// Counts ids up from 1, trace ids and span ids separately. Use it in tests. Not public in the Rust
+/// crate.
+#[derive(Drop)]
+pub struct CountedIdGenerator {
+    traces: Cell<u64>,
+    spans: Cell<u64>,
+}
+
+impl CountedIdGenerator {
+    /// Returns a generator whose first ids are 1.
+    pub fn new() -> CountedIdGenerator {
+        CountedIdGenerator {
+            traces: Cell::new(0),
+            spans: Cell::new(0),
+        }
+    }
+}
+
+/// Increments the count. Returns the new count.
+///
+/// # Errors
+///
+/// `Zero` if the numbers are used up.
+fn count_up(count: &Cell<u64>) -> Result<u64, IdError>
+    ensures { IfOk result (λ n. n ≢ 0) }
+{
+    let Some(next) = count.get().checked_add(1) else {
+        return Err(IdError::Zero);
+    };
+    count.set(next);
+    Ok(next)
+}
+
+impl IdGenerator for CountedIdGenerator {
+    ghost use Rattle.std.specs.Prelude.{false};
+
+    ghost random = { λ _. false };
+
+    /// Returns 1, then 2, and so on.
+    ///
+    /// # Errors
+    ///
+    /// `Zero` if the numbers are used up.
+    fn new_trace_id(&self) -> Result<TraceId, IdError> {
+        let number = count_up(&self.traces)?;
+        Ok(TraceId::from(number as u128))
+    }
+
+    /// Returns 1, then 2, and so on.
+    ///
+    /// # Errors
+    ///
+    /// `Zero` if the numbers are used up.
+    fn new_span_id(&self) -> Result<SpanId, IdError> {
+        let number = count_up(&self.spans)?;
+        Ok(SpanId::from(number))
+    }
+
+    fn is_random(&self) -> bool {
+        false
+    }
+}

@@ -1,4 +1,0 @@
-pub mod DrawLemmas
-pub mod Outcomes
-pub mod Rising
-pub mod Scaling
