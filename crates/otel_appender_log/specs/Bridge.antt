@@ -41,8 +41,8 @@ pub record Source : Type 0 where
   pub location : SourceLocation
 
 module _ {D K S : Type 0} where
-  -- the record of the crate `log` with this place; `output` gives what `{}` writes for a message,
-  -- `pairs` the pairs of a source of pairs
+  -- the record of the crate `log` with this location; `output` returns the text that `{}` writes
+  -- for a message, `pairs` the pairs of a source of pairs
   abbrev pub source_of : (D → Option (List ℕ)) → (K → Option (List Pair)) → Record D K S
       → SourceLocation → Source
   source_of output pairs r location = record {
@@ -52,7 +52,7 @@ module _ {D K S : Type 0} where
     location = location;
   }
 
-  -- a logger may answer that records like this one are enabled, or that they aren't
+  -- a logger may answer that such records are enabled, or that they aren't
   abbrev pub MayEnable : (Severity → List ℕ → Option (List ℕ) → Bool → Type 0) → Record D K S
       → Bool → Type 0
   MayEnable may_enable r enabled =
