@@ -70,8 +70,8 @@ fn processor(alloc: Global) -> BatchSpanProcessor<InMemorySpanExporter> {
     BatchSpanProcessor::new(alloc, exporter, Default::default())
 }
 
-/// Prints the answer, and returns how many spans it leaves in the queue, if all accepted ones leave
-/// it: one that comes back isn't there.
+/// Prints the answer. Returns the number of spans left in the queue, if all accepted spans leave
+/// it: a returned span isn't in it.
 fn ended<R: Print>(lines: &Lines<'_, R>, answer: Result<(), EndRefused>, taken: usize) -> usize {
     match answer {
         Ok(()) => {
