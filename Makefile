@@ -1,32 +1,32 @@
 # Proves, builds and tests the repository with the kit's command rt, which is found on PATH.
 #
-#   make run                        runs otel_carry on examples/first-run, in a minute: unproved, unless make prove proved it
-#   make run INPUT=F                on the file F; INPUT=- is standard input
+#   make run                        runs otel_carry on examples/first-run, in a minute; unproved, unless make prove ran before
+#   make run INPUT=F                the same with the file F; INPUT=- is standard input
 #   make prove                      proves and builds the programs, and runs them
-#   make example                    a service at work: the headers that it sends on for those of examples/service and for none,
+#   make example                    runs a service: prints the headers that it sends on for examples/service and for no headers,
 #                                   a picture of its traces, its log lines, and its spans as lines of JSON
-#   make example-c                  a C program over the static library of crates/otel_c, which is proved first
-#   make test                       every proof, test, vector, misuse case and run out of memory, and the wrong bodies that may have
-#                                   become right
+#   make example-c                  runs a C program with the static library of crates/otel_c, which is proved first
+#   make test                       checks every proof, test, vector, misuse case and run out of memory, and the wrong bodies that
+#                                   may have become right
 #
-# Small loops, each a part of the above:
+# Shorter commands, most of them parts of make test:
 #
-#   make check CRATE=C              proves one crate over what earlier checks kept
-#   make tests                      the tests; CRATE=C those of one crate; TEST=T those whose path holds T
-#   make edit CRATE=C EDIT=E        sees that the prover refuses one wrong body, in seconds after a check of the crate
-#   make mutants                    all wrong bodies, from nothing; CRATE=C those of one crate
-#   make vectors                    the answers of the Rust crate
-#   make otlp                       lines of JSON, read by another implementation
-#   make c                          calls from C
-#   make misuse                     what must not compile; CASE=NAME one case
-#   make memory                     the runs out of memory: each allocation fails in turn
-#   make long                       the programs on long inputs
-#   make calls                      that each call that can run out of memory is in one of them
-#   make fuzz                       random programs and rows beside a plain model; COUNT=N so many, SEED=N others
-#   make documents                  that what the documents name exists, and that the code they show is code that runs
-#   make bench                      instructions an operation, beside the Rust crate
+#   make check CRATE=C              proves one crate, reusing the results of earlier checks
+#   make tests                      runs the tests; CRATE=C of one crate; TEST=T whose path contains T
+#   make edit CRATE=C EDIT=E        checks that the prover refuses one wrong body, in seconds after a check of the crate
+#   make mutants                    the same for all wrong bodies, from nothing; CRATE=C of one crate
+#   make vectors                    compares answers with recorded ones of the Rust crate
+#   make otlp                       reads lines of JSON with another implementation
+#   make c                          calls the library from C
+#   make misuse                     checks that misuse doesn't compile; CASE=NAME one case
+#   make memory                     runs programs out of memory: each allocation fails in turn
+#   make long                       runs the programs on long inputs
+#   make calls                      checks that make memory covers each call that can run out of memory
+#   make fuzz                       compares random programs and rows with a plain model; COUNT=N sets their number, SEED=N the seed
+#   make documents                  checks that everything the documents mention exists, and that the code they show runs
+#   make bench                      counts the instructions of operations, beside the Rust crate
 #
-# Results go to standard output, and all else to standard error. Long work shows there where it is.
+# Results go to standard output, and everything else, such as progress, to standard error.
 
 MAKEFLAGS += --no-print-directory
 SHELL := /bin/bash
@@ -35,7 +35,7 @@ INPUT ?= examples/first-run
 COUNT ?= 10000
 SEED ?= 1
 GIVEN := $(if $(filter -,$(INPUT)),,< "$(INPUT)")
-# Stops, if CRATE is no crate.
+# Stops if CRATE isn't a crate.
 CRATES := $(patsubst crates/%/src,%,$(wildcard crates/*/src))
 IS_CRATE = @$(if $(filter $(CRATE),$(CRATES)),true,echo 'make $@: name a crate, as in `make $@ CRATE=otel_ids`: $(CRATES)' >&2; exit 2)
 

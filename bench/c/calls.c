@@ -1,7 +1,7 @@
 /* Reads contexts from headers, and writes them to headers.
  *
- * Standard input is one line, `NAME TIMES`: `extract` or `inject`, and how many times it is done. What is printed are the headers
- * that the last context is written to. */
+ * Standard input is one line, `NAME TIMES`: `extract` or `inject`, and how many times it is done. The output is the headers to
+ * which the last context is written. */
 #include <stdio.h>
 #include <string.h>
 
@@ -35,7 +35,7 @@ static uint32_t once(const char *name, otel_handle *received, otel_handle *conte
     return status;
 }
 
-/* Does what the line asks. */
+/* Does the operation that the line requests. */
 static uint32_t play(otel_handle *received, otel_handle *context) {
     char name[16] = "";
     unsigned long times = 0;

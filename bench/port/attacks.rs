@@ -1,4 +1,4 @@
-//! Texts and runs that are long and come to little, as an attacker would send them.
+//! Long texts and runs of little use, as an attacker would send them.
 use crate::injections::{composite, let_go};
 use crate::operation::{Operation, Task, add, repeat};
 use opentelemetry::Context;
@@ -39,7 +39,7 @@ pub fn play(task: &Task<'_>, alloc: Global) -> Result<Option<u64>, AllocError> {
     }
 }
 
-/// A text that begins so and goes on with one part, many times over.
+/// A text that starts with `begin`, followed by one part many times.
 fn long(alloc: Global, begin: &str, part: &str, size: usize) -> Result<String, AllocError> {
     let mut text = String::from_str(alloc, begin)?;
     let more = part.repeat(alloc, size)?;
@@ -47,7 +47,7 @@ fn long(alloc: Global, begin: &str, part: &str, size: usize) -> Result<String, A
     Ok(text)
 }
 
-/// Reads a text that begins so and goes on with one sign, many times over, as a trace state.
+/// Reads a text that starts with a given text, followed by one sign many times, as a trace state.
 fn read(
     alloc: Global,
     begin: &str,
@@ -58,7 +58,7 @@ fn read(
     repeat(Reading { alloc, text }, task.times)
 }
 
-/// Adds how many pairs the state has, or 7 where the text isn't read.
+/// Adds the number of pairs of the state, or 7 if the text can't be read.
 #[inline(never)]
 fn read_state(alloc: Global, text: &str, sum: &mut u64) {
     match TraceState::from_str(alloc, text) {
@@ -80,7 +80,7 @@ impl Operation for Reading {
     }
 }
 
-/// A header of so many pairs, each of a key of its own.
+/// A header with `size` pairs, each with its own key.
 #[inline(never)]
 fn pairs(alloc: Global, size: usize) -> Result<String, AllocError> {
     let mut text = String::new(alloc);
@@ -104,7 +104,7 @@ pub fn extract(alloc: Global, text: String, times: u64) -> Result<Option<u64>, A
     repeat(extracting, times)
 }
 
-/// Adds how many members the extracted baggage has, or 7 where there is none.
+/// Adds the number of members of the extracted baggage, or 7 if there is none.
 #[inline(never)]
 fn extract_baggage(
     alloc: Global,
@@ -135,7 +135,7 @@ impl Operation for Extracting {
     }
 }
 
-/// An attach, and so many detaches of numbers that are never attached.
+/// An attach, and `size` detaches of numbers that are never attached.
 #[inline(never)]
 fn unknown_detaches(alloc: Global, size: usize) -> Result<Vec<StackEvent>, AllocError> {
     let mut events = Vec::with_capacity(alloc, size.saturating_add(1))?;
@@ -146,7 +146,7 @@ fn unknown_detaches(alloc: Global, size: usize) -> Result<Vec<StackEvent>, Alloc
     Ok(events)
 }
 
-/// A run of these events. To make them is part of it, since a run takes them by value.
+/// A run of these events. Making them is part of it, since a run takes them by value.
 #[derive(Drop)]
 struct Detaching {
     alloc: Global,

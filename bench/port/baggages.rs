@@ -25,7 +25,7 @@ fn print_all(alloc: Global, baggage: Baggage, times: u64) -> Result<Option<u64>,
     repeat(Printing { alloc, baggage }, times)
 }
 
-/// Looks up the key of that number.
+/// Looks up the key with this number.
 fn get(
     alloc: Global,
     baggage: Baggage,
@@ -36,7 +36,7 @@ fn get(
     repeat(Getting { baggage, key }, times)
 }
 
-/// So many pairs, `key0` and `value 0` and so on.
+/// Pairs `key0` and `value 0` and so on.
 #[inline(never)]
 fn pairs(alloc: Global, size: usize) -> Result<Vec<(String, String)>, AllocError> {
     let mut pairs = Vec::new(alloc);
@@ -112,7 +112,7 @@ impl Operation for FillingAndPrinting {
     }
 }
 
-/// What of an insert is the copying of its texts.
+/// The part of an insert that copies its texts.
 #[derive(Drop)]
 struct CopyingTexts(Vec<(String, String)>);
 

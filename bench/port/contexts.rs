@@ -36,7 +36,7 @@ pub fn named(alloc: Global) -> Result<Context, AllocError> {
     Context::new().with_value(alloc, Key::from("name"), AnyValue::String(name))
 }
 
-/// That context with a remote span context, whose trace state has two pairs.
+/// The same context with a remote span context, whose trace state has two pairs.
 #[inline(never)]
 pub fn remote(alloc: Global) -> Result<Context, AllocError> {
     let state = TraceState::from_str(alloc, "vendor=opaque-value,other@sys=1234").map_err(
@@ -52,7 +52,7 @@ pub fn remote(alloc: Global) -> Result<Context, AllocError> {
     named(alloc)?.with_remote_span_context(alloc, span_context)
 }
 
-/// A context with so many entries, at least `name`.
+/// A context with `size` entries, at least `name`.
 #[inline(never)]
 fn with_entries(alloc: Global, size: usize) -> Result<Context, AllocError> {
     let mut context = named(alloc)?;
@@ -63,12 +63,12 @@ fn with_entries(alloc: Global, size: usize) -> Result<Context, AllocError> {
     Ok(context)
 }
 
-/// The name of that entry beside `name`.
+/// The name of this entry besides `name`.
 fn name_of(alloc: Global, number: usize) -> Result<String, AllocError> {
     format!(in alloc; "extra{number}")
 }
 
-/// A stack whose current context is that one.
+/// A stack with this current context.
 fn stack_of(context: Context, alloc: Global) -> Result<ContextStack, AllocError> {
     let mut stack = ContextStack::new(alloc)?;
     stack.push(context)?;
@@ -90,7 +90,7 @@ fn current_of(stack: &ContextStack) -> Result<Context, AllocError> {
     stack.current().clone()
 }
 
-/// What a context is used for before it is let go.
+/// Uses a context before it is dropped.
 #[inline(never)]
 fn look_at(context: &Context, sum: &mut u64) {
     if context.is_telemetry_suppressed() {
@@ -161,7 +161,7 @@ impl Operation for Deriving {
     }
 }
 
-/// One entry more, a clone, and a look-up in the clone.
+/// One more entry, a clone, and a look-up in the clone.
 #[derive(Drop)]
 struct DerivingAndGetting {
     alloc: Global,

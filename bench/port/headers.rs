@@ -33,7 +33,7 @@ pub fn play(task: &Task<'_>, alloc: Global) -> Result<Option<u64>, AllocError> {
     }
 }
 
-/// The header of a baggage with so many members, `key0=value%200` and so on.
+/// The header of a baggage with members `key0=value%200` and so on.
 #[inline(never)]
 fn members(alloc: Global, blank: &str, size: usize) -> Result<String, AllocError> {
     let mut text = String::new(alloc);
@@ -45,7 +45,7 @@ fn members(alloc: Global, blank: &str, size: usize) -> Result<String, AllocError
     Ok(text)
 }
 
-/// The headers of a span context whose trace state has so many pairs; none if there are none.
+/// The headers of a span context whose trace state has `size` pairs; no headers if `size` is 0.
 #[inline(never)]
 fn carrier_of(alloc: Global, size: usize) -> Result<HashMap<String, String>, AllocError> {
     let mut carrier = HashMap::new(alloc);
@@ -111,7 +111,7 @@ impl Operation for Reading {
     }
 }
 
-/// Writes into the same carrier again and again.
+/// Writes to the same carrier again and again.
 #[derive(Drop)]
 struct Writing {
     propagator: TraceContextPropagator,

@@ -1,4 +1,5 @@
-//! Injections by a composite of two members: that of a context's name, and that of its trace state.
+//! Injections with a composite of two members: one for a context's name, and one for its trace
+//! state.
 use crate::contexts::remote;
 use crate::name_member::NameMember;
 use crate::operation::{Operation, Task, add, repeat};

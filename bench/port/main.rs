@@ -1,7 +1,7 @@
-//! Operations of the libraries, each done many times over, so that the instructions that one takes may be counted.
+//! Operations of the libraries, each done many times, to count the instructions of one.
 //!
-//! Standard input is one line, `NAME TIMES SIZE`: which operation is done, how many times, and how large what it is done on
-//! is. What is printed is a number that depends on what the calls gave.
+//! Standard input is one line, `NAME TIMES SIZE`: the operation, how many times it is done, and the
+//! size of its operand. The output is a number that depends on the results of the calls.
 #![tactic(auto)]
 
 mod attacks;
@@ -25,10 +25,10 @@ use operation::Task;
 use std::alloc::AllocError;
 use std::io::{self, Read};
 
-/// The longest line that is read.
+/// The maximum length of the line that is read.
 const ROOM: usize = 128;
 
-/// What the operation of that name gave, where there is one.
+/// The result of the operation with this name, if there is one.
 fn play(task: &Task<'_>, rt: HostRuntime) -> Result<Option<u64>, AllocError> {
     let alloc = rt.alloc();
     let (group, _) = task.name.split_once('_').unwrap_or((task.name, ""));

@@ -1,7 +1,7 @@
-//! What the program is asked to do, and how it is done many times over.
+//! The program's task, and its repetition.
 use std::alloc::AllocError;
 
-/// The name of an operation, how many times it is done, and the size of what it is done on.
+/// The name of an operation, how many times it is done, and the size of its operand.
 #[derive(Drop)]
 pub struct Task<'a> {
     pub name: &'a str,
@@ -22,16 +22,17 @@ impl<'a> Task<'a> {
     }
 }
 
-/// An operation, with what it is done on.
+/// An operation, with its operand.
 ///
-/// LLVM sees a program whole. So that it can't see through an operation, the calls that are measured stand in functions
-/// that it may not inline, and a call that only looks something up adds what it found to the sum there.
+/// LLVM sees the whole program. So that it can't see through an operation, the measured calls are
+/// in functions that it may not inline, and a call that only looks something up adds the value that
+/// it found to the sum there.
 pub trait Operation: Drop {
     /// Does the operation once.
     fn once(&mut self, sum: &mut u64) -> Result<(), AllocError>;
 }
 
-/// Does the operation so many times, and gives the sum.
+/// Does the operation `times` times. Returns the sum.
 #[inline(never)]
 pub fn repeat<O: Operation>(mut operation: O, times: u64) -> Result<Option<u64>, AllocError> {
     let mut sum = 0u64;
@@ -41,7 +42,7 @@ pub fn repeat<O: Operation>(mut operation: O, times: u64) -> Result<Option<u64>,
     Ok(Some(sum))
 }
 
-/// Adds what an operation gave.
+/// Adds the result of an operation.
 pub fn add(sum: &mut u64, more: usize) {
     *sum = sum.wrapping_add(more as u64);
 }

@@ -1,7 +1,7 @@
 //! Numbers that look random and are the same in each run.
 use std::alloc::{AllocError, Global};
 
-/// A linear congruential generator, by Knuth's multiplier for 64 bits.
+/// A linear congruential generator, with Knuth's multiplier for 64 bits.
 #[derive(Drop)]
 pub struct Random {
     state: u64,
@@ -22,7 +22,7 @@ impl Random {
     }
 }
 
-/// The numbers below `size` in a mixed order: that of the random numbers drawn for them.
+/// The numbers below `size` in a mixed order: the order of the random numbers drawn for them.
 pub fn mixed(alloc: Global, size: usize) -> Result<Vec<usize>, AllocError> {
     let mut random = Random::new();
     let mut drawn = Vec::new(alloc);

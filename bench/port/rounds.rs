@@ -1,4 +1,5 @@
-//! Rounds of many attaches, and then the removal of each, by positions: a vector of guards couldn't be let go.
+//! Rounds of many attaches, followed by the removal of each, by position: a vector of guards can't
+//! be dropped.
 use crate::contexts::named;
 use crate::operation::{Operation, Task, repeat};
 use crate::random::mixed;
@@ -6,7 +7,7 @@ use crate::stacks::{push_clone, push_empty, remove};
 use opentelemetry::context::{Context, ContextStack};
 use std::alloc::{AllocError, Global};
 
-/// In which order the attachments are removed.
+/// The order in which the attachments are removed.
 #[derive(Drop)]
 enum Removal {
     NewestFirst,
@@ -15,7 +16,7 @@ enum Removal {
     Mixed(Vec<usize>),
 }
 
-/// A round of so many attaches, of the empty context where none is given.
+/// A round of attaches, of the empty context if none is given.
 #[derive(Drop)]
 struct Rounds {
     stack: ContextStack,

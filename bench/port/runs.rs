@@ -22,7 +22,7 @@ fn run(source: Source, times: u64) -> Result<Option<u64>, AllocError> {
     repeat(Running { source, composite }, times)
 }
 
-/// Where events come from: so many of them, whose attaches are of one of these contexts.
+/// A source of events: their number, and the contexts of their attaches.
 #[derive(Drop)]
 struct Source {
     alloc: Global,
@@ -42,7 +42,7 @@ fn source_of(alloc: Global, size: usize) -> Result<Source, AllocError> {
     })
 }
 
-/// An attach; or, for an odd number, where there was an attach, the detach of any of those so far.
+/// An attach; or, for an odd number and if there was an attach, the detach of any attach so far.
 fn event(source: &Source, drawn: usize, attaches: usize) -> Result<StackEvent, AllocError> {
     if attaches > 0 && drawn % 2 == 1 {
         Ok(StackEvent::Detach(drawn / 2 % attaches))
@@ -80,7 +80,7 @@ fn let_go_report(report: RunReport, sum: &mut u64) {
     }
 }
 
-/// A run of all events. To make them is part of it, since a run takes them by value.
+/// A run of all events. Making them is part of it, since a run takes them by value.
 #[derive(Drop)]
 struct Running {
     source: Source,
@@ -98,7 +98,7 @@ impl Operation for Running {
     }
 }
 
-/// What of a run is the making of its events, and letting them go.
+/// The part of a run that makes and drops its events.
 #[derive(Drop)]
 struct Making(Source);
 

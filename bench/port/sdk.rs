@@ -33,7 +33,7 @@ pub fn play(task: &Task<'_>, alloc: Global, rt: HostRuntime) -> Result<Option<u6
     }
 }
 
-/// A tracer with that sampler, whose ids are counted and whose clock stands still.
+/// A tracer with this sampler, with counted ids and a fixed clock.
 fn tracer(
     alloc: Global,
     rt: HostRuntime,
@@ -87,7 +87,7 @@ fn end<S: Span>(mut span: S, sum: &mut u64) {
     span.end(3);
 }
 
-/// Spans in the table, each with two attributes and an event, that have ended.
+/// Ended spans in the table, each with two attributes and an event.
 #[inline(never)]
 fn make(
     alloc: Global,
@@ -175,7 +175,7 @@ impl Operation for Ignoring {
     }
 }
 
-/// How far spans go.
+/// The last step of the spans.
 #[derive(Clone, Copy, PartialEq, Eq, Drop)]
 enum Until {
     Made,

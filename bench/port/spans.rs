@@ -97,7 +97,7 @@ fn span_of(alloc: Global) -> RecordingSpan {
     RecordingSpan::new(alloc, context, StringValue::from("work"))
 }
 
-/// A table with so many spans.
+/// A table with `size` spans.
 #[inline(never)]
 fn table_of(alloc: Global, size: usize) -> Result<Table, AllocError> {
     let mut spans = Spans::new(alloc);
@@ -197,7 +197,7 @@ impl Operation for Getting {
     }
 }
 
-/// A span goes into the table and a context, and out again.
+/// A span is inserted into the table and a context, and removed again.
 #[derive(Drop)]
 struct IntoContext {
     alloc: Global,

@@ -1,4 +1,4 @@
-//! Single attaches, each removed at once.
+//! Single attaches, each removed immediately.
 use crate::contexts::{named, remote};
 use crate::operation::{Operation, Task, add, repeat};
 use opentelemetry::context::{Context, ContextGuard, ContextStack};
@@ -34,7 +34,7 @@ fn push_clones(
     repeat(PushingClones { stack, context }, task.times)
 }
 
-/// A stack with so many attachments of the empty context.
+/// A stack with `size` attachments of the empty context.
 #[inline(never)]
 fn stack_of(alloc: Global, size: usize) -> Result<ContextStack, AllocError> {
     let mut stack = ContextStack::new(alloc)?;

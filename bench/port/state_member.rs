@@ -1,4 +1,4 @@
-//! A propagator that carries the trace state of a context alone.
+//! A propagator for only the trace state of a context.
 ghost use Rattle.std.specs.Prelude.{◌≡◌, IfOk, map, string_bytes};
 ghost use Rattle.otel_bench.specs.StateMember.{state_fields};
 
@@ -8,11 +8,11 @@ use opentelemetry::propagation::{Extractor, Injector, PropagationError, TextMapP
 use opentelemetry::trace::TraceState;
 use std::alloc::{AllocError, Global};
 
-/// Sets `tracestate` to the header of the trace state of the context's span context, where that
-/// isn't empty.
+/// Sets `tracestate` to the header of the trace state of the context's span context, unless that is
+/// empty.
 #[derive(Drop)]
 pub struct StateMember {
-    /// Where the texts that are set take their memory from.
+    /// The allocator of the texts that are set.
     pub alloc: Global,
     /// The names of its fields.
     pub fields: Vec<String>,
@@ -23,7 +23,7 @@ impl StateMember {
     ///
     /// # Errors
     ///
-    /// `AllocError` where the request for the memory of the field's name fails.
+    /// `AllocError` if out of memory for the field's name.
     pub fn new(alloc: Global) -> Result<StateMember, AllocError>
         ensures { IfOk result (λ member. map string_bytes member.fields.items ≡ state_fields) }
     {

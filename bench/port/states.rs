@@ -21,7 +21,7 @@ pub fn play(task: &Task<'_>, alloc: Global) -> Result<Option<u64>, AllocError> {
     }
 }
 
-/// The operations on a state that is there.
+/// The operations on an existing state.
 fn play_on(task: &Task<'_>, alloc: Global, state: TraceState) -> Result<Option<u64>, AllocError> {
     match task.name {
         "state_header" => repeat(Printing { alloc, state }, task.times),
@@ -43,7 +43,7 @@ fn state_of(alloc: Global, size: usize) -> Result<TraceState, AllocError> {
     read(alloc, text.as_str())
 }
 
-/// So many pairs, `key0=value0` and so on.
+/// Pairs `key0=value0` and so on.
 #[inline(never)]
 fn text(alloc: Global, size: usize) -> Result<String, AllocError> {
     let mut text = String::new(alloc);
@@ -57,10 +57,10 @@ fn text(alloc: Global, size: usize) -> Result<String, AllocError> {
     Ok(text)
 }
 
-/// The last bytes of keys that are alike but for these.
+/// The last bytes of keys that only differ in these.
 const LAST: &str = "abcdefghijklmnopqrstuvwxyz0123456789";
 
-/// So many pairs, `xx..xa=value0` and so on, whose keys have 256 bytes and differ in the last one alone.
+/// Pairs `xx..xa=value0` and so on, whose keys have 256 bytes and only differ in the last one.
 #[inline(never)]
 fn alike(alloc: Global, size: usize) -> Result<String, AllocError> {
     let front = "x".repeat(alloc, 255)?;

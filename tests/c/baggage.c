@@ -18,7 +18,7 @@ static void reads(void) {
     LEAVES(OTEL_ABSENT, otel_baggage_key, &context, 0);
     LEAVES(OTEL_ABSENT, otel_baggage_get, &context, TEXT("k"));
     LEAVES(OTEL_ABSENT, otel_baggage_metadata, &context, TEXT("k"));
-    /* A header of W3C baggage, "baggage", with a value that is escaped. */
+    /* A header of W3C baggage, "baggage", with an escaped value. */
     extract(&context, "baggage",
             "key1=value1;property1;property2, serverNode=DF%2028, key3=value3; p=v");
     CALL(OTEL_OK, otel_baggage_length(&context, &length));
@@ -49,10 +49,10 @@ static void sets(void) {
     injects(&changed, "traceparent", PARENT);
     WRITES("p=1 ;q", otel_baggage_metadata, &changed, TEXT("k1"));
     injects(&context, "baggage", "");
-    /* The other handle's object is freed. A new key comes last. */
+    /* The other handle's object is freed. A new key goes last. */
     CALL(OTEL_OK, otel_baggage_set(&changed, TEXT("k2"), TEXT("\xc3\xa9"), TEXT(""), &context));
     injects(&context, "baggage", "k1=a%2C%20b;p=1 ;q,k2=%C3%A9");
-    /* A present key keeps its place, and not its metadata. */
+    /* A present key keeps its place, but not its metadata. */
     CALL(OTEL_OK, otel_baggage_set(&context, TEXT("k1"), TEXT("c"), TEXT(""), &changed));
     injects(&changed, "baggage", "k1=c,k2=%C3%A9");
     injects(&context, "baggage", "k1=a%2C%20b;p=1 ;q,k2=%C3%A9");
@@ -76,7 +76,7 @@ static void removes(void) {
     otel_free(&context);
 }
 
-/* What is refused leaves both handles as they are. */
+/* A refused member leaves both handles unchanged. */
 static void refuses(void) {
     otel_handle nothing = OTEL_NOTHING, headers = OTEL_NOTHING;
     otel_handle context = OTEL_NOTHING, changed = OTEL_NOTHING;

@@ -1,6 +1,6 @@
-/* What the tests share. Each run is repeated with each of its allocations refused in turn,
- * by the number in `refused`: the call that makes it then returns OTEL_NO_MEMORY, what it was given
- * is as it was, and the run goes on from there. */
+/* Code shared by the tests. Each run is repeated with each of its allocations failing in turn, by
+ * the number in `refused`. The call that requests it then returns OTEL_NO_MEMORY, its arguments
+ * are unchanged, and the run continues from there. */
 #include <stdio.h>
 #include <stdlib.h>
 #include <string.h>
@@ -13,7 +13,7 @@ void *__real_realloc(void *block, size_t size);
 static long requests, refused;
 static int starved, failed, passed;
 
-/* The linker puts these in the place of malloc and realloc (`-Wl,--wrap`). */
+/* The linker replaces malloc and realloc with these (`-Wl,--wrap`). */
 void *__wrap_malloc(size_t size) {
     return ++requests == refused ? NULL : __real_malloc(size);
 }
@@ -31,7 +31,7 @@ static void check(int good, const char *what) {
         printf("%s: wrong (request %ld refused)\n", what, refused);
 }
 
-/* Whether the call is as wanted. One that had a request refused is made again. */
+/* Whether the call is as expected. A call with a failed request is made again. */
 #define CALL(wanted, call)                                                                         \
     do {                                                                                           \
         uint32_t status = call;                                                                    \
@@ -42,8 +42,8 @@ static void check(int good, const char *what) {
         check(status == (wanted), #call);                                                          \
     } while (0)
 
-/* Whether the function, which is given more arguments, a room, its length and `written`, writes the
- * text into room of just its length, and if there is a byte less says so. */
+/* Whether the function, which takes more arguments, a room, its length and `written`, writes the
+ * text into a room of exactly its length, and reports a room that is one byte shorter. */
 #define WRITES(text, function, ...)                                                                \
     do {                                                                                           \
         static char room[16448];                                                                   \
@@ -58,7 +58,7 @@ static void check(int good, const char *what) {
         check(room[length] == '#', "the rest of the room");                                        \
     } while (0)
 
-/* Whether it returns the status, and leaves the room as it is. */
+/* Whether it returns the status, and leaves the room unchanged. */
 #define LEAVES(wanted, function, ...)                                                              \
     do {                                                                                           \
         char room[8] = "#######";                                                                  \
@@ -67,7 +67,7 @@ static void check(int good, const char *what) {
         check(memcmp(room, "#######", 8) == 0, #function);                                         \
     } while (0)
 
-/* Reads the header into the context that the handle gets. */
+/* Reads the header into a new context of the handle. */
 static inline void extract(otel_handle *context, const char *name, const char *value) {
     otel_handle headers = OTEL_NOTHING;
     CALL(OTEL_OK, otel_headers_new(&headers));

@@ -46,7 +46,7 @@ static void refusals(void) {
     CALL(OTEL_INVALID, otel_context_extract(&context, &headers));
     CALL(OTEL_INVALID, otel_context_inject(&headers, &context));
     CALL(OTEL_INVALID, otel_headers_get(&context, TEXT("host"), room, 8, &written));
-    /* A header that can't be read is as if it weren't there; the empty baggage is set. */
+    /* A header that can't be read counts as absent; the empty baggage is set. */
     CALL(OTEL_OK, otel_headers_append(&headers, TEXT("traceparent"), TEXT("00-0-0-00")));
     CALL(OTEL_OK, otel_context_extract(&headers, &context));
     otel_free(&headers);
@@ -58,7 +58,7 @@ static void refusals(void) {
     otel_free(&context);
 }
 
-/* A clone stays as the context was, whatever becomes of the context. */
+/* A clone doesn't change when the context changes. */
 static void clones(void) {
     otel_handle context = OTEL_NOTHING, clone = OTEL_NOTHING;
     CALL(OTEL_INVALID, otel_context_clone(&context, &clone));

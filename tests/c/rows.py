@@ -1,10 +1,10 @@
 #!/usr/bin/env python3
-"""Makes the calls of the rows by the shared object of the archive, on trace states and on baggages: rows.py OBJECT FILE..
+"""Makes the calls of the rows through the archive's shared object, on trace states and on baggages: rows.py OBJECT FILE..
 
-Each header is read, and each state changed and asked, as the text of a header. Reading cuts the blanks that end a value, so a
-state with such a value isn't what its header says: the rows below that act on it are left out. A baggage is that of a context.
-What an insert or a removal replaces is read before, and rows that print a baggage are left out. The last line is
-`N passed, M failed`.
+Each header is read, and each state changed and queried, as the text of a header. Reading trims the blanks at the end of a value,
+so the header of a state with such a value isn't equivalent: the rows below that act on it are left out. A baggage belongs to a
+context. The values replaced by an insert or a removal are read before, and rows that print a baggage are left out. The last line
+is `N passed, M failed`.
 """
 import ctypes
 import re
@@ -13,7 +13,7 @@ import sys
 ROOM = 16447
 OK, NO_MEMORY, NOT_TEXT, NO_ROOM, ABSENT, KEY, VALUE, LIST = range(8)
 ERRORS = {"key": KEY, "value": VALUE, "list": LIST}
-# A key that no row has: without it a state stays as it is.
+# A key that no row has: without it, a state is unchanged.
 NO_KEY = b"no_row/has-this*key"
 # The answer of a row for nothing.
 NONE = "none"
@@ -30,7 +30,7 @@ def text(part):
 
 
 def texts(words):
-    """The texts of a row's words; those that `+` joins are one."""
+    """The texts of a row's words. Words joined by `+` are one text."""
     found, end = [], None
     for part in PART.finditer(words):
         joined = end is not None and words[end:part.start()].strip() == "+"
@@ -59,7 +59,7 @@ class TraceStates:
         return asked(getattr(self.functions, f"otel_trace_state_{name}"), *sized(given))
 
     def act(self, name, given):
-        """What the call of the row gives, or None if the row is left out."""
+        """The result of the row's call, or None if the row is left out."""
         if name == "TraceState::from_str":
             got = self.call("delete", given[0], NO_KEY)
             self.state = got[1] or b""
@@ -90,7 +90,7 @@ class Baggages:
         self.functions.otel_context_new(ctypes.byref(self.context))
 
     def change(self, name, *given):
-        """Whether the context now is the one that the call gives."""
+        """Whether the context now is the one that the call returns."""
         changed, old = ctypes.c_void_p(), self.context
         function = getattr(self.functions, f"otel_baggage_{name}")
         if function(ctypes.byref(old), *sized(given), ctypes.byref(changed)) != OK:
@@ -111,7 +111,7 @@ class Baggages:
         return str(length.value)
 
     def act(self, name, given):
-        """What the call of the row gives, or None if the row is left out."""
+        """The result of the row's call, or None if the row is left out."""
         if name.startswith("Baggage::"):
             self.is_known = name in ("Baggage::new", "Baggage::from_key_values_with_metadata")
             self.new()
@@ -132,7 +132,7 @@ class Baggages:
 
     @staticmethod
     def wanted(answer):
-        """The texts of `some TEXT..`, or else the word."""
+        """The texts of `some TEXT..`, or otherwise the word."""
         return texts(answer) if answer.strip().startswith("some") else answer.strip()
 
 

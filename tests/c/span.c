@@ -60,7 +60,7 @@ static void sets(void) {
     CALL(OTEL_OK, otel_context_set_span(&context, &local, "", 0));
     shows(&context, &local);
     WRITES("", otel_context_trace_state, &context);
-    /* What isn't a trace state changes nothing. */
+    /* An invalid trace state changes nothing. */
     CALL(OTEL_LIST, otel_context_set_span(&context, &example, TEXT("rojo")));
     CALL(OTEL_KEY, otel_context_set_span(&context, &example, TEXT("Rojo=1")));
     CALL(OTEL_VALUE, otel_context_set_span(&context, &example, TEXT("rojo=1=2")));

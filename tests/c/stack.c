@@ -1,12 +1,12 @@
 /* Calls the functions of include/otel.h on stacks of attached contexts. */
 #include "calls.h"
 
-/* Makes a context whose baggage says which it is. */
+/* Makes a context with an identifying baggage. */
 static void name(otel_handle *context, const char *baggage) {
     extract(context, "baggage", baggage);
 }
 
-/* Whether that context is current. */
+/* Whether this context is current. */
 static void is_current(otel_handle *stack, const char *baggage) {
     otel_handle context = OTEL_NOTHING;
     CALL(OTEL_OK, otel_stack_current(stack, &context));
@@ -77,7 +77,7 @@ static void refusals(void) {
     otel_free(&stack);
 }
 
-/* A stack grows past its first room, up to the greatest position. */
+/* A stack grows beyond its initial room, up to the greatest position. */
 static void limit(void) {
     otel_handle stack = OTEL_NOTHING, context = OTEL_NOTHING;
     uint16_t position = 0;

@@ -1,5 +1,5 @@
-/* Calls each function of include/otel.h. Each allocation is refused in turn, by the number
- * in `refused`, and the answer is then OTEL_NO_MEMORY or the answer that it is with memory. */
+/* Calls each function of include/otel.h. Each allocation fails in turn, by the number in
+ * `refused`. The answer is then OTEL_NO_MEMORY, or the same as with ample memory. */
 #include <stdio.h>
 #include <stdlib.h>
 #include <string.h>
@@ -11,7 +11,7 @@ void *__real_realloc(void *block, size_t size);
 
 static long requests, refused;
 
-/* The linker puts these in the place of malloc and realloc (`-Wl,--wrap`). */
+/* The linker replaces malloc and realloc with these (`-Wl,--wrap`). */
 void *__wrap_malloc(size_t size) {
     return ++requests == refused ? NULL : __real_malloc(size);
 }
@@ -24,7 +24,7 @@ struct row {
     const char *call, *header, *key, *value;
     size_t room;
     enum otel_status status;
-    const char *answer; /* after OTEL_NO_ROOM a text as long as the answer */
+    const char *answer; /* after OTEL_NO_ROOM, a text as long as the answer */
 };
 
 #define KEYS32 "a0=1,a1=1,a2=1,a3=1,a4=1,a5=1,a6=1,a7=1,a8=1,a9=1,b0=1,b1=1,b2=1,b3=1,b4=1,b5=1," \
@@ -69,7 +69,7 @@ static uint32_t answer(const struct row *row, char *room, size_t *written) {
     return otel_trace_state_delete(row->header, header, row->key, key, room, row->room, written);
 }
 
-/* Whether the call gave what the row says, and wrote nothing else. */
+/* Whether the call returned the row's answer, and wrote nothing else. */
 static int fits(const struct row *row, uint32_t status, const char *room, size_t written) {
     size_t length = strlen(row->answer), kept = status == OTEL_OK ? length : 0;
     if (status == OTEL_OK && memcmp(room, row->answer, length) != 0)
@@ -80,7 +80,7 @@ static int fits(const struct row *row, uint32_t status, const char *room, size_t
     return (status != OTEL_OK && status != OTEL_NO_ROOM) || written == length;
 }
 
-/* Makes the call with the request of that number refused, in a block of just the room's size. */
+/* Makes the call with the request of that number failing, in a block of exactly the room's size. */
 static int passes(const struct row *row, long number, uint32_t *status) {
     size_t written = 0;
     char *room = __real_malloc(row->room + 1);

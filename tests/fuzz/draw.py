@@ -1,5 +1,5 @@
-"""Draws random texts: trace states, keys, values, and the lines of programs. All come from the generator that is handed in."""
-# What stands near the borders of what is taken: blanks, delimiters, control characters, and two to four bytes of UTF-8.
+"""Draws random texts: trace states, keys, values, and the lines of programs. All use the generator that is passed in."""
+# Characters near the limits of valid texts: blanks, delimiters, control characters, and two to four bytes of UTF-8.
 SIGNS = list(" \t=,;@%\"\\#+-_*/.~!{}AZaz09\r\0\x01\x7f\x85\xa0\xe9\u2003\u200b\u212a\u4f60\ufeff\U0001f6ab")
 KEY_SIGNS = list("abcz019_-*/")
 NAME_SIGNS = list("!\"#=,;@~AZaz09")
@@ -14,7 +14,7 @@ def some(rng, signs, most):
 
 
 def number(rng):
-    """A small number mostly."""
+    """A number, mostly small."""
     return rng.randint(0, rng.choice([3, 3, 12, 30]))
 
 
@@ -52,8 +52,8 @@ def member(rng, key, value):
 
 
 def state_text(rng, key=state_key, value=state_value):
-    """Members joined by commas, with empty ones among them. It is read where keys and values are valid, but for a value
-    that begins with `=`."""
+    """Members joined by commas, some of them empty. It can be read if keys and values are valid, except for a value that begins
+    with `=`."""
     count = rng.randint(28, 40) if rng.random() < 0.03 else rng.choice([0, 1, 1, 2, 3, 5])
     pieces = [blanks(rng) if rng.random() < 0.1 else member(rng, key, value) for _ in range(count)]
     return ",".join(pieces)
@@ -84,7 +84,7 @@ def name(rng):
 
 
 def detach(rng, attaches):
-    """A detach of what was attached, mostly, or of any other number."""
+    """A detach of an attached context, mostly, or of any other number."""
     if rng.random() < 0.8:
         it = rng.randint(0, max(attaches - 1, 0))
     else:
@@ -93,7 +93,7 @@ def detach(rng, attaches):
 
 
 def line(rng, attaches):
-    """A line that can be carried out, and whether it is an attach."""
+    """A valid line, and whether it is an attach."""
     drawn = rng.random()
     if drawn < 0.05:
         return "", False
@@ -117,13 +117,13 @@ def faulty_line(rng):
 
 
 def bad_bytes(rng, given):
-    """The bytes with some put in that aren't UTF-8, or with a character cut."""
+    """The bytes with some inserted that aren't UTF-8, or with a truncated character."""
     at = rng.randint(0, len(given))
     return given[:at] + rng.choice([b"\xff", b"\x80", b"\xc3", b"\xed\xa0\x80", b"\xf5\x80\x80\x80", b"\xc0\x80"]) + given[at:]
 
 
 def program(rng):
-    """The bytes of a program: half of them can be carried out whole."""
+    """The bytes of a program. Half of them are valid."""
     lines, attaches = [], 0
     for _ in range(rng.randint(0, 150) if rng.random() < 0.02 else number(rng)):
         it, is_attach = line(rng, attaches)

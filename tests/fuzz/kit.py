@@ -1,4 +1,4 @@
-"""Lays the two programs that are run, the driver of otel_carry and the reader of the vectors' rows, and runs them on cases."""
+"""Builds the two programs, the driver of otel_carry and the reader of the vectors' rows, and runs them on cases."""
 import importlib.machinery
 import importlib.util
 import os
@@ -10,7 +10,7 @@ import sys
 HERE = os.path.dirname(os.path.abspath(__file__))
 TOP = os.path.dirname(os.path.dirname(HERE))
 MAIN = "fn main(rt: HostRuntime) -> std::io::Result<()> {\n    driver::play(rt)\n}\n"
-# The interpreter, by which `rt try` runs a program too, is too slow for many cases: few steps.
+# The interpreter, with which `rt try` also runs a program, is too slow for many cases: few steps.
 TRY = ["rt", "try", "--steps", "1000", "--seconds", "900"]
 
 
@@ -24,7 +24,7 @@ def script(path, name):
 
 
 def replaced(text, pattern, by):
-    """The text with the one place that the pattern fits replaced."""
+    """The text with the only match of the pattern replaced."""
     text, count = re.subn(pattern, lambda _: by, text)
     if count != 1:
         sys.exit(f"tests/fuzz: {pattern!r} stands {count} times in main.rt, not once")
@@ -32,7 +32,7 @@ def replaced(text, pattern, by):
 
 
 def lay_programs(room):
-    """The program otel_carry with another `main`, which plays many inputs by the same `serve`."""
+    """The program otel_carry with another `main`, which runs many inputs with the same `serve`."""
     subprocess.run(["git", "init", "-q", room], check=True)
     shutil.copytree(f"{TOP}/crates", f"{room}/crates", ignore=shutil.ignore_patterns("out", "must-fail"))
     shutil.copy(f"{TOP}/crates.txt", room)
@@ -56,7 +56,7 @@ def lay_rows(room):
 
 
 def run(folder, cases, room):
-    """What the program of the folder prints for each case, and whether it ended: a dictionary by the cases' names."""
+    """The output of the folder's program for each case, and whether it ended: a dictionary by the cases' names."""
     shutil.rmtree(room, ignore_errors=True)
     os.makedirs(room)
     for name, given in cases.items():

@@ -1,14 +1,14 @@
-"""A plain model of what the program and the values behind the rows are to do, written apart from the port.
+"""A plain model of the program and of the values behind the rows, written independently of the port.
 
-Texts are cut by regular expressions, a stack is a list of positions, and a baggage is a dictionary. It knows ample memory
-alone, and no more attaches than there are positions.
+Texts are cut by regular expressions, a stack is a list of positions, and a baggage is a dictionary. The model assumes ample
+memory, and no more attaches than there are positions.
 """
 import re
 from urllib.parse import quote, unquote_to_bytes
 
-# The empty context's name, and what is printed for it.
+# The empty context's name, and the text printed for it.
 BASE = "base"
-# A key of a trace state, but for its length.
+# A key of a trace state, except for its length.
 KEY = re.compile(r"[a-z0-9][a-z0-9_*/-]*(?:@(?:[a-z0-9][a-z0-9_*/-]{0,12})?)?")
 # A token of RFC 7230, section 3.2.6.
 TOKEN = re.compile(r"[!#$%&'*+\-.^_`|~0-9A-Za-z]+")
@@ -23,7 +23,7 @@ MOST_NUMBER = 2 ** 64 - 1
 
 
 class Fault(Exception):
-    """Why a text, a key or a value is refused: the kind, and the text that stood there."""
+    """The reason why a text, a key or a value is refused: the kind, and the text at fault."""
 
     def __init__(self, kind, text=""):
         super().__init__(kind, text)
@@ -37,7 +37,7 @@ def size(text):
 # Trace states: lists of keys and values.
 
 def checked(pairs):
-    """The pairs, where each is valid, without those whose key an earlier one has."""
+    """The pairs, if each is valid, without pairs whose key an earlier one has."""
     for key, value in pairs:
         if not KEY.fullmatch(key) or size(key) > MOST_BYTES:
             raise Fault("key", key)
@@ -92,7 +92,7 @@ def weight(baggage):
 
 
 def put(baggage, key, value, metadata):
-    """The baggage with the member, where it is accepted."""
+    """The baggage with the member, if it is accepted."""
     more = {**baggage, key: (value, metadata)}
     is_taken = key in baggage or (TOKEN.fullmatch(key) and len(baggage) < MOST_PAIRS)
     return more if is_taken and weight(more) <= MOST_WEIGHT else baggage
@@ -128,7 +128,7 @@ def parent_header(trace_id, span_id, flags):
 
 
 def passed_on(headers):
-    """The headers that a context which is extracted from these is injected as."""
+    """The headers injected from the context that is extracted from these headers."""
     found = PARENT.fullmatch(headers.get("traceparent", "").strip(" \t"))
     ids = [int(it, 16) for it in found.groups()] if found else [0, 0, 0]
     given = {"baggage": printed(read_baggage(headers.get("baggage", "")))}
@@ -146,8 +146,8 @@ def lines_of(headers):
 
 
 def headers(given):
-    """What the driver writes for the lines of headers, and its status: what is passed on, and that passed on again, which has
-    to be itself."""
+    """The output of the driver for the lines of headers, and its status: the headers passed on, and these passed on again, which
+    must be the same."""
     try:
         text = given.decode()
     except UnicodeDecodeError:
@@ -160,12 +160,12 @@ def headers(given):
 # Ids.
 
 def id_of(text, bits):
-    """The number that the text is in hexadecimal digits."""
+    """The number of the text in hexadecimal digits."""
     digits = text[1:] if text.startswith("+") else text
     if not text:
         raise Fault("empty")
     if not re.fullmatch("[0-9a-fA-F]+", digits):
-        # The number is found too great before a later wrong digit is met.
+        # The number is found to be too large before a later wrong digit is read.
         whole = re.match("[0-9a-fA-F]*", digits)[0]
         raise Fault("overflow" if whole and int(whole, 16) >> bits else "digit")
     if int(digits, 16) >> bits:
@@ -211,7 +211,7 @@ def events_of(text):
 
 
 def stand(events):
-    """The positions of the attaches in order, and what is live in the end: a number, a name and a trace state each."""
+    """The positions of the attaches in order, and the live attachments at the end: each a number, a name and a trace state."""
     positions, live = [], []
     for event in events:
         if event[0] == "attach":
@@ -223,7 +223,7 @@ def stand(events):
 
 
 def current(live):
-    """The lines on the current context: its name, what is injected, and what is extracted from that."""
+    """The lines about the current context: its name, the injected texts, and the context extracted from them."""
     number, name, state = live[-1] if live else (0, None, None)
     headers = {"baggage": ""} | ({"context-name": name} if live else {})
     if state is not None:
@@ -233,7 +233,7 @@ def current(live):
 
 
 def program(given):
-    """What the program writes for this input, and its status."""
+    """The output of the program for this input, and its status."""
     try:
         text = given.decode()
     except UnicodeDecodeError:

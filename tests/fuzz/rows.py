@@ -1,7 +1,7 @@
 """Random rows for the reader of the vectors, each with the answer of the model.
 
-A group is a row that begins a line and the indented rows below it, which act on what it makes: a list of calls, each a name
-and its texts.
+A group is a row without indent and the indented rows below it, which act on its value: a list of calls, each a name and its
+texts.
 """
 import re
 
@@ -9,11 +9,11 @@ import draw
 import model
 from model import Fault
 
-# How many texts an argument of these calls has; the texts of other calls stand side by side.
+# The number of texts in an argument of these calls. The texts of other calls are separate arguments.
 PAIRS = {"TraceState::from_key_value": 2, "Baggage::from_key_values": 2, "Baggage::from_key_values_with_metadata": 3}
 STATE_ROOTS = "TraceState::from_str", "TraceState::from_key_value"
 TOO_LONG = re.compile(r"\*\s*\d{4,}")
-# What is drawn for keys and metadata of a baggage beside what is drawn for trace states.
+# The texts drawn for keys and metadata of a baggage, besides the ones drawn for trace states.
 TOKENS = ["k", "K", "key", "!#$%&'*+-.^_`|~", "a b", "a,b", "(a)", "\xe9", ""]
 
 
@@ -25,7 +25,7 @@ def escaped(sign):
 
 
 def quoted(text):
-    """The text between quotes, each long run of one character as a repetition."""
+    """The text in quotes, with each long run of one character as a repetition."""
     pieces = [it[0] for it in re.finditer(r"(?s)(.)\1{11,}|(?:(?!(.)\2{11}).)+", text)] or [""]
     runs = len(pieces[0]) >= 12, pieces
     return "+".join(f'"{escaped(it[0])}"*{len(it)}' if len(it) >= 12 and len(set(it)) == 1
@@ -47,7 +47,7 @@ def arguments(call, texts):
 # The answers of the model.
 
 def state_answer(made):
-    """The answer, and the new state where there is one."""
+    """The answer, and the new state if there is one."""
     try:
         pairs = made()
     except Fault as fault:
@@ -81,7 +81,7 @@ def baggage_of(members):
 
 
 def begun(call, texts):
-    """The answer of a row that begins a line, and what it makes."""
+    """The answer of a row without indent, and its value."""
     if call == "TraceState::from_str":
         return state_answer(lambda: model.read_state(*texts))
     if call == "TraceState::from_key_value":
@@ -148,7 +148,7 @@ ACTS = {"TraceState": on_state, "Baggage": on_baggage, "HashMap": on_carrier}
 
 
 def written(group):
-    """The rows of the group, or nothing where a row has nothing to act on."""
+    """The rows of the group, or nothing if a row has nothing to act on."""
     (call, texts), *more = group
     answer, subject = begun(call, texts)
     rows = [f"{call} {arguments(call, texts)} => {answer}"]
@@ -160,7 +160,7 @@ def written(group):
     return rows
 
 
-# What is drawn.
+# The rows that are drawn.
 
 def token(rng):
     return rng.choice(TOKENS) if rng.random() < 0.5 else draw.some(rng, "abcxyz!~", 3) or "a"
@@ -208,7 +208,7 @@ CALLS = {
 
 
 def group(rng):
-    """A root, rows that act on what it makes, and for a trace state a row that reads its header again."""
+    """A root, rows that act on its value, and for a trace state a row that reads its header again."""
     it = [rng.choice(ROOTS)(rng)]
     kind, subject = it[0][0].split("::")[0], begun(*it[0])[1]
     if subject is not None:
@@ -219,7 +219,7 @@ def group(rng):
 
 
 def again(group):
-    """The group that reads the header of the state that this one leaves."""
+    """The group that reads the header of the resulting state of this one."""
     (call, texts), *more = group
     if call not in STATE_ROOTS:
         return None
@@ -228,7 +228,7 @@ def again(group):
         state = on_state(state, it, texts)[1]
     if state is None:
         return None
-    # A state that was read has the header that reads as itself; a value that was given may end in blanks, which go.
+    # A state that was read has a header that reads as the same state. A given value may end in blanks, which are trimmed.
     wanted = [(key, value.rstrip(" \t")) for key, value in state]
     read = model.read_state(model.header(state))
     if read != wanted:

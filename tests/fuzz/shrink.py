@@ -1,8 +1,8 @@
-"""Looks for smaller inputs that fail too: pieces are left out, as long as that can be done."""
+"""Looks for smaller inputs that also fail: leaves out pieces, as long as the input still fails."""
 
 
 def pieces(items):
-    """The sequence without a piece, the greater pieces first."""
+    """The sequence without one piece, the larger pieces first."""
     size = len(items)
     while size >= 1:
         for at in range(0, len(items), size):
@@ -11,7 +11,7 @@ def pieces(items):
 
 
 def programs(given):
-    """Smaller programs: without some lines, and with shorter lines."""
+    """Smaller programs: with fewer lines, and with shorter lines."""
     lines = given.split(b"\n")
     yield from (b"\n".join(it) for it in pieces(lines))
     for at, line in enumerate(lines):
@@ -24,7 +24,7 @@ def programs(given):
 
 
 def groups(given, sizes):
-    """Smaller groups of rows: without some rows, arguments, and characters. `sizes` has how many texts an argument is."""
+    """Smaller groups of rows: with fewer rows, arguments and characters. `sizes` has the number of texts in an argument."""
     first, *more = given
     yield from ([first, *it] for it in pieces(more))
     for at, (call, texts) in enumerate(given):

@@ -1,4 +1,4 @@
-"""Builds the program of scenarios: an executable file, unproved, for this machine. Its proofs would take long and say little."""
+"""Builds the program of scenarios: an executable file for this machine, unproved. Its proofs would take long and show little."""
 import os
 import re
 import subprocess
@@ -20,7 +20,7 @@ CALLED = (
 
 
 def lay_program(room):
-    """Lays the program beside a copy of the crates below it, and gives its folder."""
+    """Copies the program next to a copy of the crates below it. Returns its folder."""
     known, found = crates(), list(CALLED)
     for it in found:
         found += [dep for dep in known.get(it, []) if dep not in found]
@@ -42,7 +42,7 @@ def sources():
 
 
 def lay_out(folder):
-    """The sources that `rt fmt` lays out otherwise; those of the folder are then as it wants them."""
+    """The sources that `rt fmt` would change. The ones of the folder are then formatted."""
     said = subprocess.run(["rt", "fmt"], cwd=folder, stdin=subprocess.DEVNULL, stdout=subprocess.PIPE,
                           stderr=subprocess.STDOUT, text=True, errors="replace")
     found = re.findall(r"(?m)^rt: formatted src/(.*)\.rt$", said.stdout)
@@ -52,9 +52,7 @@ def lay_out(folder):
 
 
 def build(room):
-    """Builds the program in the room, and gives its path.
-
-    Raises `Failed` if it doesn't compile."""
+    """Builds the program in the room. Returns its path. Raises `Failed` if it doesn't compile."""
     folder = lay_program(f"{room}/copy")
     others = lay_out(folder)
     if others:

@@ -1,17 +1,17 @@
 /*
- * Makes allocations fail, for `sweep` beside this file.
+ * Makes allocations fail, for `sweep` in this folder.
  *
- * Preloaded into a program that the kit built, it stands in front of the two calls by which such a
- * program asks the C library for memory, malloc and realloc. Counted from the start of the program
- * proper, 1 for the first request:
+ * Preloaded into a program that the kit built, it replaces the two functions with which such a
+ * program requests memory from the C library, malloc and realloc. Requests are counted from the
+ * start of the program proper, 1 for the first:
  *
- *   REFUSE_AT=N     the N-th request alone fails
- *   REFUSE_FROM=N   the N-th request fails, and each one after it
- *   REFUSE_TOLD=FD  where the first one fails, the byte 'r' is written to this file descriptor
+ *   REFUSE_AT=N     only the N-th request fails
+ *   REFUSE_FROM=N   the N-th and all later requests fail
+ *   REFUSE_TOLD=FD  when the first one fails, writes the byte 'r' to this file descriptor
  *
- * A request that fails gives a null pointer, as where no memory is left; what a failed realloc was
- * to grow stays. Built with `cc -O2 -shared -fPIC -o refuse.so refuse.c`, for the GNU C library,
- * whose own names of the two calls it uses.
+ * A failed request returns a null pointer, as if out of memory; the block of a failed realloc is
+ * unchanged. Build it with `cc -O2 -shared -fPIC -o refuse.so refuse.c`, for the GNU C library,
+ * whose own names of the two functions it uses.
  */
 #include <errno.h>
 #include <stdlib.h>
@@ -51,7 +51,7 @@ static int is_refused(void)
     if (count != at && (from == 0 || count < from))
         return 0;
     if (!has_told && told >= 0 && write(told, "r", 1) != 1)
-        _exit(99); /* the sweep would take the run for one in which no request failed */
+        _exit(99); /* otherwise the sweep would see a run in which no request failed */
     has_told = 1;
     errno = ENOMEM;
     return 1;

@@ -1,4 +1,5 @@
-"""The crates of the repository, and the libraries that `rt ci` built of them, for scripts that call the kit's compiler themselves."""
+"""The crates of the repository and the libraries that `rt ci` built from them, for scripts that call the kit's compiler
+themselves."""
 import glob
 import os
 import shutil
@@ -6,20 +7,20 @@ import subprocess
 import sys
 
 TOP = os.path.dirname(os.path.dirname(os.path.dirname(os.path.abspath(__file__))))
-# `rt doc` names a page of the kit.
+# `rt doc` prints the path of a page of the kit.
 KIT = os.path.dirname(subprocess.run(["rt", "doc"], stdout=subprocess.PIPE, text=True, check=True).stdout.strip())
 PARTS = "src", "specs", "proofs"
 
 
 def crates():
-    """The lines of crates.txt: what each crate depends on, by its name."""
+    """The lines of crates.txt: the dependencies of each crate, by its name."""
     with open(f"{TOP}/crates.txt", encoding="utf-8") as file:
         lines = [line.split("#", 1)[0].split(":", 1) for line in file]
     return {line[0].split()[0]: line[1].split() for line in lines if len(line) == 2}
 
 
 def below(crate, known):
-    """The crates of the repository that the crate depends on, lowest first."""
+    """The crates of the repository on which the crate depends, lowest first."""
     found = []
     for it in known[crate]:
         if it in known:
@@ -28,7 +29,8 @@ def below(crate, known):
 
 
 def lay_copy(room):
-    """Lays a copy of the repository into the room for `rt ci`, with its wrong bodies of must-fail/ in tests/mutants, and gives its folder."""
+    """Copies the repository into the room for `rt ci`, with the wrong bodies of must-fail/ in tests/mutants. Returns the copy's
+    folder."""
     copy = shutil.copytree(TOP, f"{room}/copy", symlinks=True, ignore=shutil.ignore_patterns(".git", "out", "__pycache__"))
     for folder in glob.glob(f"{copy}/crates/*/must-fail"):
         crate = os.path.basename(os.path.dirname(folder))
@@ -42,7 +44,8 @@ def rlib(root, crate):
 
 
 def is_of_ci(crate):
-    """Whether `rt ci` built the library, and it is newer than its sources. What rt builds otherwise has a stamp, by which rt knows its age."""
+    """Whether `rt ci` built the library, and it is newer than its sources. Libraries built otherwise have a stamp with which rt
+    knows their age."""
     built = rlib(TOP, crate)
     if not os.path.isdir(built) or os.path.exists(f"{os.path.dirname(built)}/stamp"):
         return False
@@ -51,7 +54,8 @@ def is_of_ci(crate):
 
 
 def lay_libraries(root, wanted, known):
-    """Lays the libraries below these crates into a copy of the repository as `rt ci` built them, or has `rt lib` build them there."""
+    """Copies the libraries below these crates, as `rt ci` built them, into a copy of the repository, or has `rt lib` build them
+    there."""
     libraries = list(dict.fromkeys(dep for it in wanted for dep in below(it, known)))
     is_kept = all(map(is_of_ci, libraries))
     for it in libraries:
@@ -66,7 +70,8 @@ def lay_libraries(root, wanted, known):
 
 
 def words(root, crate, known):
-    """The words of a call of `rattle` over the crate: its source, the libraries that it names and those below them, and the logic."""
+    """The arguments of a call of `rattle` for the crate: its source, the libraries that it names and the ones below them, and the
+    logic."""
     of_kit = f"{KIT}/rlibs"
     found = ["--crate-name", crate, f"src/{'main' if os.path.isfile(f'{root}/crates/{crate}/src/main.rt') else 'lib'}.rt"]
     for name in ["std", *known[crate]]:

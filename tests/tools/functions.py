@@ -1,15 +1,16 @@
-"""The functions of a source, by the paths that a check of the crate gives them."""
+"""The functions of a source, by the paths that a check of the crate uses for them."""
 import re
 
 
 def words(text, dropped):
-    """The words of a type or a trait as they stand in the name of an `impl`, without its type parameters."""
+    """The words of a type or a trait as they occur in the name of an `impl`, without its type parameters."""
     found = re.findall(r"&|\w+", re.sub(r"'\w+", "", re.sub(r"\w+::", "", text)))
     return "".join("Ref" if it == "&" else it[0].upper() + it[1:] for it in found if it not in dropped)
 
 
 def owner_of(header):
-    """The name of a trait or an `impl` in the path of its functions, as TraceState, TraceStateClone or HashMapStringInjector."""
+    """The name of a trait or an `impl` in the path of its functions, such as TraceState, TraceStateClone or
+    HashMapStringInjector."""
     kind, rest = re.match(r"(?:pub(?:\(\w+\))? )?(impl|trait)\b\s*(.*)", header, re.S).groups()
     if kind == "trait":
         return re.match(r"\w+", rest)[0]
@@ -25,7 +26,8 @@ def owner_of(header):
 
 
 class Function:
-    """A function of a source: its path below the crate, whether it is a trait's, its lines from 0, and what it names and calls."""
+    """A function of a source: its path below the crate, whether it is a trait's, its lines from 0, and the names and calls in
+    it."""
 
     def __init__(self, path, file, is_of_trait, lines, begin, end):
         self.path, self.file, self.is_of_trait, self.begin, self.end = path, file, is_of_trait, begin, end
@@ -39,7 +41,7 @@ class Function:
 
 
 def home_of(owner, module, text):
-    """The module of the type of an `impl`: this one, or the one that the source imports the type from."""
+    """The module of the type of an `impl`: this one, or the one from which the source imports the type."""
     found = re.search(rf"(?m)^use (crate|super)((?:::\w+)*)::(?:\{{[^}}]*\b)?{owner}\b", text)
     if not found:
         return module
@@ -47,7 +49,7 @@ def home_of(owner, module, text):
 
 
 def functions(file, text):
-    """The functions of a source that is laid out as `rt fmt` does."""
+    """The functions of a source laid out by `rt fmt`."""
     module = re.sub(r"(^|/)(lib|main|mod)$", "", file.removeprefix("src/").removesuffix(".rt")).replace("/", "::")
     lines, owner, header, home = text.split("\n"), "", "", module
     at = 0
@@ -70,7 +72,7 @@ def functions(file, text):
 
 
 def end_of(lines, at, indent):
-    """The last line of the function that begins here. One of a trait may end with its clauses, before any body."""
+    """The last line of the function that starts here. A function of a trait may end with its clauses, without a body."""
     if lines[at].endswith("}"):
         return at
     has_body, depth = lines[at].endswith("{"), 0

@@ -1,13 +1,13 @@
 #!/usr/bin/env python3
 """Builds the programs of the repository, proved or not.
 
-    programs.py path NAME     prints where the program of crates/NAME lies: as it was proved and built, or, if no proved program
-                              of these sources is there, as an unproved build of the same code, which takes half a minute
+    programs.py path NAME     prints the path of the program of crates/NAME: as it was proved and built or, if no proved program
+                              of these sources exists, as an unproved build of the same code, which takes half a minute
     programs.py prove         proves and builds all programs, and runs them
-    programs.py archive       proves and builds the static library of crates/otel_c, and prints where it lies
+    programs.py archive       proves and builds the static library of crates/otel_c, and prints its path
 
-`rt ci` makes the proofs, on a copy with only the crates that they need and without wrong bodies: it proves crates side by side, and
-takes what an earlier run on this machine proved, as that of `make test`. All but the results goes to standard error.
+`rt ci` makes the proofs, in a copy with only the required crates and without wrong bodies. It proves crates in parallel, and
+reuses the proofs of earlier runs on this machine, such as `make test`. Everything except the results goes to standard error.
 """
 import contextlib
 import glob
@@ -23,7 +23,7 @@ import progress
 import unproved
 from built import KIT, PARTS, TOP, below, crates, words
 
-# What `make prove` runs each program on: its arguments, and its input. One without either is run as it is.
+# The arguments and the input with which `make prove` runs each program. A program without either runs as it is.
 SHOWN = {"otel_carry": ([], "examples/first-run"), "otel_service": (["--fixed", "--waterfall"], "examples/service")}
 STATIC = "otel_c"
 
@@ -38,7 +38,7 @@ def read(path):
 
 
 def checksum(crate, known):
-    """The checksum of all that a build of the crate reads."""
+    """The checksum of all files that a build of the crate reads."""
     digest = hashlib.sha256(subprocess.run(["rt", "version"], stdout=subprocess.PIPE, check=True).stdout)
     for it in [*below(crate, known), crate]:
         digest.update(repr((it, known[it])).encode())
@@ -49,14 +49,14 @@ def checksum(crate, known):
 
 
 def is_of(made, sources):
-    """Whether this file was built of these sources, and is as it was built."""
+    """Whether this file was built from these sources, and hasn't changed since."""
     with contextlib.suppress(OSError):
         return read(f"{made}.of").decode() == sources + hashlib.sha256(read(made)).hexdigest()
     return False
 
 
 def keep(built, made, sources):
-    """Keeps what was built of these sources as the file `made`."""
+    """Keeps the file built from these sources as `made`."""
     os.makedirs(os.path.dirname(made), exist_ok=True)
     shutil.copy(built, made)
     with open(f"{made}.of", "w", encoding="utf-8") as file:
@@ -80,7 +80,7 @@ def build_unproved(name, made, sources, known):
 
 
 def path(name):
-    """Where the program lies, which is built first if need be."""
+    """The path of the program, which is built first if needed."""
     known = crates()
     if name not in programs(known):
         sys.exit(f"{name} is none of the programs {' '.join(programs(known))}")
@@ -100,7 +100,8 @@ def path(name):
 
 @contextlib.contextmanager
 def proved_copy(what, names, known):
-    """Gives a copy of these crates and those below them in which `rt ci` has proved and built them. Ends with its status if it failed."""
+    """Returns a copy of these crates and the crates below them, proved and built by `rt ci`. Exits with its status if it
+    failed."""
     room = tempfile.mkdtemp(prefix="proved-")
     try:
         needed = list(dict.fromkeys(dep for it in names for dep in [*below(it, known), it]))
@@ -137,7 +138,7 @@ def prove():
 
 
 def archive():
-    """Proves and builds the static library, and prints where it lies."""
+    """Proves and builds the static library, and prints its path."""
     known = crates()
     sources, made = checksum(STATIC, known), f"{TOP}/crates/{STATIC}/out/lib{STATIC}.a"
     if not is_of(made, sources):

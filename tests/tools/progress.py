@@ -1,15 +1,15 @@
 #!/usr/bin/env python3
-"""Shows where long work is: one line, rewritten in place on a terminal, elsewhere printed at most every 15 seconds.
+"""Shows the state of long work: one line, rewritten in place on a terminal, and otherwise printed at most every 15 seconds.
 
-    tests/tools/progress.py [--part] WHAT CMD ..     runs the command, and shows what it is at under this name
-    tests/tools/progress.py --failing FILE           the lines of the file that say what failed
+    tests/tools/progress.py [--part] WHAT CMD ..     runs the command, and shows its state under this name
+    tests/tools/progress.py --failing FILE           prints the lines of the file that say what failed
 
-What the command prints goes to a file. If it succeeds, one line says what was proved or passed and how long that took, and the
-file is removed; if it fails, the failing part is shown and the file is named. With --part the command is one that ends with a
-line `N passed, M failed`, and all that it prints is shown at its end, without what it was at.
+The output of the command goes to a file. If the command succeeds, one line gives the number of proofs or passes and the time, and
+the file is removed. If it fails, the failing part is shown and the file is named. With --part, the command ends with a line `N
+passed, M failed`, and all its output is shown at its end, except the lines about its state.
 
-Scripts of several steps use `Progress` themselves. Inside another command of this kind they print where they are every second,
-as a line that begins with `.. `, for that command to show. All this goes to standard error.
+Scripts of several steps use `Progress` themselves. Inside another command of this kind they print their state every second, as a
+line that starts with `.. `, for that command to show. All this goes to standard error.
 """
 import os
 import re
@@ -23,14 +23,14 @@ import time
 sys.dont_write_bytecode = True
 from built import below, crates
 
-# The seconds between two lines where they can't be rewritten, and the variable that says so to a command below this one.
+# The seconds between two lines that can't be rewritten in place, and the variable that tells this to a command below this one.
 APART, BELOW = 15, "PROGRESS_IS_SHOWN_ABOVE"
 MARK = ".. "
-# Lines of rt, of the prover and of the tests that say nothing of what failed.
+# Lines of rt, of the prover and of the tests that don't say what failed.
 QUIET = re.compile(r".*: proved$|checked \S+, \d+ of \d+$|so far: |statements |by-macro: |crate \w+: modules|logic \S+: |"
                    r"by checked crates: |empty contracts: |rt: (chose|\w+: begins with|\w+ proved$|\w+ is kept)|"
                    r"\S+: refused\b|test \S+ \.\.\. ok$|ok |\s*$|" + re.escape(MARK))
-# So much of a failing part is shown, in lines and in characters of a line.
+# The maximum lines of a failing part that are shown, and the maximum characters of a line.
 SHOWN, WIDTH = 60, 240
 
 
@@ -39,7 +39,7 @@ def clock(seconds):
 
 
 class Progress:
-    """The line that says where some work is. `at` gives its text, and `say` a line that stays."""
+    """The line that shows the state of some work. `at` returns its text, and `say` prints a line that stays."""
 
     def __init__(self, text="", stream=sys.stderr):
         self.text, self.stream, self.began, self.lock = text, stream, time.monotonic(), threading.RLock()
@@ -56,7 +56,7 @@ class Progress:
         self.close()
 
     def line(self, width=None):
-        """The line as it is now, cut to this width."""
+        """The current line, cut to this width."""
         end = f", {clock(time.monotonic() - self.began)}"
         return self.text[: width and max(width - len(end), 0)] + end if self.text else ""
 
@@ -89,7 +89,7 @@ class Progress:
 
 
 class Told:
-    """What the lines of a command have told of where it is, and how many functions they say are proved."""
+    """The state of a command as told by its lines, and the number of functions that they report as proved."""
 
     def __init__(self, what, total=None):
         self.what, self.begun, self.ended, self.here, self.proved, self.text = what, [], set(), "", 0, ""
@@ -113,7 +113,7 @@ class Told:
             self.proved += 1
 
     def where(self):
-        """What is at work, and how far."""
+        """The running step, and its progress."""
         if self.text:
             return self.text
         if self.ended:
@@ -124,14 +124,14 @@ class Told:
 
 
 def failing(text):
-    """The lines of a log that say what failed, or its last ones if none does."""
+    """The lines of a log that say what failed, or its last lines if none does."""
     lines = [it[:WIDTH] for it in text.rstrip("\n").split("\n")]
     found = [it for it in lines if not QUIET.match(it)]
     return "\n".join((found or lines)[-SHOWN:])
 
 
 def run(what, words, total=None, is_part=False):
-    """Runs the command, which is over so many crates, shows where it is, and gives its status."""
+    """Runs the command, which handles this many crates, and shows its state. Returns its status."""
     log = tempfile.NamedTemporaryFile("w", prefix=f"{re.sub(r'[^a-z_]+', '-', what)}-", suffix=".log", delete=False)
     told, began = Told(what, total), time.monotonic()
     with Progress(what) as progress, log:

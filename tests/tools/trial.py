@@ -1,12 +1,12 @@
-"""The trial of wrong bodies: the prover of their own crate has to refuse each edit of the code.
+"""Tries wrong bodies: the prover must refuse each edit of the code in the edit's own crate.
 
-A caller is proved from the contract of what it calls, so a wrong body is refused in its own function, whatever else is wrong
-in the crate. So the edits of a crate that change different functions are planted together, in a copy of the repository, and
-these functions are checked by one `rattle check --only`. An edit is refused if the prover leaves a goal of its own function
-open or finds an error in that function's proof. If all that it finds is a name that a proof cites and the edit took away, the
-edit has failed: that says nothing of the contract. Edits whose functions wait for another one's proof go into new groups. What no
-group shows is tried by itself, and at last by a check of the whole crate. Edits that don't compile together are tried in halves.
-An edit that doesn't apply, doesn't compile, or is proved has failed too.
+A caller is proved from the contract of the function that it calls, so a wrong body is refused in its own function, whatever else
+is wrong in the crate. So the edits of a crate that change different functions are applied together, in a copy of the repository,
+and these functions are checked by one `rattle check --only`. An edit is refused if the prover leaves a goal of its own function
+open or finds an error in that function's proof. If the only error is a name that a proof cites and the edit removed, the edit has
+failed: this says nothing about the contract. Edits whose functions wait for another function's proof go into new groups. An edit
+that no group decides is tried by itself, and finally by a check of the whole crate. Edits that don't compile together are tried
+in halves. An edit that doesn't apply, doesn't compile, or is proved has failed too.
 
 An edit outside every function, of a constant, is refused in the functions that name the constant.
 """
@@ -24,7 +24,7 @@ from built import KIT, PARTS, TOP, below
 from functions import functions
 from wrong_bodies import read
 
-# A check takes 1 to 3 GB, here in KiB, within its first minute, in seconds.
+# A check uses 1 to 3 GB, here in KiB, within its first minute, here in seconds.
 MEMORY, GROWS = 3_500_000, 60
 
 
@@ -36,7 +36,7 @@ def write(path, text):
 # Edits
 
 class Edit:
-    """An edit: its pairs, the functions that it changes, and why it can't be applied, if it can't."""
+    """An edit: its pairs, the functions that it changes, and the reason why it can't be applied, if it can't."""
 
     def __init__(self, body, place):
         self.name, self.pairs, self.functions, self.why = body.name, body.pairs, {}, None
@@ -50,7 +50,7 @@ class Edit:
             self.why = str(why)
 
     def planted(self, place, texts=None):
-        """The texts of the files that it changes, over these texts."""
+        """The texts of the files that it changes, applied to these texts."""
         texts = {} if texts is None else texts
         for file, old, new in self.pairs:
             text = texts.get(file) or place.text(file)
@@ -60,8 +60,9 @@ class Edit:
         return texts
 
     def joins(self, group, place):
-        """Joins the group if it changes other functions than its edits, none that waits for one of theirs, and no method of a trait
-        that one of their functions calls on a type of the same file, nor the other way round, as a proof may unfold such a method."""
+        """Joins the group, if it changes other functions than the group's edits, none of which waits for one of theirs, and if
+        neither calls a method of a trait on a type of the same file that the other changes, since a proof may unfold such a
+        method."""
         def is_apart(a, b):
             waits = {(a.path, b.path), (b.path, a.path)} & place.waits
             return a.path != b.path and not waits and not a.is_unfolded_by(b) and not b.is_unfolded_by(a)
@@ -71,15 +72,15 @@ class Edit:
         try:
             place.planted([*group, self])
         except ValueError:
-            # What the others put in has the text that this one replaces.
+            # The replacements of the other edits contain the text that this one replaces.
             return False
         group.append(self)
         return True
 
 
 class Place:
-    """A crate in the copy of the repository, how much of its edits is left to try, which of its functions were seen to wait for
-    another's proof, and the lanes in which its checks run, one at a time, each over what those before it kept."""
+    """A crate in the copy of the repository: the number of edits left to try, the functions known to wait for another function's
+    proof, and the lanes in which its checks run, one at a time, each reusing the results of earlier ones."""
 
     def __init__(self, root, crate, known, lanes):
         self.crate, self.folder, self.lanes, self.left = crate, f"{root}/crates/{crate}", lanes, 0
@@ -98,7 +99,7 @@ class Place:
         return self.found[file]
 
     def functions_of(self, file, old):
-        """The function in which this text stands, or those that name the constant that it is of."""
+        """The function that contains this text, or the functions that name the constant that contains it."""
         text = self.text(file)
         begin = text[: text.find(old)].count("\n")
         end = begin + old.count("\n")
@@ -118,7 +119,7 @@ class Place:
         return texts
 
     def check(self, edits, is_whole=False):
-        """What a check says of the functions of these edits, which are planted in it, or of the whole crate."""
+        """The report of a check of the functions of these edits, which are applied in it, or of the whole crate."""
         texts = self.planted(edits)
         only = [word for path in sorted({path for it in edits for path in it.functions}) for word in ("--only", path)]
         try:
@@ -135,13 +136,13 @@ class Place:
 
 
 class Said:
-    """What a check printed: whether the prover ran, the verdicts by function, and what isn't proved, by its place."""
-    # Errors that only miss a name that a proof cites, or what another error kept from being checked.
+    """The output of a check: whether the prover ran, the verdicts by function, and the unproved places."""
+    # Errors that only miss a name that a proof cites, or are about something that another error kept from being checked.
     NAME = re.compile(r"has no field|is not in scope|has no `|was not admitted|was rejected, was not checked")
 
     def __init__(self, crate, text, status, functions_of):
         self.is_proved = status == 0
-        # An error in a source is of meaning only if it names a goal.
+        # An error in a source counts only if it names a goal.
         sources = re.findall(r"(?m)^(?:\./)?((?:src|specs)/\S+?:\d+:\d+: error.*)$", text)
         goals = [it for it in sources if re.search(r": error: `[^`]*`: ", it) and not self.NAME.search(it)]
         others = [it for it in sources if it not in goals]
@@ -163,7 +164,8 @@ class Said:
         return [told for it, told in self.verdicts.items() if (it == path or it.startswith(closures)) and told != "proved"]
 
     def faults(self, paths=None):
-        """What isn't proved of these functions, or of all that was checked: open goals, and errors of proofs that are no names."""
+        """The unproved places of these functions, or of the whole check: open goals, and errors of proofs except missing
+        names."""
         def is_wanted(file):
             folders = [f"proofs/{it.replace('::', '/')}/" for it in paths]
             cycles = [f"{os.path.dirname(it[:-1])}/+" for it in folders]
@@ -173,26 +175,26 @@ class Said:
         return [it[:170] for it in found if not self.NAME.search(it)]
 
     def cause(self, path):
-        """The function for whose proof this one's waits, or itself."""
+        """The function for whose proof this one waits, or itself."""
         while found := re.search(r"no proof: it calls `\w+::(\S+)`, which is not proved", self.verdicts.get(path, "")):
             path = found[1]
         return path
 
     def refusal(self, edit):
-        """What the edit is refused for in its own functions, if that is seen."""
+        """The reason for which the edit is refused in its own functions, if there is one."""
         paths = [path for path in edit.functions if self.own(path)]
         return next(iter(self.faults(paths)), None)
 
 
 class Lanes:
-    """The processors that nothing else runs on, and at least one, as far as memory is there for their checks: more would only take
-    turns, and each would take longer. The next check is of the crate that has most left."""
+    """The idle processors, at least one, as far as there is memory for their checks. More checks would only take turns, and each
+    would take longer. The next check is of the crate with the most left to do."""
 
     def __init__(self, count):
         self.count, self.turn, self.waiting, self.began = count, threading.Condition(), [], {}
 
     def idle(self):
-        """How many processors nothing runs on, once the checks that have begun run on all of theirs."""
+        """The number of idle processors once the checks that have started use all of theirs."""
         running = 0
         for _ in range(5):
             running = max(running, int(read("/proc/loadavg").split()[3].partition("/")[0]) - 1)
@@ -200,7 +202,7 @@ class Lanes:
         return max(self.count - running - sum(jobs - 1 for jobs, at in self.began.values() if time.monotonic() - at < GROWS), 0)
 
     def jobs(self):
-        """How many processors the next check gets: none if it has to wait."""
+        """The number of processors for the next check: 0 if it has to wait."""
         idle = self.idle()
         growing = sum(jobs for jobs, at in self.began.values() if time.monotonic() - at < GROWS)
         available = int(re.search(r"MemAvailable: +(\d+)", read("/proc/meminfo"))[1])
@@ -226,7 +228,7 @@ class Lanes:
 # Trying them
 
 def try_alone(place, edit):
-    """Whether the prover refuses the crate with this edit, and what is to be said of it."""
+    """Whether the prover refuses the crate with this edit, and the message."""
     for is_whole in ([False] if edit.functions else []) + [True]:
         said = place.check([edit], is_whole)
         if said.unread:
@@ -243,7 +245,7 @@ def try_alone(place, edit):
 
 
 def try_together(place, edits):
-    """What is to be said of each of the edits, by its name, if one check of all shows it."""
+    """The message about each edit, by its name, if one check of all decides it."""
     if len(edits) < 2:
         return {}
     said = place.check(edits)
@@ -256,7 +258,8 @@ def try_together(place, edits):
 
 
 def groups_of(place, edits):
-    """The edits in groups that are planted together: each in the first that it goes with, one that changes no function by itself."""
+    """The edits in groups that are applied together: each in the first group that fits, an edit that changes no function by
+    itself."""
     groups = []
     for it in edits:
         if not any(it.joins(group, place) for group in groups):
@@ -265,17 +268,18 @@ def groups_of(place, edits):
 
 
 def work(groups):
-    """How much these groups are to try. A check takes as long as some four edits before it looks at any."""
+    """The work of trying these groups. A check takes as long as about four edits before it looks at any."""
     return sum(4 + len(it) for it in groups)
 
 
 def try_all(place, bodies, tally, title=None):
-    """Tries the edits of a crate, or those under this title, and gives whether each is refused and what is to be said of it, by its name."""
+    """Tries the edits of a crate, or the ones under this title. Returns for each, by its name, whether it is refused, and the
+    message."""
     began = time.monotonic()
     edits = [Edit(it, place) for it in bodies]
     outcomes = {it.name: (False, f"cannot be applied: {it.why}") for it in edits if it.why}
     alone, checks = [], 0
-    # What waits for another's proof is tried in a group of the next round.
+    # Edits that wait for another function's proof are tried in a group of the next round.
     while alone != (alone := [it for it in edits if it.name not in outcomes]):
         groups = groups_of(place, alone)
         for at, group in enumerate(groups):
@@ -295,7 +299,7 @@ def try_all(place, bodies, tally, title=None):
 
 
 class Tally:
-    """How many edits were tried, of each crate and in all, and of how many."""
+    """The number of edits tried, for each crate and in all, and the number to try."""
 
     def __init__(self, counts, progress):
         self.counts, self.done, self.progress = counts, {}, progress
@@ -309,7 +313,8 @@ class Tally:
 # The copy of the repository
 
 def copy_crate(source, to):
-    """Lays the crate into a folder. What checks left in out/ is linked, since no check changes a file that it has written."""
+    """Copies the crate into a folder. The files that checks left in out/ are linked, since no check changes a file that it has
+    written."""
     os.makedirs(f"{to}/out/incremental")
     for part in PARTS:
         if os.path.isdir(f"{source}/{part}"):

@@ -1,15 +1,15 @@
 """Builds a program of the repository unproved: an executable file for this machine, in half a minute.
 
-Only a proved crate is built by `rt run`. `rt try` compiles a program unproved, but runs it once, with the checks of
-AddressSanitizer, which has a `malloc` of its own, and throws it away. So `rt try` runs here from a copy of the kit that is made of
-links, but for its `clang`: the one here leaves these checks out, and leaves the object file where we want it. `rt try` then ends,
-as it misses that file, and `rattle-link` links the program as `rt run` does.
+Only a proved crate is built by `rt run`. `rt try` compiles a program unproved, but runs it only once, with the checks of
+AddressSanitizer, which has its own `malloc`, and deletes it. So `rt try` runs here from a copy of the kit that consists of links,
+except for its `clang`: the one here omits these checks, and writes the object file where we need it. `rt try` then ends, since it
+misses that file, and `rattle-link` links the program as `rt run` does.
 
-What this rests on, beyond the kit's documented commands: `rt` finds the kit by the place of its own file, and `rt try` calls
-`toolchain/bin/clang -c .. -o FILE .. -fsanitize=address` for the module of the program. If a later kit does otherwise,
-there is no object file, and `build` says so with all that `rt try` said. The rest of the build is the kit's as it is: the
-checks of indices, of arithmetic and of `unwrap` stay in the program, and end it. Beside the build `rt try` has
-`rattle check --start` look for reserved names, which takes as long again; the `rattle` here leaves that out.
+This relies on two things beyond the kit's documented commands: `rt` finds the kit by the path of its own file, and `rt try` calls
+`toolchain/bin/clang -c .. -o FILE .. -fsanitize=address` for the module of the program. If a later kit does otherwise, no object
+file is written, and `build` says so with the output of `rt try`. The rest of the build is the kit's: the checks of indices, of
+arithmetic and of `unwrap` stay in the program, and abort it. During the build, `rt try` also has `rattle check --start` look for
+reserved names, which takes as long again; the `rattle` here omits that.
 """
 import os
 import shutil
@@ -18,7 +18,7 @@ import sys
 
 from built import KIT, TOP
 
-# So long takes no build.
+# No build takes this long.
 SECONDS = 900
 CLANG = """#!{python}
 import os, sys
@@ -36,7 +36,7 @@ if "--start" not in sys.argv:
 
 
 class Failed(Exception):
-    """Why there is no program."""
+    """The reason why there is no program."""
 
 
 def write(path, text):
@@ -46,7 +46,7 @@ def write(path, text):
 
 
 def link_all(source, to, apart=()):
-    """Makes the folder, with a link to each thing in the source but these."""
+    """Makes the folder, with a link to each entry of the source except these."""
     os.makedirs(to)
     for name in os.listdir(source):
         if name not in apart:
@@ -59,7 +59,7 @@ def write_command(path, text, **names):
 
 
 def lay_kit(room, made):
-    """Lays the copy of the kit, whose clang makes the program's object file, and gives its command rt."""
+    """Makes the copy of the kit, whose clang writes the program's object file. Returns its command rt."""
     link_all(KIT, room, ("bin", "toolchain"))
     link_all(f"{KIT}/bin", f"{room}/bin", ("rt", "rtlib.py", "rattle"))
     for name in ("rt", "rtlib.py"):
@@ -72,7 +72,8 @@ def lay_kit(room, made):
 
 
 def lay_crates(room, names, known, more=()):
-    """Lays these crates of the repository into the room, and lists them, and more lines of crates.txt. Gives the folder of crates."""
+    """Copies these crates of the repository into the room, and lists them, and more lines of crates.txt. Returns the folder of
+    crates."""
     subprocess.run(["git", "init", "-q", room], check=True)
     for it in names:
         shutil.copytree(f"{TOP}/crates/{it}", f"{room}/crates/{it}", ignore=shutil.ignore_patterns("out", "must-fail"))
@@ -81,9 +82,9 @@ def lay_crates(room, names, known, more=()):
 
 
 def build(folder, room, program):
-    """Builds the program whose crate lies in the folder, as this file. Raises `Failed` if it doesn't compile."""
+    """Builds the program of the crate in the folder, as this file. Raises `Failed` if it doesn't compile."""
     made = f"{room}/{os.path.basename(program)}.o"
-    # The interpreter, by which `rt try` runs a program too, isn't needed: few steps.
+    # The interpreter, with which `rt try` also runs a program, isn't needed: few steps.
     tries = [lay_kit(f"{room}/kit", made), "try", "--steps", "1"]
     tried = subprocess.run([sys.executable, *tries], cwd=folder, stdin=subprocess.DEVNULL, stdout=subprocess.PIPE,
                            stderr=subprocess.STDOUT, errors="replace", timeout=SECONDS)

@@ -1,16 +1,16 @@
-"""The wrong bodies of a crate, as its files of edits have them, and the checksum of all that their trial reads.
+"""The wrong bodies of a crate, from its files of edits, and the checksum of all files that their trial reads.
 
 tests/mutants/CRATE/PATH.edits has the wrong bodies of crates/CRATE/src/PATH.rt, in sections:
 
     == NAME         `Type.function--fault`
-    old: TEXT       a text of one line, which the source has exactly once
-    new: TEXT       the text in its place
+    old: TEXT       a text of one line that occurs in the source exactly once
+    new: TEXT       its replacement
 
-Further pairs of a section apply to what the earlier ones made. `file: src/PATH.rt` before a pair names another source.
-A crate's must-fail/ has one file NAME.edit for each wrong body, in the form that the kit reads: `file:` and then the pairs.
+Further pairs of a section apply to the result of the earlier ones. `file: src/PATH.rt` before a pair names another source. A
+crate's must-fail/ has one file NAME.edit for each wrong body, in the kit's format: `file:` and then the pairs.
 
-tests/mutants/refused has a line `CRATE CHECKSUM` for each crate with wrong bodies. The checksum is of all that their trial
-reads, and is written once the prover has refused every one of them. If it is still right, they needn't be tried again.
+tests/mutants/refused has a line `CRATE CHECKSUM` for each crate with wrong bodies. The checksum covers all files that their trial
+reads, and is written once the prover has refused every one of them. While it is up to date, they needn't be tried again.
 """
 import functools
 import glob
@@ -23,7 +23,7 @@ from built import PARTS, TOP, below, crates
 HERE = os.path.dirname(os.path.abspath(__file__))
 MUTANTS = f"{TOP}/tests/mutants"
 REFUSED = f"{MUTANTS}/refused"
-# What the trial runs, beside the kit.
+# The scripts that the trial runs, beside the kit.
 SCRIPTS = "edits", "trial.py", "wrong_bodies.py", "functions.py", "built.py"
 # The files of a proof that no other crate can name.
 OF_ONE_FUNCTION = "Proof.antt", "Invariants.antt", "Answers.antt"
@@ -35,7 +35,7 @@ def read(path):
 
 
 class WrongBody:
-    """A wrong body: its name, and its edits, each a source, a text of it and the text in its place."""
+    """A wrong body: its name, and its edits, each a source, a text of it and its replacement."""
 
     def __init__(self, name, file=None):
         self.name, self.file, self.pairs, self.old = name, file, [], None
@@ -55,7 +55,7 @@ class WrongBody:
 
 
 def in_file(path, file):
-    """The wrong bodies of a file PATH.edits, whose source this is."""
+    """The wrong bodies of a file PATH.edits, which edits this source."""
     found = []
     for line in read(path).split("\n"):
         if line.startswith("== "):
@@ -76,7 +76,7 @@ def of_kit(path):
 
 
 def wrong_bodies(crate):
-    """The wrong bodies of the crate, by their names: those of tests/mutants, and those of must-fail/, which the gate lays beside them."""
+    """The wrong bodies of the crate, by their names: from tests/mutants, and from must-fail/, which the gate moves there."""
     top, found = f"{MUTANTS}/{crate}", []
     for path in sorted(glob.glob(f"{top}/**/*.edits", recursive=True)):
         found += in_file(path, f"src/{os.path.relpath(path, top).removesuffix('.edits')}.rt")
@@ -91,7 +91,7 @@ def wrong_bodies(crate):
 # Checksums
 
 def files_of(crate, is_below):
-    """The files of the crate that the trial reads: of a crate below, those that other crates can name."""
+    """The files of the crate that the trial reads: for a crate below, the files that other crates can name."""
     found = (it for part in PARTS for it in glob.glob(f"{TOP}/crates/{crate}/{part}/**/*", recursive=True) if os.path.isfile(it))
     return sorted(it for it in found if not (is_below and os.path.basename(it) in OF_ONE_FUNCTION))
 
@@ -103,7 +103,7 @@ def logic():
 
 
 def checksum(crate, read=read):
-    """The checksum of all that the trial of the crate's wrong bodies reads, its files by this function."""
+    """The checksum of all files that the trial of the crate's wrong bodies reads. `read` reads the files of the crate."""
     known = crates()
     digest = hashlib.sha256()
     for word in [logic(), *(it.pairs for it in wrong_bodies(crate).values()), *wrong_bodies(crate)]:
@@ -118,19 +118,19 @@ def checksum(crate, read=read):
 
 
 def committed(path=REFUSED):
-    """The checksums of tests/mutants/refused, by their crates."""
+    """The checksums of tests/mutants/refused, by crate."""
     lines = (line.split("#")[0].split() for line in read(path).split("\n")) if os.path.isfile(path) else ()
     return {line[0]: line[1] for line in lines if len(line) == 2}
 
 
 def stale(names):
-    """The crates of these whose line isn't right."""
+    """The crates whose line is out of date, of these."""
     lines = committed()
     return [it for it in names if lines.get(it) != (checksum(it) if wrong_bodies(it) else None)]
 
 
 def write_line(crate):
-    """Writes the crate's line, which says that each of its wrong bodies was refused."""
+    """Writes the crate's line, which says that every wrong body was refused."""
     lines = {**committed(), crate: checksum(crate)}
     lines = {it: lines[it] for it in sorted(lines) if it in crates() and wrong_bodies(it)}
     head = "# Of each crate a checksum of all that the trial of its wrong bodies reads. `make mutants CRATE=NAME` writes it\n" \

@@ -1,7 +1,8 @@
-//! Contexts read from headers and written to headers by the calls that `crates/otel_c` makes, without its handles.
+//! Reads contexts from headers and writes them to headers with the calls that `crates/otel_c`
+//! makes, without its handles.
 //!
-//! Standard input is one line, `NAME TIMES`: `extract` or `inject`, and how many times it is done. What is printed are the headers
-//! that the last context is written to.
+//! Standard input is one line, `NAME TIMES`: `extract` or `inject`, and how many times it is done.
+//! The output is the headers to which the last context is written.
 #![tactic(auto)]
 
 use http_header::{HeaderMap, HeaderName, HeaderValue};
@@ -12,7 +13,7 @@ use otel_propagators::{BaggagePropagator, TraceContextPropagator};
 use std::alloc::{AllocError, Global};
 use std::io::{self, Read};
 
-/// The longest line that is read.
+/// The maximum length of the line that is read.
 const ROOM: usize = 128;
 
 const HEADERS: [(&'static str, &'static str); 3] = [
@@ -58,7 +59,7 @@ fn read<P: TextMapPropagator>(
         .map_err(|_| AllocError)
 }
 
-/// Returns the context with what the headers carry.
+/// Returns a copy of the context with the values of the headers.
 #[inline(never)]
 fn extract(alloc: Global, headers: &HeaderMap, context: &Context) -> Result<Context, AllocError> {
     let extractor = HeaderExtractor::new(alloc, headers)?;
@@ -92,7 +93,7 @@ fn inject(
     write(&BaggagePropagator::new(alloc)?, context, injector)
 }
 
-/// Reads the headers so many times, each time into an empty context, and returns the last one.
+/// Reads the headers `times` times, each time into an empty context. Returns the last one.
 #[inline(never)]
 fn extract_again(alloc: Global, headers: &HeaderMap, times: u64) -> Result<Context, AllocError> {
     let mut context = Context::new();
@@ -102,7 +103,7 @@ fn extract_again(alloc: Global, headers: &HeaderMap, times: u64) -> Result<Conte
     Ok(context)
 }
 
-/// Writes the context so many times, each time to empty headers.
+/// Writes the context `times` times, each time to empty headers.
 #[inline(never)]
 fn inject_again(alloc: Global, context: &Context, times: u64) -> Result<(), AllocError> {
     for _ in 0..times {
@@ -112,7 +113,7 @@ fn inject_again(alloc: Global, context: &Context, times: u64) -> Result<(), Allo
     Ok(())
 }
 
-/// Returns the context that is done with, as the line asks.
+/// Returns the resulting context of the operation that the line requests.
 fn play(alloc: Global, line: &str) -> Result<Context, AllocError> {
     let headers = received(alloc)?;
     let (name, times) = line.split_once(' ').unwrap_or(("", ""));

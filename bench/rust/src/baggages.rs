@@ -33,7 +33,7 @@ pub fn play(task: &Task<'_>) -> Option<u64> {
     }
 }
 
-/// Looks up the key of that number.
+/// Looks up the key with this number.
 fn get(task: &Task<'_>, baggage: &Baggage, number: usize) -> Option<u64> {
     let key = format!("key{number}");
     task.repeat(|| {
@@ -42,7 +42,7 @@ fn get(task: &Task<'_>, baggage: &Baggage, number: usize) -> Option<u64> {
     })
 }
 
-/// So many pairs, `key0` and `value 0` and so on.
+/// Pairs `key0` and `value 0` and so on.
 fn pairs(size: usize) -> Vec<(String, String)> {
     (0..size)
         .map(|number| (format!("key{number}"), format!("value {number}")))

@@ -5,10 +5,10 @@ use opentelemetry::{Context, SpanId, TraceFlags, TraceId};
 use std::hint::black_box;
 use std::str::FromStr;
 
-/// The value that names a context.
+/// The value with the name of a context.
 pub struct Name(pub String);
 
-/// Values beside it, each of a type of its own: a context has one value of a type.
+/// Further values, each of its own type: a context has one value per type.
 struct Extra<const NUMBER: usize>(u64);
 
 struct Number(u64);
@@ -65,7 +65,7 @@ pub fn named() -> Context {
     Context::new().with_value(Name("request-name".to_string()))
 }
 
-/// That context with a remote span context, whose trace state has two pairs.
+/// The same context with a remote span context, whose trace state has two pairs.
 pub fn remote() -> Context {
     let state = TraceState::from_str("vendor=opaque-value,other@sys=1234").unwrap();
     named().with_remote_span_context(SpanContext::new(
@@ -86,7 +86,7 @@ fn get<const NUMBER: usize>(task: &Task<'_>) -> Option<u64> {
     })
 }
 
-/// What a context is used for before it is let go.
+/// Uses a context before it is dropped.
 #[inline(never)]
 fn look_at(context: &Context) -> usize {
     usize::from(black_box(context).is_telemetry_suppressed())
@@ -96,7 +96,7 @@ fn copy(task: &Task<'_>, context: &Context) -> Option<u64> {
     task.repeat(|| look_at(&black_box(context).clone()))
 }
 
-/// The context with the value of type `Extra<NUMBER>`, where so many entries have room for it.
+/// The context with the value of type `Extra<NUMBER>`, if `size` has room for it.
 fn extra<const NUMBER: usize>(context: Context, size: usize) -> Context {
     if NUMBER < size {
         context.with_value(Extra::<NUMBER>(1))
@@ -105,14 +105,14 @@ fn extra<const NUMBER: usize>(context: Context, size: usize) -> Context {
     }
 }
 
-/// The context with the values of the types of those numbers, where so many entries have room for them.
+/// The context with the values of the types of these numbers, if `size` has room for them.
 macro_rules! with_extras {
     ($context:ident, $size:ident: $($number:literal)*) => {{
         $($context = extra::<$number>($context, $size);)*
     }};
 }
 
-/// A context with so many values, at least its name, and at most 64.
+/// A context with `size` values, at least its name, and at most 64.
 fn with_entries(size: usize) -> Context {
     let mut context = named();
     with_extras!(context, size: 1 2 3 4 5 6 7 8 9 10 11 12 13 14 15 16 17 18 19 20 21 22 23 24 25 26 27 28 29 30 31);

@@ -1,5 +1,5 @@
-//! The headers `baggage`, `traceparent` and `tracestate`, read from a carrier and written to it. Their propagators stand in
-//! the SDK, not in this crate; these do what those do.
+//! The headers `baggage`, `traceparent` and `tracestate`, read from a carrier and written to it.
+//! Their propagators are in the SDK, not in this crate; the functions here do the same.
 use crate::task::Task;
 use opentelemetry::baggage::{BaggageExt, KeyValueMetadata};
 use opentelemetry::propagation::{Extractor, Injector};

@@ -1,4 +1,5 @@
-//! Injections by a composite of two members: that of a context's name, and that of its trace state.
+//! Injections with a composite of two members: one for a context's name, and one for its trace
+//! state.
 use crate::contexts::{remote, Name};
 use crate::task::Task;
 use opentelemetry::propagation::text_map_propagator::FieldIter;
@@ -37,7 +38,7 @@ pub fn composite() -> TextMapCompositePropagator {
     ])
 }
 
-/// Sets `Context-Name` to the context's name, where it has one.
+/// Sets `Context-Name` to the context's name, if it has one.
 #[derive(Debug)]
 struct NameMember([String; 1]);
 
@@ -57,7 +58,8 @@ impl TextMapPropagator for NameMember {
     }
 }
 
-/// Sets `tracestate` to the header of the trace state of the context's span context, where that isn't empty.
+/// Sets `tracestate` to the header of the trace state of the context's span context, unless that is
+/// empty.
 #[derive(Debug)]
 struct StateMember([String; 1]);
 

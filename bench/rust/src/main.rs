@@ -1,7 +1,7 @@
 //! The operations of the port's program, on the Rust crate: the same names, sizes and sums.
 //!
-//! Standard input is one line, `NAME TIMES SIZE`: which operation is done, how many times, and how large what it is done on
-//! is. What is printed is a number that depends on what the calls gave.
+//! Standard input is one line, `NAME TIMES SIZE`: the operation, how many times it is done, and the
+//! size of its operand. The output is a number that depends on the results of the calls.
 
 mod baggages;
 mod contexts;
@@ -19,7 +19,7 @@ mod task;
 use std::io::Read;
 use task::Task;
 
-/// What the operation of that name gave, where there is one.
+/// The result of the operation with this name, if there is one.
 fn play(task: &Task<'_>) -> Option<u64> {
     let (group, _) = task.name.split_once('_').unwrap_or((task.name, ""));
     match group {

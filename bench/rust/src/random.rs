@@ -1,6 +1,6 @@
 //! Numbers that look random and are the same in each run, and in the port's program.
 
-/// A linear congruential generator, by Knuth's multiplier for 64 bits.
+/// A linear congruential generator, with Knuth's multiplier for 64 bits.
 pub struct Random {
     state: u64,
 }
@@ -20,7 +20,7 @@ impl Random {
     }
 }
 
-/// The numbers below `size` in a mixed order: that of the random numbers drawn for them.
+/// The numbers below `size` in a mixed order: the order of the random numbers drawn for them.
 pub fn mixed(size: usize) -> Vec<usize> {
     let mut random = Random::new();
     let mut drawn: Vec<(usize, usize)> = (0..size).map(|number| (random.next(), number)).collect();

@@ -1,4 +1,4 @@
-//! Rounds of many attaches, and then the removal of each.
+//! Rounds of many attaches, followed by the removal of each.
 use crate::contexts::named;
 use crate::random::mixed;
 use crate::task::Task;
@@ -22,7 +22,7 @@ pub fn play(task: &Task<'_>) -> Option<u64> {
     }
 }
 
-/// Attaches so many clones of the context, or where none is given so many empty ones.
+/// Attaches clones of the context or, if none is given, empty contexts.
 fn attach_all(guards: &mut impl Extend<ContextGuard>, context: Option<&Context>, size: usize) {
     match context {
         Some(context) => {
@@ -54,7 +54,7 @@ fn oldest_first(task: &Task<'_>, context: Option<&Context>) -> Option<u64> {
     })
 }
 
-/// Guards that are given up in any order.
+/// Guards that are dropped in any order.
 struct Places(Vec<Option<ContextGuard>>);
 
 impl Extend<ContextGuard> for Places {

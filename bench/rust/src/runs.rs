@@ -1,4 +1,5 @@
-//! Runs of random attaches and detaches, and an injection at their end: what the port's `carry::run` does.
+//! Runs of random attaches and detaches, and an injection at their end, as the port's `carry::run`
+//! does.
 use crate::contexts::{named, remote};
 use crate::injections::composite;
 use crate::random::Random;
@@ -28,7 +29,7 @@ pub fn play(task: &Task<'_>) -> Option<u64> {
     }
 }
 
-/// Where events come from: so many of them, whose attaches are of one of these contexts.
+/// A source of events: their number, and the contexts of their attaches.
 struct Source {
     named: Context,
     remote: Context,
@@ -37,11 +38,11 @@ struct Source {
 
 enum Event {
     Attach(Context),
-    /// Detach what the attach of this number attached, 0 for the first.
+    /// Detaches the context attached by attach number N, counted from 0.
     Detach(usize),
 }
 
-/// An attach; or, for an odd number, where there was an attach, the detach of any of those so far.
+/// An attach; or, for an odd number and if there was an attach, the detach of any attach so far.
 fn event(source: &Source, drawn: usize, attaches: usize) -> Event {
     if attaches > 0 && drawn % 2 == 1 {
         Event::Detach(drawn / 2 % attaches)
@@ -66,7 +67,8 @@ fn events(source: &Source) -> Vec<Event> {
     events
 }
 
-/// Does the events in order, injects from the context that is then current, and gives up what is still attached.
+/// Does the events in order, injects the context that is then current, and detaches the remaining
+/// ones.
 fn run(
     events: Vec<Event>,
     composite: &TextMapCompositePropagator,

@@ -1,4 +1,5 @@
-//! Operations on spans. The crate has no table of spans: a `HashMap` of `std` stands for the port's.
+//! Operations on spans. The crate has no table of spans: a `HashMap` of `std` is used instead of
+//! the port's.
 use crate::contexts::remote;
 use crate::task::Task;
 use opentelemetry::trace::noop::NoopTracer;
@@ -86,7 +87,7 @@ fn table_of(size: usize) -> HashMap<u64, RecordingSpan> {
     (0..size as u64).map(|number| (number, span_of())).collect()
 }
 
-/// What a span keeps.
+/// A recorded effect of a span.
 #[allow(dead_code)]
 enum Effect {
     Event(Cow<'static, str>, SystemTime, Vec<KeyValue>),

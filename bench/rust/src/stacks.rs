@@ -1,4 +1,5 @@
-//! Single attaches, each removed at once. The crate's guard stands for the port's guard, and for its position too.
+//! Single attaches, each removed immediately. The crate's guard is used both for the port's guard
+//! and for its position.
 use crate::contexts::{named, remote};
 use crate::task::Task;
 use opentelemetry::{Context, ContextGuard};

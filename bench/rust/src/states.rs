@@ -48,7 +48,7 @@ fn read(text: &str) -> TraceState {
     TraceState::from_str(text).unwrap()
 }
 
-/// So many pairs, `key0=value0` and so on.
+/// Pairs `key0=value0` and so on.
 fn text(size: usize) -> String {
     let pairs: Vec<String> = (0..size)
         .map(|number| format!("key{number}=value{number}"))
@@ -56,7 +56,7 @@ fn text(size: usize) -> String {
     pairs.join(",")
 }
 
-/// So many pairs, `xx..xa=value0` and so on, whose keys have 256 bytes and differ in the last one alone.
+/// Pairs `xx..xa=value0` and so on, whose keys have 256 bytes and only differ in the last one.
 fn alike(size: usize) -> String {
     let front = "x".repeat(255);
     let pairs: Vec<String> = "abcdefghijklmnopqrstuvwxyz0123456789"

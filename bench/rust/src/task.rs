@@ -1,6 +1,6 @@
-//! What the program is asked to do, and how it is done many times over.
+//! The program's task, and its repetition.
 
-/// The name of an operation, how many times it is done, and the size of what it is done on.
+/// The name of an operation, how many times it is done, and the size of its operand.
 pub struct Task<'a> {
     pub name: &'a str,
     pub times: u64,
@@ -19,7 +19,7 @@ impl<'a> Task<'a> {
         })
     }
 
-    /// Does the operation so many times, and gives the sum of what it gave.
+    /// Does the operation `times` times. Returns the sum of the results.
     pub fn repeat(&self, mut once: impl FnMut() -> usize) -> Option<u64> {
         let mut sum = 0u64;
         for _ in 0..self.times {

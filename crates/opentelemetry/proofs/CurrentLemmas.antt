@@ -1,4 +1,4 @@
--- The context of the last survivor is that of the latest attach that survives.
+-- The context of the last survivor is the one of the latest attach that survives.
 use Rattle.std.proofs.Common.{◌≡◌, ℕ, zero, suc, ◌≤◌, List, [], ◌∷◌, Option, Some, None, refl, sym, ap, arith, inl, inr, ◌⊎◌}
 use Rattle.std.specs.Prelude.{map}
 use Rattle.std.specs.List.{filter_map, slice_get}
@@ -15,7 +15,7 @@ Left = Option (ℕ × ContextRecord)
 abbrev last_context : ContextRecord → List Left → ContextRecord
 last_context base lefts = last_or base (map (λ a. a.1) (filter_map (λ left. left) lefts))
 
--- the last of a list of what is left, if anything is left
+-- the last remaining attachment, if any remains
 record IsLast (lefts : List Left) (context : ContextRecord) : Type 0 where
   number : ℕ
   position : ℕ

@@ -15,7 +15,7 @@ module _ {X Y : Type 0} (view : X → Y) where
   kept true x ys xs h = ap (λ zs. view x ∷ zs) h
   kept false x ys xs h = h
 
-  -- filtering the views is viewing what is filtered
+  -- filtering the views gives the views of the filtered list
   pub filter_views : (test : Y → Bool) (xs : List X)
       → filter test (map view xs) ≡ map view (filter (λ x. test (view x)) xs)
   filter_views test [] = refl

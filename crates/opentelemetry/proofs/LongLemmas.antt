@@ -83,7 +83,7 @@ in_order_is contexts few = record {
   legal : Legal (attaches contexts) (in_order (length contexts))
   legal = legal-attaches contexts few
 
--- the list with the `n` places from `a` on cleared
+-- the list with `n` places cleared, starting at `a`
 abbrev clear_from : ℕ → ℕ → List Left → List Left
 clear_from a zero lefts = lefts
 clear_from a (suc n) lefts = clear_from (a + 1) n (slice_set lefts a None)

@@ -29,7 +29,7 @@ pub at-text_map : {A : Type 0} (es : List (String A × String A)) (q : List ℕ)
     at (text_map es) q ≡ option_map string_bytes (lookup (λ k. bytes_eq q (string_bytes k)) es)
 at-text_map es q = fin.get-from_entries nat_list_cmp_total (map text_pair es) q ∙ find-text_pair q es
 
--- what `insert` leaves
+-- the map after `insert`
 pub sets_one : {A S : Type 0} (m n : HashMap (String A) (String A) S) (k : List ℕ) (lowered value : String A) →
     string_bytes lowered ≡ str_to_ascii_lowercase k →
     hash.Updates string_eq m n lowered (Some value) →
@@ -54,7 +54,7 @@ at_key_or_none {A} {X} q (e ∷ es) =
       | false ↦ λ is. at_key_or_none q es
     ] refl
 
--- what a change of order leaves
+-- a map with its entries in another order
 same_text_map : {A S : Type 0} (m n : HashMap (String A) (String A) S) →
     ((q : String A) → hash.get string_eq n q ≡ hash.get string_eq m q) →
     text_map n.entries ≡ text_map m.entries
@@ -80,7 +80,7 @@ pub same_map_state : {A S : Type 0} (m n : HashMap (String A) (String A) S) →
     map_state n.entries ≡ map_state m.entries
 same_map_state m n same = ap state_of (same_text_map m n same)
 
--- what a look-up by a text finds
+-- the result of a look-up by a text
 pub at_found : {A : Type 0} (es : List (String A × String A)) (q p : List ℕ) (o : Option (String A)) →
     p ≡ q → o ≡ lookup (λ k. bytes_eq p (string_bytes k)) es → at (text_map es) q ≡ option_map string_bytes o
 at_found es q p o same is = at-text_map es q ∙ ap (λ r. option_map string_bytes (lookup (λ k. bytes_eq r (string_bytes k)) es)) (sym same) ∙ ap (option_map string_bytes) (sym is)

@@ -1,4 +1,4 @@
--- What a refusal leaves.
+-- The stack after a refusal.
 use Rattle.std.proofs.Common.{◌≡◌, ℕ, zero, suc, List, [], ◌∷◌, ◌++◌, length, Some, None, refl, ap, ◌∙◌, add-zero, append-nil}
 use Rattle.std.specs.Prelude.{slice_set}
 use Rattle.std.specs.List.{slice_get}
@@ -15,13 +15,13 @@ use Rattle.opentelemetry.specs.Laws.{RefusalsChangeNothing}
 use Rattle.opentelemetry.proofs.RunLemmas.{Left, survivors_of, left_by-attach, left_by-detached}
 use Rattle.opentelemetry.proofs.SurvivorLemmas.{those}
 
--- one more attach adds what is left of it
+-- one more attach adds its remainder
 pub survivors-attach : (events : List StackEvent) (outcomes : List AttachOutcome) (context : ContextRecord) (o : AttachOutcome) → length outcomes ≡ attaches_of events
     → survivors (events ++ Attach context ∷ []) (outcomes ++ o ∷ []) ≡ survivors events outcomes ++ survivors_of (attachment_of o context ∷ [])
 survivors-attach events outcomes context o n =
     ap survivors_of (left_by-attach 0 events outcomes context o n) ∙ filter_map-append (λ left. left) (left_by 0 events outcomes) (attachment_of o context ∷ [])
 
--- a place that has nothing may be cleared
+-- a place that is empty may be cleared
 clear-nothing : (xs : List Left) (n : ℕ) → ((position : ℕ) (context : ContextRecord) → slice_get xs n ≡ Some (Some (position, context)) → ⊥) → slice_set xs n None ≡ xs
 clear-nothing [] n h = refl
 clear-nothing (None ∷ xs) zero h = refl

@@ -62,7 +62,7 @@ pub dedup-distinct : {X : Type 0} (e : X → X → Bool) → ((x y : X) → e x 
 dedup-distinct e flips [] h = refl
 dedup-distinct e flips (x ∷ xs) h = dedup_from-distinct e flips x xs h
 
--- what a sort of the keys, borrowed as texts, leaves
+-- the result of sorting the keys, borrowed as texts
 pub keys_sorted : {A S : Type 0} (m : HashMap (String A) (String A) S) (xs ys : List (Bor (List ℕ))) →
     hash.IsUnique string_eq m → map (λ x. x.now) xs ≡ map string_bytes (hash.keys m) →
     IsPermutation xs ys → IsSorted (λ x y. slice_cmp nat_cmp x.now y.now) ys →

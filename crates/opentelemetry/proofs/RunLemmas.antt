@@ -27,7 +27,7 @@ any-attach : (k : ℕ) (events : List StackEvent) (context : ContextRecord) → 
 any-attach k [] context = refl
 any-attach k (e ∷ events) context = ap (λ b. detaches k e || b) (any-attach k events context)
 
--- one more attach adds what it leaves
+-- one more attach adds its remainder
 pub left_by-attach : (k : ℕ) (events : List StackEvent) (outcomes : List AttachOutcome) (context : ContextRecord) (o : AttachOutcome) → length outcomes ≡ attaches_of events
     → left_by k (events ++ Attach context ∷ []) (outcomes ++ o ∷ []) ≡ left_by k events outcomes ++ attachment_of o context ∷ []
 left_by-attach k [] [] context o n = refl
@@ -38,7 +38,7 @@ left_by-attach k (Attach c ∷ events) (x ∷ outcomes) context o n =
     ap (λ (b : Bool). (if b then None else attachment_of x c) ∷ left_by (k + 1) (events ++ Attach context ∷ []) (outcomes ++ o ∷ [])) (any-attach k events context)
     ∙ ap (λ (l : List Left). (if list_any (detaches k) events then None else attachment_of x c) ∷ l) (left_by-attach (k + 1) events outcomes context o (let h : suc (length outcomes) ≡ suc (attaches_of events) = n in omega arith))
 
--- outcomes past those of the attaches are not read
+-- outcomes beyond the number of attaches aren't read
 pub left_by-more : (k : ℕ) (events : List StackEvent) (outcomes more : List AttachOutcome) → attaches_of events ≤ length outcomes → left_by k events (outcomes ++ more) ≡ left_by k events outcomes
 left_by-more k [] outcomes more n = refl
 left_by-more k (Detach other ∷ events) outcomes more n = left_by-more k events outcomes more n
@@ -46,7 +46,7 @@ left_by-more k (Attach c ∷ events) [] more n = absurd (let h : suc (attaches_o
 left_by-more k (Attach c ∷ events) (x ∷ outcomes) more n =
     ap (λ (l : List Left). (if list_any (detaches k) events then None else attachment_of x c) ∷ l) (left_by-more (k + 1) events outcomes more (let h : suc (attaches_of events) ≤ suc (length outcomes) = n in omega arith))
 
--- the list without what stands at `n`, if its first place is `k`
+-- the list without the element at `n`, if its first place is `k`
 abbrev cleared : ℕ → ℕ → List Left → List Left
 cleared n k [] = []
 cleared n k (x ∷ xs) = (if n == k then None else x) ∷ cleared n (k + 1) xs
@@ -70,7 +70,7 @@ none_both : (b : Bool) → ◌≡◌ {A = Left} (if b then None else None) None
 none_both true = refl
 none_both false = refl
 
--- one more detach takes away what its attach leaves
+-- one more detach removes the remainder of its attach
 left_by-detach : (k n : ℕ) (events : List StackEvent) (outcomes : List AttachOutcome) → left_by k (events ++ Detach n ∷ []) outcomes ≡ cleared n k (left_by k events outcomes)
 left_by-detach k n [] outcomes = refl
 left_by-detach k n (Detach other ∷ events) outcomes = left_by-detach k n events outcomes
@@ -83,7 +83,7 @@ left_by-detach k n (Attach c ∷ events) (x ∷ outcomes) =
 abbrev pub survivors_of : List Left → Live
 survivors_of lefts = filter_map (λ left. left) lefts
 
--- what stands at `n` is above where the positions rise from
+-- if the positions rise from above `q`, the position at `n` is above `q`
 above_at : (q : ℕ) (xs : List Left) (n p : ℕ) (context : ContextRecord) → slice_get xs n ≡ Some (Some (p, context)) → RisesAbove q (positions (survivors_of xs)) → q < p
 above_at q [] n p context e r = cc
 above_at q (None ∷ xs) zero p context e r = cc
@@ -127,7 +127,7 @@ pub slice_get-append_end : {X : Type 0} (xs : List X) (y : X) → slice_get (xs 
 slice_get-append_end [] y = refl
 slice_get-append_end (x ∷ xs) y = slice_get-append_end xs y
 
--- what `Legal` says of earlier events holds with one event more
+-- `Legal` still holds for earlier events with one event more
 legal-more : (events : List StackEvent) (outcomes more : List AttachOutcome) (event : StackEvent) → Legal events outcomes
     → (i : ℕ) (context : ContextRecord) → i < length events → slice_get (events ++ event ∷ []) i ≡ Some (Attach context)
     → IfSome (slice_get (outcomes ++ more) (attaches_of (take i (events ++ event ∷ [])))) (IsOutcome (newest_position (survivors (take i (events ++ event ∷ [])) (outcomes ++ more))))
@@ -141,7 +141,7 @@ legal-more events outcomes more event legal i context within at =
     )
     (legal.each i context at')
 
--- with one event more, each is the new one or one of those before
+-- with one event more, each is the new one or an earlier one
 place_of : (events : List StackEvent) (event : StackEvent) (i : ℕ) (x : StackEvent) → slice_get (events ++ event ∷ []) i ≡ Some x → (i < length events) ⊎ ((i ≡ length events) × (event ≡ x))
 place_of events event i x at = elim (cases_lt i (length events)) [
   | inl h ↦ inl h
@@ -172,14 +172,14 @@ legal-attach events outcomes context o legal allowed = record {
   ];
 }
 
--- what the last outcome is allowed to be
+-- the last outcome is an allowed one
 pub outcome_allowed : (events : List StackEvent) (outcomes : List AttachOutcome) (context : ContextRecord) (o : AttachOutcome) → length outcomes ≡ attaches_of events
     → Legal (events ++ Attach context ∷ []) (outcomes ++ o ∷ []) → IsOutcome (newest_position (survivors events outcomes)) o
 outcome_allowed events outcomes context o n legal =
     let last = legal.each (length events) context (slice_get-append_end events (Attach context)) in
     rw (take-append_seam, ← n, slice_get-append_end, left_by-more 0 events outcomes (o ∷ []) (omega (arith, n))) at last
 
--- what stands after an attach
+-- `Stands` after an attach
 pub stands-attach : (done : List StackEvent) (outcomes : List AttachOutcome) (places : List (Option ℕ)) (stack : StackState) (context : ContextRecord) (o : AttachOutcome) (place : Option ℕ)
     → Stands done outcomes places stack → IsOutcome (newest_position stack.live) o → IsLawful (after_attach stack o context) → place ≡ option_map (λ a. a.0) (attachment_of o context)
     → Stands (done ++ Attach context ∷ []) (outcomes ++ o ∷ []) (places ++ place ∷ []) (after_attach stack o context)
@@ -213,11 +213,11 @@ stands-attach done outcomes places stack context o place s allowed lawful is = r
   stepped Full = s.stepped
   stepped NoMemory = s.stepped
 
--- the list of what is left, after one more detach
+-- the list of remainders, after one more detach
 pub left_by-detached : (n : ℕ) (done : List StackEvent) (outcomes : List AttachOutcome) → left_by 0 (done ++ Detach n ∷ []) outcomes ≡ slice_set (left_by 0 done outcomes) n None
 left_by-detached n done outcomes = left_by-detach 0 n done outcomes ∙ cleared-at n 0 n (left_by 0 done outcomes) (omega arith)
 
--- if a place is kept, an attachment at it is left
+-- if a place is kept, an attachment remains at it
 at_place : (xs : List Left) (n p : ℕ) → slice_get (map (option_map (λ a. a.0)) xs) n ≡ Some (Some p) → (context : ContextRecord) × (slice_get xs n ≡ Some (Some (p, context)))
 at_place [] n p e = absurd (cc)
 at_place (None ∷ xs) zero p e = absurd (cc)
@@ -230,7 +230,7 @@ at_no_place (None ∷ xs) zero e = refl
 at_no_place (Some a ∷ xs) zero e = absurd (cc)
 at_no_place (x ∷ xs) (suc n) e = at_no_place xs n e
 
--- what stands after a detach of an attach that left something
+-- `Stands` after a detach of an attach that left something
 pub stands-detach : (done : List StackEvent) (outcomes : List AttachOutcome) (places : List (Option ℕ)) (stack new : StackState) (n p : ℕ)
     → Stands done outcomes places stack → slice_get places n ≡ Some (Some p) → new.live ≡ detach p stack.live → new.accepted ≡ stack.accepted → new.stepped ≡ stack.stepped → IsLawful new
     → Stands (done ++ Detach n ∷ []) outcomes (slice_set places n None) new
@@ -248,7 +248,7 @@ stands-detach done outcomes places stack new n p s at live accepted stepped lawf
       let there = at_place (left_by 0 done outcomes) n p (rw s.kept_are at at) in
       live ∙ ap (detach p) s.live ∙ sym (survivors_of-set 0 (left_by 0 done outcomes) n p there.0 there.1 (rw s.live at s.lawful.rising)) ∙ sym (ap survivors_of (left_by-detached n done outcomes))
 
--- what stands after a detach of one that left nothing
+-- `Stands` after a detach of an attach that left nothing
 pub stands-skip : (done : List StackEvent) (outcomes : List AttachOutcome) (places : List (Option ℕ)) (stack : StackState) (n : ℕ)
     → Stands done outcomes places stack → (slice_get places n ≡ Some None) ⊎ (length places ≤ n) → Stands (done ++ Detach n ∷ []) outcomes places stack
 stands-skip done outcomes places stack n s at = record {

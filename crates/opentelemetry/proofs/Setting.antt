@@ -1,4 +1,4 @@
--- What several members set together.
+-- The texts that several members set together.
 use Rattle.std.proofs.Common.{Result, Ok, Err, ◌≤◌, ◌⊎◌, inl, inr, true≢false, ◌≡◌, ℕ, ◌+◌, ◌<◌, List, [], ◌∷◌, ◌++◌, Bool, IsTrue, Option, None, Some, refl, sym, ap, subst, ◌∙◌, take, length, get_or, append_assoc, arith, drop, if◌then◌else◌}
 use Rattle.std.proofs.lemmas.List.{take_more, take-append-drop, append-nil, take_all}
 use Rattle.std.proofs.lemmas.List.Folds.{list_any_at}
@@ -44,7 +44,7 @@ module _ {X A : Type 0} (f : X → List A) where
       ap (flat_map f) (sym (take-append-drop (i + 1) xs)) ∙ flat_map-append f (take (i + 1) xs) (drop (i + 1) xs)
       ∙ ap (λ r. r ++ flat_map f (drop (i + 1) xs)) (flat_map-take_more xs i x h is)
 
--- a member that fails leaves a prefix of what all would set
+-- a member that fails leaves a prefix of the pairs that all would set
 pub begins_all : {X : Type 0} (f : X → Pairs) (xs ys : List X) (i : ℕ) (x : X) (a b c : TextMap) → xs ≡ ys → i < length xs → x ≡ get_or xs i x →
     Sets a (flat_map f (take i xs)) b → SetsBeginning b (f x) c → SetsBeginning a (flat_map f ys) c
 begins_all f xs ys i x a b c same h is s t =
@@ -66,7 +66,7 @@ more_all f xs i x a b c h is s t = rw (flat_map-take_more f xs i x h is) (sets_m
 pub sets_all : {X : Type 0} (f : X → Pairs) (xs ys : List X) (i : ℕ) (a b : TextMap) → xs ≡ ys → length xs ≤ i → Sets a (flat_map f (take i xs)) b → Sets a (flat_map f ys) b
 sets_all f xs ys i a b same h s = rw (← same) (subst (λ zs. Sets a (flat_map f zs) b) (take_all i xs h) s)
 
--- a refusal comes from a member that may refuse, or from the carrier
+-- a refusal is from a member that may refuse, or from the carrier
 pub refused_by_one : {X : Type 0} (p : X → Bool) (xs ys : List X) (i : ℕ) (x : X) (a b c : ℕ) → xs ≡ ys → i < length xs → x ≡ get_or xs i x → a ≤ b →
     IsTrue (p x) ⊎ (b < c) → IsTrue (list_any p ys) ⊎ (a < c)
 refused_by_one p xs ys i x a b c same h is le (inl may) = inl (ap (list_any p) (sym same) ∙ list_any_at p xs i x h (ap p (sym is) ∙ may))

@@ -18,7 +18,7 @@ record Kept (k : ℕ) (events : List StackEvent) (outcomes : List AttachOutcome)
   accepted : slice_get outcomes j ≡ Some (Attached position)
   kept : (later : ℕ) → index < later → slice_get events later ≡ Some (Detach (k + j)) → ⊥
 
--- what no event detaches is detached by none of them
+-- if `list_any` finds no detach of the number, no event is one
 none-detaches : (k : ℕ) (events : List StackEvent) → list_any (detaches k) events ≡ false → (i : ℕ) → slice_get events i ≡ Some (Detach k) → ⊥
 none-detaches k [] h i e = cc
 none-detaches k (Attach c ∷ events) h zero e = cc
@@ -37,15 +37,15 @@ detaches-none k (Detach n ∷ events) h = elim (cases_Bool (n == k)) [
   | inr f ↦ ap (λ b. b || list_any (detaches k) events) f ∙ detaches-none k events (λ i. h (suc i))
 ]
 
--- what one attach leaves, and when
+-- the remainder of one attach, and when it has one
 left_is : (b : Bool) (o : AttachOutcome) (c context : ContextRecord) (position : ℕ) → (if b then None else attachment_of o c) ≡ Some (position, context) → (b ≡ false) × (o ≡ Attached position) × (c ≡ context)
 left_is true o c context position e = absurd (cc)
 left_is false (Attached p) c context position e = let h : (p, c) ≡ (position, context) = cc in (refl, ap (λ (a : ℕ × ContextRecord). Attached a.0) h, ap (λ (a : ℕ × ContextRecord). a.1) h)
 left_is false Full c context position e = absurd (cc)
 left_is false NoMemory c context position e = absurd (cc)
 
--- what holds of the events after `index` holds of those after the next index, once there is one
--- more event before
+-- whatever holds for the events after `index` holds for the events after the next index, once there
+-- is one more event before
 later-suc : (e : StackEvent) (events : List StackEvent) (index m : ℕ) → ((l : ℕ) → index < l → slice_get events l ≡ Some (Detach m) → ⊥) → (later : ℕ) → suc index < later → slice_get (e ∷ events) later ≡ Some (Detach m) → ⊥
 later-suc e events index m kept zero h d = omega arith
 later-suc e events index m kept (suc l) h d = kept l (omega arith) d

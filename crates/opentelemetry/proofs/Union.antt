@@ -37,7 +37,7 @@ texts-insert_key ks k =
       | false ↦ map-append string_bytes ks (k ∷ [])
     ])
 
--- what is not among the texts before
+-- the texts that aren't among the earlier ones
 abbrev pub others : List (List ℕ) → List (List ℕ) → List (List ℕ)
 others ks xs = filter (λ y. not (list_any (bytes_eq y) ks)) xs
 
@@ -45,7 +45,7 @@ others-nothing : (xs : List (List ℕ)) → xs ≡ others [] xs
 others-nothing [] = refl
 others-nothing (x ∷ xs) = ap (λ ys. x ∷ ys) (others-nothing xs)
 
--- a text among those before is left out anyway
+-- a text that is among the earlier ones is left out anyway
 others-known : (ks : List (List ℕ)) (x : List ℕ) (ys : List (List ℕ)) → list_any (bytes_eq x) ks ≡ true → others ks ys ≡ others ks (filter (λ y. not (bytes_eq x y)) ys)
 others-known ks x [] known = refl
 others-known ks x (y ∷ ys) known =

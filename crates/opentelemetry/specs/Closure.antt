@@ -1,14 +1,14 @@
--- What a closure that runs in a span leaves.
+-- The effect of a closure that runs in a span.
 use Rattle.std.specs.Prelude.{◌≡◌}
 use Rattle.std.specs.Borrow.{MutBor}
 use Rattle.std.specs.Fn.{Once}
 
 module _ (Stack Spans Context : Type 0) where
-  -- what the closure is given: mutable borrows of a stack and a table, and a context
+  -- the closure's arguments: mutable borrows of a stack and a table, and a context
   abbrev pub Lent : Type 0
   Lent = MutBor Stack × (MutBor Spans × (Context × Unit {0}))
 
-  -- what it leaves: what it returns, and the two mutable borrows
+  -- its outcome: its result, and the two mutable borrows
   abbrev pub Left : Type 0 → Type 0
   Left Out = Out × (MutBor Stack × (MutBor Spans × Unit {0}))
 

@@ -1,4 +1,4 @@
--- What a composite means: its members, in order.
+-- The model of a composite: its members, in order.
 use Rattle.std.specs.Prelude.{◌≡◌, Bool, IsTrue, ℕ, List, [], ◌∷◌, map, filter, not, Result}
 use Rattle.std.specs.Prelude.{string_bytes}
 use Rattle.std.specs.declared.string.String.{String}
@@ -23,7 +23,7 @@ abbrev pub members_of : {I : Type 0} {D : I → Type 0} → TextMapCompositeProp
     → List (DynBox I Global D)
 members_of c = c.members.items
 
--- the pairs that its members set for a context, those of the first member first
+-- the pairs that its members set for a context, starting with the first member's
 -- (`TextMapCompositePropagator::inject_context`)
 abbrev pub pairs_of : {I : Type 0} {D : I → Type 0} → (DynBox I Global D → ContextRecord → Pairs)
     → TextMapCompositePropagator I D → ContextRecord → Pairs
@@ -40,7 +40,7 @@ abbrev pub RefusedByMember : {T I : Type 0} {D : I → Type 0} → (DynBox I Glo
 RefusedByMember may_refuse c result =
     IsTrue (is_refused result) → IsTrue (may_refuse_of may_refuse c)
 
--- The composite injected a context (`Injects`); `pairs` and `may_refuse` are those of a member.
+-- The composite injected a context (`Injects`); `pairs` and `may_refuse` are a member's.
 abbrev pub InjectsAll : {T I : Type 0} {D : I → Type 0}
     → (DynBox I Global D → ContextRecord → Pairs) → (DynBox I Global D → Bool)
     → TextMapCompositePropagator I D → ContextRecord → CarrierState → CarrierState
@@ -56,13 +56,13 @@ module _ {A S I : Type 0} {D : I → Type 0} (pairs : DynBox I Global D → Cont
   Sends context old new result =
       InjectsAll pairs may_refuse c context (map_state old.entries) (map_state new.entries) result
 
-  -- a run sent the context that is current after its events
+  -- a run sent the current context after its events
   abbrev pub SendsCurrent : HashMap (String A) (String A) S → HashMap (String A) (String A) S
       → RunReport → Type 0
   SendsCurrent old new report = Sends (current report.stack.live) old new report.injected
 
--- The context that its members extract from the texts, each starting from the context of the one
--- before, the first from the given one (the Rust crate's `TextMapCompositePropagator`).
+-- The context that its members extract from the texts. The first starts from the given context,
+-- each other from the context of the previous one (the Rust crate's `TextMapCompositePropagator`).
 abbrev pub extracted_of : {I : Type 0} {D : I → Type 0}
     → (DynBox I Global D → ContextRecord → TextMap → ContextRecord)
     → TextMapCompositePropagator I D → ContextRecord → TextMap → ContextRecord
@@ -70,7 +70,7 @@ extracted_of extracted c context texts =
     fold (λ given m. extracted m given texts) context (members_of c)
 
 -- The composite extracted from the texts, starting from this context (`Extracts`); `extracted` and
--- `may_refuse` are those of a member.
+-- `may_refuse` are a member's.
 abbrev pub ExtractsAll : {I : Type 0} {D : I → Type 0}
     → (DynBox I Global D → ContextRecord → TextMap → ContextRecord) → (DynBox I Global D → Bool)
     → TextMapCompositePropagator I D → ContextRecord → TextMap
@@ -78,14 +78,14 @@ abbrev pub ExtractsAll : {I : Type 0} {D : I → Type 0}
 ExtractsAll extracted may_refuse c context texts result =
     Extracts (extracted_of extracted c context texts) (may_refuse_of may_refuse c) result
 
--- The texts, each once, in order of first appearance: of (`b`, `a`, `a`, `c`, `b`) these are `b`,
+-- The texts, each once, in order of first appearance: for (`b`, `a`, `a`, `c`, `b`) they are `b`,
 -- `a`, `c`.
 abbrev pub first_appearances : List (List ℕ) → List (List ℕ)
 first_appearances [] = []
 first_appearances (x ∷ xs) = x ∷ filter (λ y. not (bytes_eq x y)) (first_appearances xs)
 
 -- the fields of its members, in order of first appearance (the Rust crate's
--- `TextMapCompositePropagator`, which leaves the order open)
+-- `TextMapCompositePropagator`, which doesn't specify the order)
 abbrev pub fields_of : {I : Type 0} {D : I → Type 0} → (DynBox I Global D → List (List ℕ))
     → TextMapCompositePropagator I D → List (List ℕ)
 fields_of fields c = first_appearances (flat_map (λ m. fields m) (members_of c))
@@ -94,18 +94,19 @@ fields_of fields c = first_appearances (flat_map (λ m. fields m) (members_of c)
 abbrev pub set_texts : {A S : Type 0} → IndexSet (String A) S → List (List ℕ)
 set_texts s = map string_bytes s.keys
 
--- `new` is `old` followed by those of the texts that it lacks, in order
+-- `new` is `old` followed by the texts that it lacks, in order
 abbrev pub AddsTexts : {A S : Type 0} → IndexSet (String A) S → List (List ℕ)
     → IndexSet (String A) S → Type 0
 AddsTexts old texts new = set_texts new ≡ insert_all bytes_eq (set_texts old) texts
 
--- the names of the fields that it keeps, in order
+-- the names of the fields that it stores, in order
 abbrev pub kept_fields : {I : Type 0} {D : I → Type 0} → TextMapCompositePropagator I D
     → List (List ℕ)
 kept_fields c = set_texts c.fields
 
--- It keeps the union of its members' fields, in order of first appearance; `fields` are those of a
--- member. Every composite does: `new` and `join` make no other, and no call changes one.
+-- It stores the union of its members' fields, in order of first appearance; `fields` are a
+-- member's. This holds for every composite: only `new` and `join` make one, and no call changes
+-- one.
 abbrev pub KeepsFields : {I : Type 0} {D : I → Type 0} → (DynBox I Global D → List (List ℕ))
     → TextMapCompositePropagator I D → Type 0
 KeepsFields fields c = kept_fields c ≡ fields_of fields c

@@ -1,4 +1,4 @@
--- What an event and a link of a span are, and when two are equal.
+-- The models of an event and a link of a span, and their equality.
 use Rattle.std.specs.Prelude.{◌≡◌, ℕ, nat_eq, Bool, ◌&&◌, List}
 use Rattle.std.proofs.Common.{refl, ap}
 use Rattle.std.specs.Str.{bytes_eq}
@@ -13,16 +13,16 @@ use Rattle.otel_base.specs.KeyValueLaws.{attribute_eq-Decides}
 use Rattle.otel_ids.specs.SpanContext.{SpanContextRecord}
 use Rattle.otel_ids.specs.Equal.{contexts_eq, contexts_eq-Decides}
 
--- the name, the time in nanoseconds since 1970, the attributes in order, and how many were dropped
--- [the Rust crate's `Event`]
+-- the name, the time in nanoseconds since 1970, the attributes in order, and the number of dropped
+-- attributes [the Rust crate's `Event`]
 pub record EventRecord : Type 0 where
   pub name : List ℕ
   pub timestamp : ℕ
   pub attributes : List Attribute
   pub dropped_attributes_count : ℕ
 
--- the span context of the other span, the attributes in order, and how many were dropped [the Rust
--- crate's `Link`]
+-- the span context of the other span, the attributes in order, and the number of dropped attributes
+-- [the Rust crate's `Link`]
 pub record LinkRecord : Type 0 where
   pub span_context : SpanContextRecord
   pub attributes : List Attribute
@@ -67,7 +67,7 @@ link_eq a b =
     && (attributes_eq a.attributes b.attributes
     && nat_eq a.dropped_attributes_count b.dropped_attributes_count)
 
--- ---- each test holds exactly if the records are equal
+-- ---- each test is true if and only if the records are equal
 abbrev HasSameParts : EventRecord → EventRecord → Type 0
 HasSameParts a b =
     (a.name ≡ b.name) × ((a.timestamp ≡ b.timestamp)

@@ -1,4 +1,4 @@
--- What an extraction promises, by one propagator or by a composite.
+-- The contract of an extraction, by one propagator or by a composite.
 use Rattle.std.specs.Prelude.{◌≡◌, Bool, IsTrue, Result, IfOk}
 use Rattle.otel_context.specs.Context.{ContextRecord}
 use Rattle.otel_context.specs.Stack.{StackState, current}

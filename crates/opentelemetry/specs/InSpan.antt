@@ -1,4 +1,4 @@
--- What the calls that run a body in a span do.
+-- The effect of the calls that run a body in a span.
 use Rattle.std.specs.Prelude.{◌≡◌, ℕ, Option}
 use Rattle.otel_context.specs.declared.span.spans.SpanRefused.{SpanRefused}
 use Rattle.otel_ids.specs.SpanContext.{SpanContextRecord}
@@ -9,8 +9,8 @@ use Rattle.otel_context.specs.Spans.{SpansState, HasSameSpans, insert, refusal}
 use Rattle.opentelemetry.specs.declared.trace.in_span.StartError.{StartError}
 use Rattle.opentelemetry.specs.declared.trace.in_span.StartError.TheVariants.{Build, Refused}
 
--- what a call of a body may leave: a relation between the stack, the table and the context that it
--- is given, what it returns, and the stack and the table that it leaves
+-- the possible effects of a call of a body: a relation between the stack, the table and the context
+-- that it is given, its result, and the stack and the table that it leaves
 abbrev pub MayLeave : Type 0 → Type 0 → Type 1
 MayLeave S Out =
     StackState → SpansState S → ContextRecord → Out → StackState → SpansState S → Type 0
@@ -36,7 +36,7 @@ module _ {S : Type 0} where
     -- the body ran on that stack, on the table with the span, and on that context
     pub left : StackState
     pub ran : may_leave lent (insert spans span) context answer.0 left new_spans
-    -- what was then live at that position was removed, and the number is the span's
+    -- whatever was then attached at that position was removed, and the number is the span's
     pub removed : Option ContextRecord
     pub detached : Detaches position left new removed
     pub number : answer.1 ≡ spans.next_number
@@ -48,7 +48,7 @@ module _ {S : Type 0} where
   RanUnderCurrent MayBuild context_of may_leave old spans new new_spans answer =
       RanInSpan MayBuild context_of may_leave (current old.live) old spans new new_spans answer
 
-  -- the span that was built comes back, and the table has the same spans
+  -- the error contains the span that was built, and the table has the same spans
   pub record IsRefused (MayBuild : S → Type 0) (old new : SpansState S) (refused : SpanRefused S)
       : Type 0 where
     pub span : S
@@ -56,8 +56,8 @@ module _ {S : Type 0} where
     pub comes_back : refused ≡ refusal old span
     pub spans : HasSameSpans old new
 
-  -- why no body ran: no span was built and the table is unchanged, or the span that was built was
-  -- refused
+  -- why the body wasn't run: no span was built and the table is unchanged, or the span that was
+  -- built was refused
   abbrev pub NotStarted : (S → Type 0) → SpansState S → SpansState S → StartError S → Type 0
   NotStarted MayBuild old new (Build e) = new ≡ old
   NotStarted MayBuild old new (Refused refused) = IsRefused MayBuild old new refused

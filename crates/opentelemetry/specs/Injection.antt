@@ -1,4 +1,4 @@
--- What an injection promises, by one propagator or by a composite.
+-- The contract of an injection, by one propagator or by a composite.
 use Rattle.std.specs.Prelude.{Bool, IsTrue, Result, OnOk, OnErr, ◌<◌, ◌≤◌, ◌⊎◌}
 use Rattle.otel_context.specs.Context.{ContextRecord}
 use Rattle.otel_context.specs.Stack.{StackState, current}
@@ -26,7 +26,7 @@ module _ {P T : Type 0} (pairs : P → ContextRecord → Pairs) (may_refuse : P 
       → Result T PropagationError → Type 0
   InjectsBy context old new result = Injects (pairs p context) (may_refuse p) old new result
 
-  -- the same of the stack's current context
+  -- the same for the stack's current context
   abbrev pub InjectsCurrent : StackState → CarrierState → CarrierState
       → Result T PropagationError → Type 0
   InjectsCurrent stack old new result = InjectsBy (current stack.live) old new result

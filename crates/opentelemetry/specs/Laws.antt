@@ -7,15 +7,15 @@ use Rattle.opentelemetry.specs.declared.carry.event.AttachOutcome.{AttachOutcome
 use Rattle.opentelemetry.specs.declared.carry.event.AttachOutcome.TheVariants.{Full, NoMemory}
 use Rattle.opentelemetry.specs.Run.{attaches_of, left_by, stack_of, Survives}
 
--- what is left of an attach is its position and context exactly if it survives
+-- an attach leaves its position and context if and only if it survives
 abbrev pub SurvivorsAreThose : Type 0
 SurvivorsAreThose = (events : List StackEvent) (outcomes : List AttachOutcome)
     → (number position : ℕ) (context : ContextRecord)
     → (slice_get (left_by 0 events outcomes) number ≡ Some (Some (position, context)))
     ↔ Survives events outcomes number position context
 
--- An attach that is refused, and a detach of a number that doesn't survive, leave the stack
--- unchanged: what is live on it, and both of its counts.
+-- A refused attach, or a detach of a number that doesn't survive, leaves the stack unchanged: its
+-- live attachments and both counts.
 pub record IsNothing (events : List StackEvent) (outcomes : List AttachOutcome) : Type 0 where
   pub full : (context : ContextRecord)
       → stack_of (events ++ Attach context ∷ []) (outcomes ++ Full ∷ []) ≡ stack_of events outcomes

@@ -22,7 +22,7 @@ abbrev pub in_order : ℕ → List AttachOutcome
 in_order n = map (λ position. Attached position) (range_with_len 1 n)
 
 -- Only attaches, up to the limit: each is accepted, at the positions from 1 on, and all survive.
--- One more attach is `Full` exactly if there are 65534.
+-- One more attach is `Full` if and only if there are 65534.
 pub record IsInOrder (contexts : List ContextRecord) : Type 0 where
   pub legal : Legal (attaches contexts) (in_order (length contexts))
   pub all : survivors (attaches contexts) (in_order (length contexts)) ≡ enumerate_from 1 contexts

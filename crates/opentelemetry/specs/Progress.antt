@@ -1,4 +1,4 @@
--- What holds after each event of a run. No public contract cites this file. Not in the Rust crate.
+-- The state after each event of a run. No public contract cites this file. Not in the Rust crate.
 use Rattle.std.specs.Prelude.{◌≡◌, ℕ, ◌+◌, List, [], ◌∷◌, ◌++◌, map, Option, option_map}
 use Rattle.std.specs.Prelude.{Result, IfOk}
 use Rattle.std.specs.declared.vec.Vec.{Vec}
@@ -21,8 +21,8 @@ after_attach old (Attached position) context = record {
 after_attach old Full context = old
 after_attach old NoMemory context = old
 
--- the outcomes, the position of each attach while it is live, and the stack are those that the
--- events lead to
+-- the outcomes, the position of each attach while it is live, and the stack are the results of the
+-- events
 pub record Stands
     (events : List StackEvent) (outcomes : List AttachOutcome)
     (kept : List (Option ℕ)) (stack : StackState) : Type 0 where
@@ -34,12 +34,12 @@ pub record Stands
   pub accepted : stack.accepted ≡ accepted_of outcomes
   pub stepped : stack.stepped ≡ 0
 
--- the outcomes and the stack are those that the events lead to
+-- the outcomes and the stack are the results of the events
 abbrev pub IsPlayed : List StackEvent → List AttachOutcome → StackState → Type 0
 IsPlayed events outcomes stack = (kept : List (Option ℕ)) × Stands events outcomes kept stack
 
--- If the result is `Ok`, the events were applied: from the outcomes, positions and stack that any
--- earlier events lead to, to those that all of them lead to.
+-- If the result is `Ok`, the events were applied: from the results of any earlier events to the
+-- results of all events.
 abbrev pub Plays : {E : Type 0} → List StackEvent
     → Vec AttachOutcome Global → Vec (Option ℕ) Global → StackState
     → Vec AttachOutcome Global → Vec (Option ℕ) Global → StackState → Result Unit E → Type 0

@@ -1,6 +1,6 @@
--- What a run of attaches and detaches means, by the numbers of its attaches. Not in the Rust crate.
--- The attaches of a list of events are numbered from 0, in order. Each has an outcome, and the
--- outcomes are in that order.
+-- The meaning of a run of attaches and detaches, by the numbers of its attaches. Not in the Rust
+-- crate. The attaches of a list of events are numbered from 0, in order. Each has an outcome, and
+-- the outcomes are in the same order.
 use Rattle.std.specs.Prelude.{◌≡◌, ◌≢◌, ◌⊎◌, ℕ, ◌+◌, ◌<◌, ◌≤◌, ◌==◌, if◌then◌else◌, Bool, true}
 use Rattle.std.specs.Prelude.{false, List, [], ◌∷◌, length, take, filter, slice_get, Option, Some}
 use Rattle.std.specs.Prelude.{None, IfSome}
@@ -19,17 +19,17 @@ abbrev pub is_attach : StackEvent → Bool
 is_attach (Attach context) = true
 is_attach (Detach number) = false
 
--- how many of the events are attaches
+-- the number of attaches among the events
 abbrev pub attaches_of : List StackEvent → ℕ
 attaches_of events = length (filter is_attach events)
 
--- whether the outcome is that of an accepted attach
+-- whether the outcome is `Attached`
 abbrev pub is_attached : AttachOutcome → Bool
 is_attached (Attached position) = true
 is_attached Full = false
 is_attached NoMemory = false
 
--- how many of the outcomes are those of accepted attaches
+-- the number of outcomes that are `Attached`
 abbrev pub accepted_of : List AttachOutcome → ℕ
 accepted_of outcomes = length (filter is_attached outcomes)
 
@@ -38,16 +38,16 @@ abbrev pub detaches : ℕ → StackEvent → Bool
 detaches number (Attach context) = false
 detaches number (Detach other) = other == number
 
--- what an attach of the context with this outcome makes live
+-- the attachment that an attach of the context with this outcome makes live, if any
 abbrev pub attachment_of : AttachOutcome → ContextRecord → Option (ℕ × ContextRecord)
 attachment_of (Attached position) context = Some (position, context)
 attachment_of Full context = None
 attachment_of NoMemory context = None
 
--- What is left of each attach of the events, the first of which has the number `number`: its
--- position and context if it was accepted and no event after it detaches it, and nothing otherwise.
--- Of attach a, attach b, detach 0 with the outcomes `Attached 1`, `Attached 2` it is: nothing, then
--- (2, b).
+-- The remainder of each attach of the events, the first of which has the number `number`: its
+-- position and context if it was accepted and no event after it detaches it, and otherwise nothing.
+-- For attach a, attach b, detach 0 with the outcomes `Attached 1`, `Attached 2`: nothing, then (2,
+-- b).
 abbrev pub left_by : ℕ → List StackEvent → List AttachOutcome → List (Option (ℕ × ContextRecord))
 left_by number [] outcomes = []
 left_by number (Detach other ∷ events) outcomes = left_by number events outcomes
@@ -80,7 +80,7 @@ pub record Survives
   pub accepted : slice_get outcomes number ≡ Some (Attached position)
   pub kept : (later : ℕ) → index < later → slice_get events later ≢ Some (Detach number)
 
--- the context is that of the latest attach that survives
+-- the context is the one of the latest attach that survives
 pub record IsLatest
     (events : List StackEvent) (outcomes : List AttachOutcome)
     (context : ContextRecord) : Type 0 where
@@ -98,20 +98,20 @@ pub record IsBase
       → ¬ Survives events outcomes other its_position its
   pub empty : context ≡ empty_context
 
--- The current context after the events: that of the latest accepted attach that is not yet
--- detached, or the empty base.
+-- The current context after the events: the one of the latest accepted attach that isn't detached,
+-- or the empty base.
 abbrev pub IsCurrent : List StackEvent → List AttachOutcome → ContextRecord → Type 0
 IsCurrent events outcomes context =
     IsLatest events outcomes context ⊎ IsBase events outcomes context
 
--- The outcome of an attach if this is the newest position: `Full` exactly at the last one;
--- `NoMemory`, for out of memory, only from 8 on; otherwise the position after the newest.
+-- The possible outcomes of an attach if this is the newest position: `Full` if and only if it is
+-- the last one; `NoMemory`, for out of memory, only from 8 on; otherwise the next position.
 abbrev pub IsOutcome : ℕ → AttachOutcome → Type 0
 IsOutcome newest (Attached position) = (newest < last_position) × (position ≡ newest + 1)
 IsOutcome newest Full = newest ≡ last_position
 IsOutcome newest NoMemory = (initial_capacity ≤ newest) × (newest < last_position)
 
--- Each attach has an outcome, and it is one that the survivors of the events before it allow.
+-- Each attach has an outcome that the survivors of the events before it allow.
 pub record Legal (events : List StackEvent) (outcomes : List AttachOutcome) : Type 0 where
   pub one_each : length outcomes ≡ attaches_of events
   pub each : (index : ℕ) (context : ContextRecord) → slice_get events index ≡ Some (Attach context)

@@ -1,4 +1,4 @@
--- The scope of a tracer or a logger that is asked for by its name only.
+-- The scope of a tracer or a logger that is requested by its name only.
 use Rattle.std.specs.Prelude.{ℕ, List, [], None}
 use Rattle.otel_base.specs.InstrumentationScope.{Scope}
 

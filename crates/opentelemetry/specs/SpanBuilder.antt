@@ -1,4 +1,4 @@
--- What a span starts with.
+-- The model of a span builder.
 use Rattle.std.specs.Prelude.{ℕ, zero, suc, Bool, true, false, ◌&&◌, List, Option, Some, None}
 use Rattle.std.specs.List.{filter}
 use Rattle.otel_base.specs.KeyValue.{Attribute}
@@ -31,16 +31,16 @@ abbrev is_not_zero : ℕ → Bool
 is_not_zero zero = false
 is_not_zero (suc _) = true
 
--- whether neither id of the link's span context is 0
+-- whether both ids of the link's span context are nonzero
 abbrev pub is_valid_link : LinkRecord → Bool
 is_valid_link l = is_not_zero l.span_context.trace_id && is_not_zero l.span_context.span_id
 
--- the links with a valid span context, in order: of the ids (1, 1), (1, 0), (2, 3) the first and
+-- the links with a valid span context, in order: for the ids (1, 1), (1, 0), (2, 3), the first and
 -- the third
 abbrev pub valid_links : List LinkRecord → List LinkRecord
 valid_links = filter is_valid_link
 
--- the builder with these links in place of earlier ones, without those whose span context isn't
--- valid [the Rust crate's `SpanBuilder::with_links`]
+-- the builder with the valid ones of these links in place of earlier links [the Rust crate's
+-- `SpanBuilder::with_links`]
 abbrev pub with_links : BuilderRecord → List LinkRecord → BuilderRecord
 with_links b links = record b { links = Some (valid_links links) }

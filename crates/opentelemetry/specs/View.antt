@@ -1,4 +1,4 @@
--- What contracts see of the types of this crate.
+-- The models of this crate's types.
 use Rattle.std.specs.Prelude.{map, option_map}
 use Rattle.otel_context.specs.SpanEffects.{attributes_of}
 use Rattle.opentelemetry.specs.Event.{EventRecord, LinkRecord}

@@ -1,5 +1,5 @@
--- Runs worked by hand, for any contexts: what the definitions of a run say of their events. Not in
--- the Rust crate.
+-- Runs worked by hand, for any contexts: the results of the definitions of a run for their events.
+-- Not in the Rust crate.
 use Rattle.std.specs.Prelude.{◌≡◌, List, [], ◌∷◌, take}
 use Rattle.otel_context.specs.Context.{ContextRecord, empty_context}
 use Rattle.otel_context.specs.Stack.{current}
@@ -18,7 +18,7 @@ three_and_one a b c d = Attach a ∷ Attach b ∷ Attach c ∷ Detach 1 ∷ Deta
 abbrev pub their_outcomes : List AttachOutcome
 their_outcomes = Attached 1 ∷ Attached 2 ∷ Attached 3 ∷ Attached 2 ∷ []
 
--- Of `three_and_one`: c is current after the first detach, then a, then d, which has the position
+-- For `three_and_one`: c is current after the first detach, then a, then d, which has the position
 -- that b had.
 pub record IsThreeAndOne (a b c d : ContextRecord) : Type 0 where
   pub legal : Legal (three_and_one a b c d) their_outcomes
@@ -34,13 +34,13 @@ abbrev pub detached_again :
 detached_again a b c d =
     Attach a ∷ Attach b ∷ Attach c ∷ Detach 1 ∷ Detach 2 ∷ Attach d ∷ Detach 1 ∷ []
 
--- Of `detached_again`: the last detach changes nothing, though d has the position that b had.
+-- For `detached_again`: the last detach changes nothing, although d has the position that b had.
 pub record IsDetachedAgain (a b c d : ContextRecord) : Type 0 where
   pub legal : Legal (detached_again a b c d) their_outcomes
   pub all : survivors (detached_again a b c d) their_outcomes ≡ (1, a) ∷ (2, d) ∷ []
   pub current : current (survivors (detached_again a b c d) their_outcomes) ≡ d
 
--- A detach of a number that is not yet attached changes nothing, then or later.
+-- A detach of a number that isn't attached yet changes nothing, then or later.
 pub record IsDetachedBefore (a : ContextRecord) : Type 0 where
   pub legal_alone : Legal (Detach 0 ∷ []) []
   pub alone : survivors (Detach 0 ∷ []) [] ≡ []
@@ -53,7 +53,7 @@ pub record IsDetachedBefore (a : ContextRecord) : Type 0 where
 abbrev pub oldest_first : ContextRecord → ContextRecord → List StackEvent
 oldest_first a b = Attach a ∷ Attach b ∷ Detach 0 ∷ Detach 1 ∷ []
 
--- Of `oldest_first`: b stays current after the first detach, and the base is current after the
+-- For `oldest_first`: b stays current after the first detach, and the base is current after the
 -- second.
 pub record IsOldestFirst (a b : ContextRecord) : Type 0 where
   pub legal : Legal (oldest_first a b) (Attached 1 ∷ Attached 2 ∷ [])

@@ -1,4 +1,4 @@
-//! A run of attaches and detaches over one stack, whose current context is then injected.
+//! A run of attaches and detaches on one stack, followed by an injection of the current context.
 ghost use Rattle.std.specs.Prelude.{◌≡◌, ◌≤◌, ◌∷◌, [], IsOk, IfOk, OnErr};
 ghost use Rattle.otel_context.specs.Stack.{newest_position, current, IsLawful};
 ghost use Rattle.opentelemetry.specs.Carrier.{HasSameTexts};
@@ -17,7 +17,7 @@ pub mod laws;
 
 pub use event::{AttachOutcome, StackEvent};
 
-/// What `push` returns if no position is left.
+/// The position that `push` returns if no position is left.
 const FULL: u16 = 65535;
 
 /// The result of a run.
@@ -29,11 +29,11 @@ pub struct RunReport {
     pub stack: ContextStack,
     /// The outcome of each attach, in order.
     pub outcomes: Vec<AttachOutcome>,
-    /// What the injection of the stack's current context returned.
+    /// The result of injecting the stack's current context.
     pub injected: Result<(), PropagationError>,
 }
 
-/// Attaches the context, and returns the outcome.
+/// Attaches the context. Returns the outcome.
 fn attach(stack: &mut ContextStack, context: Context) -> AttachOutcome
     ensures outcome { IsLawful stack.old → IsOutcome (newest_position stack.old.live) result }
     ensures after { IsLawful stack.old → stack.new ≡ after_attach stack.old result context }
@@ -46,7 +46,7 @@ fn attach(stack: &mut ContextStack, context: Context) -> AttachOutcome
     }
 }
 
-/// Applies one event. `positions` holds, for each attach so far, its position while it is live.
+/// Applies one event. `positions` holds the position of each earlier attach while it is live.
 fn apply(
     stack: &mut ContextStack,
     positions: &mut Vec<Option<u16>>,
@@ -128,16 +128,15 @@ fn send(
     composite.inject_context(context, carrier)
 }
 
-/// Applies the events in order, starting from an empty stack, and injects the context that is then
-/// current.
+/// Applies the events in order to an empty stack, then injects the current context.
 ///
-/// A refused attach or detach changes nothing, and the run goes on. The report holds what the
-/// injection returned: if that is an error, a prefix of the pairs is set in the carrier. The
-/// program `otel_carry` is a caller. Not in the Rust crate.
+/// Use it to replay a recorded run, as the program `otel_carry` does. A refused attach or detach
+/// changes nothing, and the run continues. The report holds the result of the injection. If it is
+/// an error, only a prefix of the pairs is set in the carrier. Not in the Rust crate.
 ///
 /// # Errors
 ///
-/// `AllocError` if out of memory for the stack or the run's lists. The carrier is unchanged; the
+/// `AllocError` if out of memory for the stack or the run's lists. The carrier is unchanged. The
 /// events and the stack are dropped.
 pub fn run(
     alloc: Global,

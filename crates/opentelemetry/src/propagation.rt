@@ -1,4 +1,4 @@
-//! Propagation: carriers of texts, and the propagators that write and read them.
+//! Propagation: carriers of texts, and the propagators that read and write them.
 ghost use Rattle.std.specs.Prelude.{◌≡◌, ◌+◌, OnOk, OnErr, IfOk, string_bytes, if◌then◌else◌};
 ghost use Rattle.std.specs.Option.{option_copied, option_map};
 ghost use Rattle.opentelemetry.specs.Carrier.{CarrierState, SetsValue, TextMap, AreKeys};
@@ -17,15 +17,15 @@ pub use composite::TextMapCompositePropagator;
 pub use error::PropagationError;
 pub use text_map_propagator::TextMapPropagator;
 
-/// A carrier that texts are written to, such as the headers of a request (the Rust crate's
+/// A carrier to which texts are written, such as the headers of a request (the Rust crate's
 /// `Injector`).
 ///
-/// Contracts see it as its `state`: a finite map of texts, and a count of its own refusals, which
-/// exists only in contracts.
+/// Contracts see it as its `state`: a finite map of texts, and a count of its own refusals. The
+/// count exists only in contracts.
 ///
-/// A value may contain any character. A carrier of text lines, such as the headers of HTTP, must
-/// refuse a key or a value with a CR, LF or NUL (RFC 9110, section 5.5): otherwise the sender of a
-/// value could add headers of its own.
+/// A value may contain any character. A carrier of text lines, such as HTTP headers, must refuse a
+/// key or a value that contains CR, LF or NUL (RFC 9110, section 5.5). Otherwise the sender of a
+/// value could add headers.
 ///
 /// See `otel_examples::headers` for an implementation.
 pub trait Injector {
@@ -35,8 +35,8 @@ pub trait Injector {
     ///
     /// # Errors
     ///
-    /// `Refused` if the carrier itself refuses the text, which raises its count by one; `Memory` if
-    /// out of memory. After either, the texts are unchanged, and the value is dropped.
+    /// `Refused` if the carrier itself refuses the text, which increments its count. `Memory` if
+    /// out of memory. In both cases, the texts are unchanged and the value is dropped.
     fn set(&mut self, key: &str, value: String) -> Result<(), PropagationError>
         ensures ok { OnOk result (SetsValue (state self.old).texts key.now (string_bytes value)
             (state self.new).texts) }
@@ -45,7 +45,7 @@ pub trait Injector {
             ≡ (state self.old).refusals + (if is_refused result then 1 else 0) };
 
     /// Hints that `additional` more texts will be set. The carrier's `state` doesn't change, even
-    /// if memory runs out.
+    /// if out of memory.
     fn reserve(&mut self, additional: usize)
         ensures { state self.new ≡ state self.old }
     {
@@ -53,7 +53,7 @@ pub trait Injector {
     }
 }
 
-/// A map itself never refuses a text: its count of refusals is always 0.
+/// A map never refuses a text: its count of refusals is always 0.
 impl<S: BuildHasher> Injector for HashMap<String, String, S> {
     ghost state = { λ m. map_state m.entries };
 
@@ -69,7 +69,7 @@ impl<S: BuildHasher> Injector for HashMap<String, String, S> {
     }
 }
 
-/// A carrier that texts are read from, such as the headers of a request (the Rust crate's
+/// A carrier from which texts are read, such as the headers of a request (the Rust crate's
 /// `Extractor`).
 ///
 /// Contracts see it as its `texts`, a finite map.
@@ -78,7 +78,7 @@ impl<S: BuildHasher> Injector for HashMap<String, String, S> {
 pub trait Extractor {
     ghost texts: { Self → TextMap };
 
-    /// Returns the value of the key in ASCII lower case, if there is one.
+    /// Returns the value stored for the key's ASCII lower case, if any.
     ///
     /// # Errors
     ///
@@ -94,7 +94,8 @@ pub trait Extractor {
     fn keys(&self, alloc: Global) -> Result<Vec<&str>, AllocError>
         ensures { IfOk result (λ keys. AreKeys (texts self.now) (borrowed_texts keys)) };
 
-    /// Returns all values of the key in ASCII lower case: by default the one that `get` returns.
+    /// Returns all values stored for the key's ASCII lower case. By default, returns the one value
+    /// that `get` returns.
     ///
     /// # Errors
     ///

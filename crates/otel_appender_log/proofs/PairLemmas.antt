@@ -14,7 +14,7 @@ use Rattle.otel_base.specs.View.{tree, pairs_view}
 use Rattle.otel_base.specs.declared.any_value.AnyValue.{AnyValue}
 use Rattle.otel_appender_log.specs.Attributes.{Attribute, AddsValue, TakesPair, PrintsAs, with_value}
 
--- a fold of states is a fold of what a function sees of them
+-- a fold of states is a fold of the views of the states
 pub FoldsTo-view : {V W X : Type 0} (see : V → W) (R : W → X → W → Type 0) (a : V) (xs : List X) (b : V)
     → FoldsTo (λ p x q. R (see p) x (see q)) a xs b → FoldsTo R (see a) xs (see b)
 FoldsTo-view see R a [] b h = ap see h
@@ -53,7 +53,7 @@ module _ {D : Type 0} where
       let P : List ℕ → Type 0 = λ p. PrintsAs (number_or_text v p) t in
       inl (number_or_text v printed, subst P (sym k) (shows_by output v t (value_i64 v) refl e), a)
 
-  -- what was added for a value whose text is known
+  -- the attribute added for a value whose text is known
   pub adds_takes : (output : D → Option (List ℕ)) (v : Value D) (key : List ℕ) (before after : List Attribute)
       → AddsValue output key v before after
       → IfSome (value_text output v) (λ t. TakesPair before (key, t) after)
@@ -76,7 +76,7 @@ module _ {D : Type 0} where
   adds_takes output (Display x) key before after a =
       other_takes output (Display x) key before after a.1.0 _ refl a.1.1 (a.2 ∙ rw a.1.2)
 
--- what a visit of known pairs gave
+-- the result of a visit of known pairs
 pub visited : {V W X : Type 0} (see : V → W) (R : W → X → W → Type 0) (o : Option (List X)) (a b : V) (w : W)
     → see a ≡ w → IfSome o (λ xs. FoldsTo (λ p x q. R (see p) x (see q)) a xs b)
     → IfSome o (λ xs. FoldsTo R w xs (see b))

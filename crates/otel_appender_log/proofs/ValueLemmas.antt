@@ -8,7 +8,7 @@ use Rattle.log.specs.Kv.{value_text, value_i64, bool_text}
 use Rattle.otel_base.specs.AnyValue.{Tree, integer, text, boolean}
 use Rattle.otel_appender_log.specs.Value.{IsAttributeValue, IsNumberOrText}
 
--- a known text is one that may have been printed, and so is any other if none is known
+-- a known text may have been printed, and so may any text if none is known
 pub some_printed : (o : Option (List ℕ)) → (p : List ℕ) × IfSome o (λ t. p ≡ t)
 some_printed None = ([], tt)
 some_printed (Some t) = (t, refl)

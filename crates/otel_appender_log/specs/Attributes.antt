@@ -1,4 +1,4 @@
--- Key-value pairs, and a place in the source, as attributes.
+-- Key-value pairs, and a source location, as attributes.
 use Rattle.std.specs.Prelude.{◌≡◌, ◌⊎◌, ℕ, Bool, List, [], ◌∷◌, ◌++◌, Option, Some, None, codes, if◌then◌else◌}
 use Rattle.std.specs.Fmt.{signed_decimal}
 use Rattle.std.specs.List.{list_any}
@@ -31,7 +31,7 @@ abbrev pub with_value : List Attribute → List ℕ → Option Tree → List Att
 with_value attributes key None = attributes
 with_value attributes key (Some value) = attributes ++ (key, value) ∷ []
 
--- The attribute of a pair was added last, if it has one. Here the type of the value matters too.
+-- The attribute of a pair, if it has one, was added last. Here the type of the value matters too.
 abbrev pub AddsValue : {D : Type 0} → (D → Option (List ℕ)) → List ℕ → Value D
     → List Attribute → List Attribute → Type 0
 AddsValue output key value before after =

@@ -1,4 +1,4 @@
--- What a logger is handed for a record of the crate `log`.
+-- The log record that a logger gets for a record of the crate `log`.
 use Rattle.std.specs.Prelude.{◌≡◌, ℕ, List, Bool, Option, Some, None, IfSome}
 use Rattle.log.specs.declared.record.Metadata.{Metadata}
 use Rattle.log.specs.declared.record.Record.{Record}
@@ -14,7 +14,7 @@ use Rattle.otel_appender_log.specs.Attributes.{Attribute}
 use Rattle.otel_appender_log.specs.Location.{IsLocated}
 use Rattle.otel_appender_log.specs.Severity.{severity_of}
 
--- what the setters of a log record do to it
+-- the effects of the setters of a log record
 pub record Setters (R : Type 0) : Type 0 where
   pub number : R → Severity → R
   pub name : R → List ℕ → R
@@ -22,7 +22,7 @@ pub record Setters (R : Type 0) : Type 0 where
   pub target : R → List ℕ → R
   pub attributes : R → List Attribute → R
 
--- the setters that a type of log records names
+-- the setters that a type of log records defines
 abbrev pub setters : {R : Type 0} → Ghosts R → Setters R
 setters named = record {
   number = named.after_severity_number;
@@ -32,8 +32,8 @@ setters named = record {
   attributes = named.after_attributes;
 }
 
--- what is known of a record of the crate `log`: its level and target, what `{}` writes for its
--- message, its pairs, and its place in the source
+-- a record of the crate `log`: its level and target, the text of its message as written by `{}`,
+-- its pairs, and its source location, as far as they are known
 pub record Source : Type 0 where
   pub metadata : Metadata
   pub message : Option (List ℕ)
@@ -41,8 +41,8 @@ pub record Source : Type 0 where
   pub location : SourceLocation
 
 module _ {D K S : Type 0} where
-  -- the record of the crate `log` with this place; `output` gives what `{}` writes for a message,
-  -- `pairs` the pairs of a source of pairs
+  -- the record of the crate `log` with this location; `output` returns the text that `{}` writes
+  -- for a message, `pairs` the pairs of a source of pairs
   abbrev pub source_of : (D → Option (List ℕ)) → (K → Option (List Pair)) → Record D K S
       → SourceLocation → Source
   source_of output pairs r location = record {
@@ -52,7 +52,7 @@ module _ {D K S : Type 0} where
     location = location;
   }
 
-  -- a logger may answer that records like this one are enabled, or that they aren't
+  -- a logger may answer that such records are enabled, or that they aren't
   abbrev pub MayEnable : (Severity → List ℕ → Option (List ℕ) → Bool → Type 0) → Record D K S
       → Bool → Type 0
   MayEnable may_enable r enabled =

@@ -7,8 +7,8 @@ use Rattle.otel_base.specs.declared.severity.Severity.{Severity}
 use Rattle.otel_base.specs.declared.severity.Severity.TheVariants as severity
 use Rattle.otel_base.specs.Severity.{name, number}
 
--- the first severity of the band that has the level's name (OpenTelemetry logs data model,
--- "Mapping of SeverityNumber"; `severity_of_level` of `opentelemetry-appender-log`)
+-- the first severity in the range with the level's name (OpenTelemetry logs data model, "Mapping of
+-- SeverityNumber"; `severity_of_level` of `opentelemetry-appender-log`)
 abbrev pub severity_of : Level → Severity
 severity_of Error = severity.Error
 severity_of Warn = severity.Warn

@@ -8,27 +8,27 @@ use Rattle.log.specs.Kv.{value_text, value_i64}
 use Rattle.otel_base.specs.AnyValue.{Tree, integer, text, boolean}
 
 module _ {D : Type 0} where
-  -- the integer if it fits an `i64`, otherwise the text that `{}` writes
+  -- the integer if it fits an `i64`, otherwise the text written by `{}`
   abbrev pub number_or_text : Value D → List ℕ → Tree
   number_or_text v printed = option_map_or integer (value_i64 v) (text printed)
 
-  -- a null has no value, a `bool` has a boolean, an integer that fits an `i64` has an integer, and
-  -- all others have the text that `{}` writes
+  -- null has no value, a `bool` is a boolean, an integer that fits an `i64` is an integer, and any
+  -- other value is the text written by `{}`
   abbrev pub attribute_value : Value D → List ℕ → Option Tree
   attribute_value Null printed = None
   attribute_value (value.Bool b) printed = Some (boolean b)
   attribute_value v printed = Some (number_or_text v printed)
 
-  -- `printed` is what `{}` writes for the value, if that is known
+  -- `printed` is the text written by `{}` for the value, if that is known
   abbrev pub IsPrinted : (D → Option (List ℕ)) → Value D → List ℕ → Type 0
   IsPrinted output v printed = IfSome (value_text output v) (λ t. printed ≡ t)
 
-  -- the attribute's value of the value of a pair, for some text that `{}` writes
+  -- the attribute's value for a pair's value, for some text that `{}` writes
   abbrev pub IsAttributeValue : (D → Option (List ℕ)) → Value D → Option Tree → Type 0
   IsAttributeValue output v given =
       (printed : List ℕ) × IsPrinted output v printed × (given ≡ attribute_value v printed)
 
-  -- the same of a value that isn't null and isn't a `bool`
+  -- the same for a value that isn't null and isn't a `bool`
   abbrev pub IsNumberOrText : (D → Option (List ℕ)) → Value D → Tree → Type 0
   IsNumberOrText output v given =
       (printed : List ℕ) × IsPrinted output v printed × (given ≡ number_or_text v printed)

@@ -1,4 +1,4 @@
-//! The key-value pairs of a record, and its place in the source, as attributes.
+//! The key-value pairs of a record, and its source location, as attributes.
 ghost use Rattle.std.specs.Prelude.{◌≡◌, [], IfOk, IfSome, OnOk};
 ghost use Rattle.std.specs.List.{FoldsTo};
 ghost use Rattle.otel_base.specs.View.{pairs_view};
@@ -13,9 +13,9 @@ use opentelemetry::logs::AnyValue;
 use std::alloc::{AllocError, Global};
 use std::fmt::Display;
 
-/// The place in the source that a record comes from, as far as it is known.
+/// The source location of a record, as far as it is known.
 ///
-/// The macros of the crate `log` know none of it: see [`SourceLocation::UNKNOWN`].
+/// The macros of the crate `log` don't record it: see [`SourceLocation::UNKNOWN`].
 #[derive(Clone, Copy, Debug)]
 pub struct SourceLocation<'a> {
     /// The path of the file.
@@ -27,7 +27,7 @@ pub struct SourceLocation<'a> {
 }
 
 impl SourceLocation<'static> {
-    /// A place of which nothing is known.
+    /// An unknown location.
     pub const UNKNOWN: SourceLocation<'static> = SourceLocation {
         file: None,
         line: None,
@@ -37,7 +37,7 @@ impl SourceLocation<'static> {
 
 type Pairs = Vec<(Key, AnyValue)>;
 
-// The attributes of the pairs that were visited.
+// The attributes of the pairs visited so far.
 #[derive(Drop)]
 struct Attributes {
     pairs: Pairs,
@@ -55,7 +55,7 @@ impl VisitSource for Attributes {
     }
 }
 
-// Appends the attribute of a pair. A null adds none.
+// Appends the attribute of a pair. Appends nothing for null.
 fn push_pair<D: Display>(
     pairs: &mut Pairs,
     key: &str,
@@ -72,7 +72,7 @@ fn push_pair<D: Display>(
     Ok(())
 }
 
-/// Returns the attributes of key-value pairs, in order. A null has none.
+/// Returns the attributes of key-value pairs, in order, leaving out nulls.
 ///
 /// # Errors
 ///
@@ -96,7 +96,7 @@ pub fn attributes_of<K: Source>(
     }
 }
 
-// Returns whether an attribute has the key.
+// Returns `true` if an attribute has the key.
 fn has_key(pairs: &Pairs, key: &str) -> bool
     ensures { result ≡ has_key key.now (pairs_view pairs.now.items) }
 {
@@ -131,7 +131,7 @@ fn push_number(pairs: &mut Pairs, key: &'static str, value: Option<u32>) -> Resu
     Ok(())
 }
 
-// Appends what is known of the place, except under keys that are present.
+// Appends the known parts of the location, except under keys that are present.
 fn push_location(pairs: &mut Pairs, location: &SourceLocation<'_>) -> Result<(), AllocError>
     ensures { OnOk result (pairs_view pairs.new.items
         ≡ with_location (pairs_view pairs.old.items) location.now) }
@@ -141,7 +141,8 @@ fn push_location(pairs: &mut Pairs, location: &SourceLocation<'_>) -> Result<(),
     push_text(pairs, "code.namespace", location.module)
 }
 
-// Returns the attributes of the pairs, and then those of the place whose keys aren't present.
+// Returns the attributes of the pairs, followed by the ones of the location whose keys aren't
+// present.
 pub(crate) fn located_attributes<K: Source>(
     alloc: Global,
     source: &K,

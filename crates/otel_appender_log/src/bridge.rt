@@ -1,4 +1,4 @@
-//! The sink of the crate `log` over a logger.
+//! The sink that sends records of the crate `log` to a logger.
 ghost use Rattle.std.specs.Prelude.{◌≡◌, None};
 ghost use Rattle.log.specs.Record.{metadata_level, metadata_target};
 ghost use Rattle.otel_appender_log.specs.Location.{nowhere};
@@ -16,10 +16,10 @@ use std::alloc::Global;
 use std::cell::Cell;
 use std::fmt::Display;
 
-/// Hands the records of the crate `log` to a logger (the Rust crate's `OpenTelemetryLogBridge`).
+/// Sends the records of the crate `log` to a logger (the Rust crate's `OpenTelemetryLogBridge`).
 ///
-/// The Rust crate's is a sink by itself, and its logger reads the thread's context. Here a sink is
-/// made for a context: see [`OpenTelemetryLogBridge::sink`].
+/// In the Rust crate, the bridge is itself a sink, and its logger reads the thread's context. Here,
+/// a sink is made for a context: see [`OpenTelemetryLogBridge::sink`].
 ///
 /// ```
 /// let bridge = OpenTelemetryLogBridge::new(alloc, logger);
@@ -27,14 +27,14 @@ use std::fmt::Display;
 /// ```
 #[derive(Drop)]
 pub struct OpenTelemetryLogBridge<L> {
-    /// The logger that is handed the records.
+    /// The logger that gets the records.
     pub logger: L,
     alloc: Global,
     dropped: Cell<u64>,
 }
 
 impl<L: Logger> OpenTelemetryLogBridge<L> {
-    /// Returns a bridge to the logger. Takes no memory.
+    /// Returns a bridge to the logger. Doesn't allocate.
     pub fn new(alloc: Global, logger: L) -> OpenTelemetryLogBridge<L>
         ensures { result.logger ≡ logger }
     {
@@ -45,7 +45,7 @@ impl<L: Logger> OpenTelemetryLogBridge<L> {
         }
     }
 
-    /// Returns a sink whose records name the active span of the context. Takes no memory.
+    /// Returns a sink whose records refer to the active span of the context. Doesn't allocate.
     pub fn sink<'a>(&'a self, context: &'a Context) -> BridgeSink<'a, L>
         ensures bridge { result.bridge.now ≡ self.now }
         ensures context { result.context.now ≡ context.now }
@@ -58,7 +58,7 @@ impl<L: Logger> OpenTelemetryLogBridge<L> {
         }
     }
 
-    /// Returns how many records were dropped because memory ran out.
+    /// Returns the number of records that were dropped because the program was out of memory.
     pub fn dropped_records(&self) -> u64 {
         self.dropped.get()
     }
@@ -80,21 +80,21 @@ impl<L: Logger> OpenTelemetryLogBridge<L> {
     }
 }
 
-/// A sink of the crate `log` that hands each record to the logger of a bridge.
+/// A sink of the crate `log` that sends each record to the logger of a bridge.
 ///
 /// See [`OpenTelemetryLogBridge::sink`].
 #[derive(Drop)]
 pub struct BridgeSink<'a, L> {
-    /// The bridge that has the logger.
+    /// The bridge to the logger.
     pub bridge: &'a OpenTelemetryLogBridge<L>,
-    /// The context whose active span the records name.
+    /// The context to whose active span the records refer.
     pub context: &'a Context,
-    /// The place in the source that the records come from, as far as it is known.
+    /// The source location of the records, as far as it is known.
     pub location: SourceLocation<'a>,
 }
 
 impl<L: Logger> Log for BridgeSink<'_, L> {
-    /// Returns whether the logger wants records with this severity and target.
+    /// Returns `true` if the logger accepts records with this severity and target.
     fn enabled(&self, metadata: &Metadata<'_>) -> bool
         ensures { L.may_enable self.now.bridge.now.logger
             (severity_of (metadata_level metadata.now)) (metadata_target metadata.now) None result }
@@ -105,7 +105,7 @@ impl<L: Logger> Log for BridgeSink<'_, L> {
             .event_enabled(severity, metadata.target(), None)
     }
 
-    /// Emits the record of [`bridged_record`]. Counts it as dropped if out of memory.
+    /// Emits the record returned by [`bridged_record`]. Counts it as dropped if out of memory.
     fn log<D: Display, K: Source, S: Spans>(&self, record: &Record<'_, D, K, S>) {
         let span = self.context.span_context();
         let logger = &self.bridge.logger;
@@ -116,7 +116,7 @@ impl<L: Logger> Log for BridgeSink<'_, L> {
         }
     }
 
-    /// Does nothing: the owner of the provider flushes it.
+    /// Does nothing. The owner of the provider flushes it.
     fn flush(&self) {}
 
     fn target(&self) -> &str {

@@ -1,4 +1,4 @@
-//! A sink for the crate `log` that hands each record to an OpenTelemetry logger (the Rust crate
+//! A sink for the crate `log` that sends each record to an OpenTelemetry logger (the Rust crate
 //! `opentelemetry-appender-log`).
 #![tactic(auto)]
 

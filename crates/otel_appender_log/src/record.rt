@@ -1,4 +1,4 @@
-//! The log record that a logger is handed for a record of the crate `log`.
+//! The log record that a logger gets for a record of the crate `log`.
 ghost use Rattle.std.specs.Prelude.{true, is_some, IfOk, IfSome, OnOk, OnErr};
 ghost use Rattle.otel_appender_log.specs.Bridge.{IsFilled, IsStamped, IsBridged, MayEnable};
 ghost use Rattle.otel_appender_log.specs.Bridge.{setters, source_of};
@@ -61,18 +61,18 @@ fn made_record<L: Logger, D: Display, K: Source, S>(
     Ok(made)
 }
 
-/// Returns the log record for a record of the crate `log`, or `None` if the logger doesn't want
+/// Returns the log record for a record of the crate `log`, or `None` if the logger doesn't accept
 /// records with its severity and target.
 ///
-/// It has the severity of the level with its name, the message's text as its body, the target, and
-/// as attributes the key-value pairs in order and then what is known of the place, except under
-/// keys that are present. It names the span if the span context is valid. It has no timestamp and
-/// no event name. The spans of the crate `log` are left out.
+/// The log record has the level's name and its severity, the message's text as body, and the
+/// target. Its attributes are the key-value pairs, in order, followed by the known parts of the
+/// source location, except under keys that are present. It refers to the span if the span context
+/// is valid. It has no timestamp and no event name. The spans of the crate `log` are left out.
 ///
 /// # Errors
 ///
 /// `AllocError` if out of memory, or if the message's or a value's own `fmt` fails. Only a record
-/// that the logger wants can fail.
+/// that the logger accepts can fail.
 pub fn bridged_record<L: Logger, D: Display, K: Source, S>(
     alloc: Global,
     logger: &L,

@@ -5,8 +5,8 @@ ghost use Rattle.otel_appender_log.specs.Severity.{severity_of};
 use log::Level;
 use opentelemetry::logs::Severity;
 
-/// Returns the severity of a level: the first of the five that have the level's name (the Rust
-/// crate's `severity_of_level`).
+/// Returns the severity of a level: the first in the range with the level's name (the Rust crate's
+/// `severity_of_level`).
 pub fn severity_of_level(level: Level) -> Severity
     ensures { result ≡ severity_of level }
 {

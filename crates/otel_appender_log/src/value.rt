@@ -8,8 +8,8 @@ use opentelemetry::logs::AnyValue;
 use std::alloc::{AllocError, Global};
 use std::fmt::Display;
 
-/// Returns the attribute's value for the value of a pair: a boolean for a `bool`, an integer for an
-/// integer that fits an `i64`, `None` for null, and for all others the text that `{}` writes.
+/// Returns the attribute's value for a pair's value: a boolean for a `bool`, an integer for an
+/// integer that fits an `i64`, `None` for null, and otherwise the text written by `{}`.
 ///
 /// # Errors
 ///
@@ -27,7 +27,7 @@ pub fn attribute_value<D: Display>(
     }
 }
 
-// Returns the integer if it fits, otherwise the text.
+// Returns the integer if it fits, and otherwise the text.
 fn number_or_text<D: Display>(alloc: Global, value: &Value<'_, D>) -> Result<AnyValue, AllocError>
     ensures { IfOk result (λ a. IsNumberOrText D.output value.now (tree a)) }
 {

@@ -1,4 +1,4 @@
--- The parts of what a call on a context did make the whole.
+-- The parts of the effect of a call on a context make up the whole.
 use Rattle.std.proofs.Common.{◌≡◌, ◌∙◌, ap, Option, Some}
 use Rattle.otel_context.specs.Context.{ContextRecord}
 use Rattle.opentelemetry.specs.Carrier.{TextMap, Sets}

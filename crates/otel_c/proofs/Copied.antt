@@ -1,4 +1,4 @@
--- A baggage that is copied, a member at a time.
+-- Copying a baggage, member by member.
 use Rattle.std.proofs.Common.{◌≡◌, ℕ, ◌<◌, ◌≤◌, true, false, List, [], ◌∷◌, ◌++◌, map, length}
 use Rattle.std.proofs.Common.{All, refl, sym, ap, subst, ◌∙◌, arith, append_assoc, length-append}
 use Rattle.std.specs.Prelude.{◌&&◌, ◌||◌, nat_le, nat_lt, if◌then◌else◌}
@@ -36,7 +36,7 @@ valid_at [] ys m good = All-head IsValidMember m ys good
 valid_at (x ∷ xs) ys m good =
     valid_at xs ys m (All-tail IsValidMember x (xs ++ m ∷ ys) good)
 
--- a member that comes next in a baggage is put last in the copy of those before it
+-- the next member of a baggage is put last in the copy of the members before it
 module _ (copy rest : List Member) (m : Member) (held : IsBaggage (copy ++ m ∷ rest)) where
   new : list_any (has_key m.key) copy ≡ false
   new = is_new copy rest m held.distinct
@@ -72,7 +72,7 @@ module _ (copy rest : List Member) (m : Member) (held : IsBaggage (copy ++ m ∷
   inserted : insert copy m ≡ copy ++ m ∷ []
   inserted = cond-true (accepts copy m) (put copy m) copy accepted ∙ last
 
--- the copy and what is left make the baggage
+-- the copy and the remaining members make up the baggage
 pub goes_on : (all copy made left rest : List Member) (m : Member) → IsBaggage all
     → all ≡ copy ++ left → left ≡ m ∷ rest → made ≡ insert copy m → all ≡ made ++ rest
 goes_on all copy made left rest m held so_far next is =

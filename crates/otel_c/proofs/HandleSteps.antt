@@ -1,4 +1,4 @@
--- The machine value of a handle, and what is owned of one. Assumes `Logic`.
+-- The machine value of a handle, and its ownership. Assumes `Logic`.
 use Rattle.std.proofs.Common.{◌≡◌, ℕ, List, [], ◌∷◌, ◌++◌, refl, subst}
 use seplogic.Ra.Ura.{Ura}
 use mir.Syntax.{impl, tnil, dnil}

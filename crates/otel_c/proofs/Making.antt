@@ -1,4 +1,4 @@
--- The parts of what a call changed in a context make the whole.
+-- The parts of a call's change of a context make up the whole.
 use Rattle.std.proofs.Common.{◌≡◌, ◌∙◌, ℕ, List, Option, Some, Result, Ok, Err, OnOk, ap}
 use Rattle.otel_ids.specs.Reading.{Reads}
 use Rattle.otel_ids.specs.SpanContext.{SpanContextRecord}

@@ -1,4 +1,4 @@
--- The parts of what a call on a member of a baggage did make the whole.
+-- The parts of the effect of a call on a member of a baggage make up the whole.
 use Rattle.std.proofs.Common.{◌≡◌, ◌∙◌, ℕ, Bool, true, false, List, [], Option, Some, Result}
 use Rattle.std.proofs.Common.{Ok, Err}
 use Rattle.std.proofs.Common.{IfOk, IfErr, OnOk, refl, sym, ap, subst, inl, inr}

@@ -7,7 +7,7 @@ use Rattle.std.proofs.lemmas.Iterator.Consumers.{nth_from_yields_List, YieldsLis
 use Rattle.otel_ids.specs.TraceState.{Pair, lent_pair}
 use Rattle.otel_c.specs.TraceState.{key_at}
 
--- the texts of a pair that is lent
+-- the texts of a borrowed pair
 abbrev pub LentPair : Type 0
 LentPair = Bor (List ℕ) × Bor (List ℕ)
 

@@ -1,4 +1,5 @@
--- The number that C gets for an outcome: 0 says that what `Ok` says holds, and another has its reason.
+-- The number that C gets for an outcome: 0 means that the promise of `Ok` holds, any other number
+-- has its reason.
 use Rattle.std.proofs.Common.{◌≡◌, ℕ, Result, Ok, Err, IfErr, OnOk, arith, sym, ◌∙◌}
 use Rattle.otel_c.specs.declared.status.Status.TheVariants as status
 use Rattle.otel_c.specs.declared.status.Status.{Status}

@@ -1,4 +1,4 @@
--- What the calls on the baggage of a context write.
+-- The results of the calls on the baggage of a context.
 use Rattle.std.specs.Prelude.{◌≡◌, ◌⊎◌, ℕ, List, length, Option, Some, option_map, slice_get}
 use Rattle.otel_context.specs.Baggage.{get, member_at}
 use Rattle.otel_context.specs.Context.{ContextRecord}
@@ -22,7 +22,7 @@ value_of context key = get (members context) key
 abbrev pub metadata_of : ContextRecord → List ℕ → Option (List ℕ)
 metadata_of context key = option_map (λ m. m.metadata) (member_at (members context) key)
 
--- the number is that of the context's members
+-- the number is the number of the context's members
 pub record Counts (object : Option Object) (new : ℕ) : Type 0 where
   pub context : ContextRecord
   pub from : context_of object ≡ Some context
@@ -42,12 +42,12 @@ pub record ShowsNone (look : ContextRecord → Option (List ℕ)) (object : Opti
   pub from : context_of object ≡ Some context
   pub why : FoundRefused (look context) old written s
 
--- why no text of a position was written
+-- why the text at a position wasn't written
 abbrev pub ShowRefused :
     (ContextRecord → Option (List ℕ)) → Option Object → List ℕ → ℕ → Status → Type 0
 ShowRefused look object old written s = CopyRefused object s ⊎ ShowsNone look object old written s
 
--- why no text of a key was written
+-- why the text of a key wasn't written
 abbrev pub NamedRefused :
     (ContextRecord → Option (List ℕ)) → List ℕ → Option Object → List ℕ → ℕ → Status → Type 0
 NamedRefused look key object old written s =

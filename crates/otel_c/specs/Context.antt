@@ -1,4 +1,4 @@
--- What the calls on contexts change and write.
+-- The effects of the calls on contexts.
 use Rattle.std.specs.Prelude.{◌≡◌, ◌⊎◌, Option, Some}
 use Rattle.otel_context.specs.Context.{ContextRecord}
 use Rattle.opentelemetry.specs.Carrier.{TextMap, Sets}
@@ -10,11 +10,11 @@ use Rattle.otel_c.specs.declared.status.Status.{Status}
 use Rattle.otel_c.specs.Object.{headers_of, context_of}
 use Rattle.otel_c.specs.Status.{IsOutOfMemory, IsOfCarrier, IsOtherKind}
 
--- the context with what the texts of `traceparent`, `tracestate` and `baggage` say
+-- the context with the values read from `traceparent`, `tracestate` and `baggage`
 abbrev pub extracted : ContextRecord → TextMap → ContextRecord
 extracted context texts = baggage_extracted (trace_extracted context texts) texts
 
--- the context has what the headers carry
+-- the context has the values of the headers
 pub record Extracts (object old new : Option Object) : Type 0 where
   pub headers : Headers
   pub context : ContextRecord
@@ -27,7 +27,7 @@ abbrev pub ExtractRefused : Option Object → Option Object → Status → Type 
 ExtractRefused object old s =
     IsOutOfMemory s ⊎ (IsOtherKind (headers_of object) s ⊎ IsOtherKind (context_of old) s)
 
--- the texts have those of the context's span, and then that of its baggage
+-- the texts have the texts of the context's span, and then the text of its baggage
 pub record SetsBoth (context : ContextRecord) (old new : TextMap) : Type 0 where
   pub middle : TextMap
   pub trace : Sets old (trace_pairs context) middle
@@ -43,7 +43,7 @@ pub record Injects (object old new : Option Object) : Type 0 where
   pub has : headers_of new ≡ Some after
   pub sets : SetsBoth context (texts before) (texts after)
 
--- why not all was injected
+-- why the context wasn't injected completely
 abbrev pub InjectRefused : Option Object → Option Object → Status → Type 0
 InjectRefused object old s =
     IsOfCarrier s ⊎ (IsOtherKind (context_of object) s ⊎ IsOtherKind (headers_of old) s)

@@ -1,4 +1,4 @@
--- What a handle owns: an object in a block of its own, or nothing.
+-- The ownership of a handle: an object in a block of its own, or nothing.
 use Rattle.std.specs.Prelude.{Option, None, Some}
 use base.Fml.{Fml, feq}
 use base.Stored.{Coded}
@@ -13,7 +13,7 @@ use Rattle.otel_c.specs.contracts.object.Object.{the_row}
 abbrev pub freeable : Ty → Ptr → Fml
 freeable = ghosts.dealloc_token (record { memory = record { seal = tt } })
 
--- what is owned at a pointer: the object, with the right to free its block; nothing at null
+-- the ownership at a pointer: the object, with the right to free its block; nothing at null
 abbrev pub handle_owns : Option the_row.Denot → Ptr → Fml
 handle_owns None p = feq Ptr p null_ptr
 handle_owns (Some object) p = box_owns freeable the_row p object

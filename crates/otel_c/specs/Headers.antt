@@ -1,4 +1,4 @@
--- What the calls on headers change and write.
+-- The effects of the calls on headers.
 use Rattle.std.specs.Prelude.{◌≡◌, ◌⊎◌, ℕ, List, Option, Some}
 use Rattle.http_header.specs.FieldName.{IsFieldName}
 use Rattle.http_header.specs.Token.{lowercase}
@@ -12,18 +12,18 @@ use Rattle.otel_c.specs.Object.{headers_of}
 use Rattle.otel_c.specs.Status.{IsOutOfMemory, IsOtherKind, IsNothing}
 use Rattle.otel_c.specs.Room.{Holds, IsLong}
 
--- the headers have the value after those of its name
+-- the headers have the value after the earlier values of its name
 pub record Appends (name value : List ℕ) (old new : Option Object) : Type 0 where
   pub headers : Headers
   pub from : headers_of old ≡ Some headers
   pub into : headers_of new ≡ Some (append headers (lowercase name) (plain_value value))
 
--- the status says that it is no name of a header, and it is none
+-- the status says that the text isn't a valid name of a header, and it isn't
 pub record IsNoName (name : List ℕ) (s : Status) : Type 0 where
   pub status : s ≡ status.Key
   pub is : ¬ (IsFieldName name)
 
--- the status says that it is no value of a header, and it is none
+-- the status says that the text isn't a valid value of a header, and it isn't
 pub record IsNoValue (value : List ℕ) (s : Status) : Type 0 where
   pub status : s ≡ status.Value
   pub is : ¬ (IsFieldValue value)
@@ -38,7 +38,7 @@ abbrev pub HeaderRefused : List ℕ → List ℕ → Headers → Status → Type
 HeaderRefused name value headers s =
     (IsOutOfMemory s ⊎ IsNoName name s) ⊎ (IsNoValue value s ⊎ AreFull name headers s)
 
--- the headers of the object weren't changed, for that reason
+-- the headers of the object are unchanged, for that reason
 pub record HasHeaderRefused (name value : List ℕ) (old : Option Object) (s : Status) : Type 0 where
   pub headers : Headers
   pub from : headers_of old ≡ Some headers

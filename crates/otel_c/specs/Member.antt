@@ -1,4 +1,4 @@
--- What setting and removing a member of a context's baggage makes.
+-- The effects of setting and removing a member of a context's baggage.
 use Rattle.std.specs.Prelude.{◌≡◌, ◌⊎◌, Bool, true, false, ℕ, List, [], Option, Some, if◌then◌else◌}
 use Rattle.std.specs.Str.{trim}
 use Rattle.otel_context.specs.Baggage.{accepts, put, remove}
@@ -12,7 +12,7 @@ use Rattle.otel_c.specs.Object.{context_of}
 use Rattle.otel_c.specs.Context.{CopyRefused}
 use Rattle.otel_c.specs.Status.{IsNoText, IsOutOfMemory}
 
--- the member of three texts, whose metadata loses the white space at its ends
+-- the member of three texts, whose metadata is trimmed
 abbrev pub given_member : List ℕ → List ℕ → List ℕ → Member
 given_member key value metadata = member_of key value (trim metadata)
 
@@ -25,14 +25,14 @@ pub record SetsMember (m : Member) (before after : ContextRecord) : Type 0 where
 abbrev pub RemovesMember : List ℕ → ContextRecord → ContextRecord → Type 0
 RemovesMember key before after = after ≡ with_baggage before (remove (members before) key)
 
--- the context is made of that of the object
+-- the context is made from the object's context
 pub record GivesFrom (Made : ContextRecord → ContextRecord → Type 0) (object : Option Object)
     (given : ContextRecord) : Type 0 where
   pub context : ContextRecord
   pub from : context_of object ≡ Some context
   pub is : Made context given
 
--- the new object holds the context that is made of that of the other object
+-- the new object holds the context made from the other object's context
 pub record Makes (Made : ContextRecord → ContextRecord → Type 0) (object new : Option Object)
     : Type 0 where
   pub context : ContextRecord
@@ -54,7 +54,7 @@ pub record IsNoKey (key : List ℕ) (s : Status) : Type 0 where
   pub status : s ≡ status.Key
   pub is : may_be_key key ≡ false
 
--- the status says that the member is too much for the baggage, and it is
+-- the status says that the member is too large for the baggage, and it is
 pub record IsTooMuch (m : Member) (held : List Member) (s : Status) : Type 0 where
   pub status : s ≡ status.Refused
   pub key : may_be_key m.key ≡ true

@@ -1,4 +1,4 @@
--- What a handle holds, by its kind.
+-- The object of a handle, by its kind.
 use Rattle.std.specs.Prelude.{Option, None, Some}
 use Rattle.otel_context.specs.Context.{ContextRecord}
 use Rattle.otel_context.specs.Stack.{StackState}
@@ -29,7 +29,7 @@ stack_of (Some (object.Headers injector)) = None
 stack_of (Some (object.Context context)) = None
 stack_of (Some (object.Stack stack)) = Some stack
 
--- it holds nothing, and the status says so
+-- the handle is empty, and the status says so
 abbrev pub IsEmpty : Option Object → Status → Type 0
 IsEmpty object s = IsOtherKind (headers_of object) s
     × (IsOtherKind (context_of object) s × IsOtherKind (stack_of object) s)

@@ -1,9 +1,9 @@
--- What is written of a text to the room for it.
+-- Writing a text to the caller's room.
 use Rattle.std.specs.Prelude.{◌≡◌, ◌⊎◌, ℕ, List, ◌++◌, Option, Some, drop, length}
 use Rattle.otel_c.specs.declared.status.Status.{Status}
 use Rattle.otel_c.specs.Status.{HasNoRoom, IsNothing}
 
--- the text stands at the front of the room, whose rest is unchanged, and its length is written
+-- the text is at the front of the room, whose rest is unchanged, and its length is written
 pub record Holds (text old new : List ℕ) (written : ℕ) : Type 0 where
   pub room : new ≡ text ++ drop (length text) old
   pub length : written ≡ length text

@@ -1,4 +1,4 @@
--- What C has of the span of a context.
+-- The span of a context in C.
 use Rattle.std.specs.Prelude.{◌≡◌, ◌⊎◌, ℕ, List, Option, Some}
 use Rattle.std.specs.Int.{w64, w128, to_be_bytes, from_be_bytes}
 use Rattle.otel_ids.specs.Reading.{Reads}
@@ -22,7 +22,7 @@ parts_of context = record {
   is_remote = context.is_remote;
 }
 
--- the parts are those of the context's span
+-- the parts are the ones of the context's span
 pub record ShowsSpan (object : Option Object) (new : SpanParts) : Type 0 where
   pub context : ContextRecord
   pub from : context_of object ≡ Some context

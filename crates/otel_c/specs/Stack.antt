@@ -1,4 +1,4 @@
--- What the calls on stacks change.
+-- The effects of the calls on stacks.
 use Rattle.std.specs.Prelude.{◌≡◌, ◌⊎◌, ℕ, ◌+◌, Option, Some, IsSome}
 use Rattle.otel_context.specs.Context.{ContextRecord}
 use Rattle.otel_context.specs.Stack.{StackState, last_position, newest_position, current}
@@ -53,7 +53,7 @@ PushRefused old s = IsOutOfMemory s ⊎ (IsOtherKind (stack_of old) s ⊎ HoldsF
 abbrev pub AttachRefused : Option Object → Option Object → Status → Type 0
 AttachRefused object old s = CopyRefused object s ⊎ PushRefused old s
 
--- the stack hasn't what was live at the position
+-- the attachment at the position is removed from the stack
 pub record Detaches (position : ℕ) (old new : Option Object) : Type 0 where
   pub stack : StackState
   pub from : stack_of old ≡ Some stack
@@ -76,12 +76,12 @@ pub record GivesCurrent (object : Option Object) (context : ContextRecord) : Typ
   pub from : stack_of object ≡ Some stack
   pub is : context ≡ current stack.live
 
--- the handle has the current context of the stack
+-- the handle holds the current context of the stack
 pub record HasCurrent (object new : Option Object) : Type 0 where
   pub context : ContextRecord
   pub given : GivesCurrent object context
   pub into : context_of new ≡ Some context
 
--- why the current context wasn't given
+-- why the current context wasn't returned
 abbrev pub CurrentRefused : Option Object → Status → Type 0
 CurrentRefused object s = IsOutOfMemory s ⊎ IsOtherKind (stack_of object) s

@@ -1,4 +1,4 @@
--- What C gets for the outcome of a call, and what each refusal says.
+-- The outcome of a call in C, and the meaning of each error.
 use Rattle.std.specs.Prelude.{◌≡◌, ◌⊎◌, ◌<◌, ℕ, List, length, Option, Some, None, Result, Ok, Err}
 use Rattle.std.specs.Prelude.{IsUtf8}
 use Rattle.otel_ids.specs.TraceStateError.{Fault, KeyFault, ValueFault, ListFault}
@@ -17,12 +17,12 @@ number status.List = 7
 number status.Invalid = 8
 number status.Refused = 9
 
--- the number for an outcome: 0 is success, and only success
+-- the number of an outcome: 0 is success, and only success
 abbrev pub code_of : {A : Type 0} → Result A Status → ℕ
 code_of (Ok done) = 0
 code_of (Err status) = number status
 
--- the number is that of a status for which this is the reason
+-- the number is the one of a status for which this is the reason
 pub record Refuses (Why : Status → Type 0) (n : ℕ) : Type 0 where
   pub status : Status
   pub is : n ≡ number status
@@ -38,22 +38,22 @@ pub record HasNoRoom (text room : List ℕ) (s : Status) : Type 0 where
   pub status : s ≡ status.NoRoom
   pub short : length room < length text
 
--- the fault is that of a key
+-- the fault is in a key
 pub record InKey (fault : Option Fault) : Type 0 where
   pub text : List ℕ
   pub is : fault ≡ Some (KeyFault text)
 
--- the fault is that of a value
+-- the fault is in a value
 pub record InValue (fault : Option Fault) : Type 0 where
   pub text : List ℕ
   pub is : fault ≡ Some (ValueFault text)
 
--- the fault is that of a member without `=`
+-- the fault is a member without `=`
 pub record InList (fault : Option Fault) : Type 0 where
   pub text : List ℕ
   pub is : fault ≡ Some (ListFault text)
 
--- the status names the fault, or says that memory ran out
+-- the status names the fault, or says that the call is out of memory
 abbrev pub Blames : Option Fault → Status → Type 0
 Blames fault status.NoMemory = Unit {0}
 Blames fault status.NotText = ⊥
@@ -70,15 +70,15 @@ pub record IsOtherKind {A : Type 0} (wanted : Option A) (s : Status) : Type 0 wh
   pub status : s ≡ status.Invalid
   pub is : wanted ≡ None
 
--- the status says that memory ran out
+-- the status says that the call is out of memory
 abbrev pub IsOutOfMemory : Status → Type 0
 IsOutOfMemory s = s ≡ status.NoMemory
 
--- the status says that memory ran out, or that the headers can't carry a text
+-- the status says that the call is out of memory, or that the headers can't carry a text
 abbrev pub IsOfCarrier : Status → Type 0
 IsOfCarrier s = (s ≡ status.NoMemory) ⊎ (s ≡ status.Refused)
 
--- the status says that there is no such entry, and there is none
+-- the status says that there is no such entry, and there isn't
 pub record IsNothing {A : Type 0} (found : Option A) (s : Status) : Type 0 where
   pub status : s ≡ status.Absent
   pub none : found ≡ None

@@ -1,4 +1,4 @@
--- What the calls on the text of a `tracestate` header write.
+-- The results of the calls on the text of a `tracestate` header.
 use Rattle.std.specs.Prelude.{◌≡◌, ◌⊎◌, ℕ, List, None, Some, Option, option_map, slice_get}
 use Rattle.otel_ids.specs.TraceState.{Pair, pair_with, get, insert, delete, header}
 use Rattle.otel_ids.specs.TraceStateError.{key_fault, pair_fault}

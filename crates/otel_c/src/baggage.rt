@@ -24,7 +24,7 @@ fn len_of(context: &Context) -> usize
     }
 }
 
-/// Returns the key of the member at the position, from 0 on.
+/// Returns the key of the member at the position, counted from 0.
 fn key_at(context: &Context, position: usize) -> Option<&str>
     ensures { option_copied result ≡ key_at context.now position }
 {
@@ -92,7 +92,7 @@ fn key(
     write_found(key_at(&context, position), room, written)
 }
 
-/// Writes the key of the member at the position, from 0 on.
+/// Writes the key of the member at the position, counted from 0.
 #[unsafe(no_mangle)]
 pub extern "C" fn otel_baggage_key(
     alloc: Global,

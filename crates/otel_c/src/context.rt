@@ -20,7 +20,7 @@ use otel_http::{HeaderExtractor, HeaderInjector};
 use otel_propagators::{BaggagePropagator, TraceContextPropagator};
 use std::alloc::Global;
 
-/// Extracts the span of the headers.
+/// Extracts the span from the headers.
 fn extract_trace(
     alloc: Global,
     context: &Context,
@@ -36,7 +36,7 @@ fn extract_trace(
     }
 }
 
-/// Extracts the baggage of the headers.
+/// Extracts the baggage from the headers.
 fn extract_baggage(
     alloc: Global,
     context: &Context,
@@ -52,7 +52,7 @@ fn extract_baggage(
     }
 }
 
-/// Returns the context with what the headers carry.
+/// Returns a copy of the context with the values of the headers.
 fn extract_all(alloc: Global, headers: &HeaderMap, context: &Context) -> Result<Context, Status>
     ensures read { IfOk result (λ given. given ≡ extracted context.now (texts headers.now)) }
     ensures refused { IfErr result IsOutOfMemory }
@@ -63,7 +63,7 @@ fn extract_all(alloc: Global, headers: &HeaderMap, context: &Context) -> Result<
     Ok(given)
 }
 
-/// Injects by a propagator.
+/// Injects with one propagator.
 fn write<P: TextMapPropagator>(
     propagator: &P,
     context: &Context,
@@ -147,7 +147,7 @@ fn inject_in(alloc: Global, object: &Object, headers: &mut Object) -> Result<(),
     }
 }
 
-/// Lends the object of a handle to `extract_in`.
+/// Passes the object of a handle to `extract_in`.
 fn extract_from(alloc: Global, headers: &mut Handle, object: &mut Object) -> Result<(), Status>
     ensures context { OnOk result (Extracts headers.old.object
         (Some object.old) (Some object.new)) }
@@ -215,11 +215,11 @@ fn copy_in(object: &Object) -> Result<Context, Status>
     Ok(object.context()?.clone()?)
 }
 
-/// Returns a copy of the context of a handle. It shares what the context holds.
+/// Returns a copy of the context of a handle, which shares its contents.
 ///
 /// # Errors
 ///
-/// `Invalid` if the handle holds no context; `NoMemory` if too many share what it holds.
+/// `Invalid` if the handle holds no context. `NoMemory` if too many contexts share the contents.
 pub(crate) fn copy(alloc: Global, context: &mut Handle) -> Result<Context, Status>
     ensures copy { IfOk result (λ copy. context_of context.old.object ≡ Some copy) }
     ensures kept { context.new.object ≡ context.old.object }
@@ -241,7 +241,7 @@ fn copy_into(alloc: Global, context: &mut Handle, clone: &mut Handle) -> Result<
     make(alloc, clone, made)
 }
 
-/// Puts a copy of the context into the other handle, and frees what that held.
+/// Puts a copy of the context into the other handle, and frees the object that this held.
 #[unsafe(no_mangle)]
 pub extern "C" fn otel_context_clone(alloc: Global, context: &mut Handle, clone: &mut Handle) -> u32
     ensures copy { result ≡ 0 → Copies context.old.object clone.new.object }
@@ -252,7 +252,7 @@ pub extern "C" fn otel_context_clone(alloc: Global, context: &mut Handle, clone:
     code(copy_into(alloc, context, clone))
 }
 
-/// Makes the empty context, and frees what the handle held.
+/// Makes an empty context, and frees the object that the handle held.
 #[unsafe(no_mangle)]
 pub extern "C" fn otel_context_new(alloc: Global, context: &mut Handle) -> u32
     ensures empty { result ≡ 0 → context_of context.new.object ≡ Some empty_context }
@@ -295,7 +295,7 @@ pub extern "C" fn otel_context_inject(
     code(inject(alloc, context, headers))
 }
 
-/// Frees what the handle holds, which is then empty.
+/// Frees the object of the handle, which is then empty.
 #[unsafe(no_mangle)]
 pub extern "C" fn otel_free(alloc: Global, handle: &mut Handle)
     ensures { handle.new.object ≡ None }

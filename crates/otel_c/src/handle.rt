@@ -1,4 +1,4 @@
-//! Handles: what C has of an object of this library. The only module with `unsafe`.
+//! Handles, which are objects of this library in C. The only module with `unsafe`.
 ghost use Rattle.std.specs.Prelude.{◌≡◌, Option, None, Some, option_map, IfOk, IfErr, OnErr};
 ghost use Rattle.std.specs.Box.Ownership.{box_owns};
 ghost use Rattle.otel_c.specs.Handle.{object_coded, handle_owns};
@@ -11,7 +11,7 @@ use std::alloc::{Allocator, Global};
 use std::marker::Model;
 use std::{mem, ptr};
 
-/// A box, as the pointer to what it owns.
+/// A box as a raw pointer and its allocator.
 pub struct Parts<T, A: Allocator> {
     ptr: *mut T,
     alloc: A,
@@ -36,19 +36,19 @@ impl<T, A: Allocator> Parts<T, A> {
         ensures { result.value ≡ self.value }
     {
         let Parts { ptr, alloc } = self;
-        // The pointer and the allocator are those of a box: the model says so.
+        // The pointer and the allocator are from a box, as the model states.
         unsafe { Box::from_raw(alloc, ptr) }
     }
 }
 
-/// What C has of an object: the pointer to its box, or null. `otel_handle` of `include/otel.h`.
+/// An object in C: the pointer to its box, or null. `otel_handle` in `include/otel.h`.
 ///
-/// It owns the object, and isn't `Drop`, so the check refuses a function that lets one go.
+/// Owns the object. It isn't `Drop`, so the check rejects a function that drops one.
 #[repr(C)]
 pub struct Handle {
-    // To an `Object`, of which C sees only the address.
+    // Points to an `Object`. C sees only the address.
     at: *mut u8,
-    /// The object, if there is one.
+    /// The object, if any.
     pub ghost object: { Option Object } by { object_coded },
 }
 
@@ -88,7 +88,7 @@ impl Handle {
         }
     }
 
-    /// Takes the object out, which leaves the handle empty.
+    /// Takes the object out of the handle, which is then empty.
     ///
     /// # Errors
     ///
@@ -105,7 +105,7 @@ impl Handle {
         }
     }
 
-    /// Puts the object in, and drops the one that the handle held.
+    /// Puts an object into the handle, and drops the object that the handle held.
     pub fn put(&mut self, alloc: Global, object: Box<Object>)
         ensures { self.new.object ≡ Some object.value }
     {

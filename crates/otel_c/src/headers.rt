@@ -80,7 +80,7 @@ fn append(alloc: Global, headers: &mut Handle, name: &[u8], value: &[u8]) -> Res
     outcome
 }
 
-/// Makes empty headers, and frees what the handle held.
+/// Makes empty headers, and frees the object that the handle held.
 #[unsafe(no_mangle)]
 pub extern "C" fn otel_headers_new(alloc: Global, headers: &mut Handle) -> u32
     ensures empty { result ≡ 0 → headers_of headers.new.object ≡ Some [] }

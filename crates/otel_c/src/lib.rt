@@ -1,6 +1,6 @@
-//! The library for C and for what calls C: headers, contexts and stacks, by handles, and trace
-//! states, as texts in the caller's memory. `include/otel.h` declares the functions, and says what
-//! a caller must promise.
+//! The library for C and for languages that call C: headers, contexts and stacks by handles, and
+//! trace states as texts in the caller's memory. `include/otel.h` declares the functions and lists
+//! the caller's obligations.
 #![tactic(auto)]
 
 pub mod baggage;

@@ -1,4 +1,4 @@
-//! Members of the baggage of a context, set and removed.
+//! Setting and removing members of a context's baggage.
 ghost use Rattle.std.specs.Prelude.{◌≡◌, IfOk, IfErr, OnOk, OnErr};
 ghost use Rattle.otel_context.specs.Baggage.{accepts, insert};
 ghost use Rattle.otel_context.specs.BaggageMember.{member_of};
@@ -30,7 +30,7 @@ fn copy_member(
     Ok(())
 }
 
-/// Returns a baggage of the same members.
+/// Returns a baggage with the same members.
 fn copied(alloc: Global, held: &Baggage) -> Result<Baggage, AllocError>
     ensures { IfOk result (λ copy. copy ≡ held.now) }
 {
@@ -41,7 +41,7 @@ fn copied(alloc: Global, held: &Baggage) -> Result<Baggage, AllocError>
     Ok(copy)
 }
 
-/// Returns a baggage of the context's members.
+/// Returns a baggage with the context's members.
 fn baggage_of(alloc: Global, context: &Context) -> Result<Baggage, AllocError>
     ensures { IfOk result (λ baggage. baggage ≡ members context.now) }
 {
@@ -62,7 +62,7 @@ fn accepts(alloc: Global, context: &Context, key: &str, value: &str, metadata: &
     }
 }
 
-/// Returns why a baggage refuses a member of the key.
+/// Returns the reason why a baggage refuses a member with the key.
 fn reason(alloc: Global, key: &str) -> Status
     ensures { result ≡ reason key.now }
 {
@@ -92,12 +92,12 @@ fn insert(
     Ok(())
 }
 
-/// Returns the context with the member in its baggage.
+/// Returns a copy of the context with the member in its baggage.
 ///
 /// # Errors
 ///
-/// `Key` if no baggage can have the key; `Refused` if there were more than 64 members or 8192
-/// bytes; `NoMemory` if out of memory.
+/// `Key` if no baggage can have the key. `Refused` if the baggage would have more than 64 members
+/// or 8192 bytes. `NoMemory` if out of memory.
 fn with_member(
     alloc: Global,
     context: &Context,
@@ -118,7 +118,7 @@ fn with_member(
     Ok(context.with_baggage(alloc, baggage)?)
 }
 
-/// Returns the context without the member of the key.
+/// Returns a copy of the context without the member with the key.
 fn without_member(alloc: Global, context: &Context, key: &str) -> Result<Context, AllocError>
     ensures { IfOk result (RemovesMember key.now context.now) }
 {
@@ -192,7 +192,8 @@ fn remove(
     make(alloc, changed, given)
 }
 
-/// Puts the context with the member in its baggage into the other handle, and frees what that held.
+/// Puts the context with the member in its baggage into the other handle, and frees the object that
+/// this held.
 #[unsafe(no_mangle)]
 pub extern "C" fn otel_baggage_set(
     alloc: Global,
@@ -213,7 +214,8 @@ pub extern "C" fn otel_baggage_set(
     code(set(alloc, context, key, value, metadata, changed))
 }
 
-/// Puts the context without the member of the key into the other handle, and frees what that held.
+/// Puts the context without the member with the key into the other handle, and frees the object
+/// that this held.
 #[unsafe(no_mangle)]
 pub extern "C" fn otel_baggage_remove(
     alloc: Global,

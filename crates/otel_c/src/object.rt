@@ -1,4 +1,4 @@
-//! What a handle of C can hold.
+//! The objects that handles can hold.
 ghost use Rattle.std.specs.Prelude.{◌≡◌, IfOk, IfErr, Some};
 ghost use Rattle.otel_c.specs.Object.{headers_of, context_of, stack_of};
 ghost use Rattle.otel_c.specs.Status.{IsOtherKind};
@@ -8,14 +8,14 @@ use opentelemetry::Context;
 use opentelemetry::context::ContextStack;
 use otel_http::HeaderInjector;
 
-/// What a handle holds.
+/// An object that a handle can hold.
 #[derive(Drop)]
 pub enum Object {
     /// The headers of a request.
     Headers(HeaderInjector),
-    /// What travels with a request.
+    /// A context.
     Context(Context),
-    /// The attached contexts.
+    /// A stack of attached contexts.
     Stack(ContextStack),
 }
 
@@ -24,7 +24,7 @@ impl Object {
     ///
     /// # Errors
     ///
-    /// `Invalid` if it is something else.
+    /// `Invalid` if it is another kind of object.
     pub fn headers(&self) -> Result<&HeaderInjector, Status>
         ensures headers { IfOk result (λ injector.
             headers_of (Some self.now) ≡ Some injector.now.headers) }
@@ -40,7 +40,7 @@ impl Object {
     ///
     /// # Errors
     ///
-    /// `Invalid` if it is something else.
+    /// `Invalid` if it is another kind of object.
     pub fn context(&self) -> Result<&Context, Status>
         ensures context { IfOk result (λ context. context_of (Some self.now) ≡ Some context.now) }
         ensures refused { IfErr result (λ status. IsOtherKind (context_of (Some self.now)) status) }
@@ -55,7 +55,7 @@ impl Object {
     ///
     /// # Errors
     ///
-    /// `Invalid` if it is something else.
+    /// `Invalid` if it is another kind of object.
     pub fn stack(&self) -> Result<&ContextStack, Status>
         ensures stack { IfOk result (λ stack. stack_of (Some self.now) ≡ Some stack.now) }
         ensures refused { IfErr result (λ status. IsOtherKind (stack_of (Some self.now)) status) }

@@ -1,4 +1,4 @@
-//! Texts that come from C, and the room that C gives for the answers.
+//! Texts from C, and the caller's room for texts to C.
 ghost use Rattle.std.specs.Prelude.{◌≡◌, ◌++◌, IfOk, IfErr, OnOk, OnErr, drop, length};
 ghost use Rattle.std.specs.Option.{option_copied};
 ghost use Rattle.otel_c.specs.Room.{HoldsFound, FoundRefused};
@@ -26,7 +26,7 @@ pub fn text_of(bytes: &[u8]) -> Result<&str, Status>
 ///
 /// # Errors
 ///
-/// `NoRoom` if the room is too short. It is unchanged, and `written` has the length that is needed.
+/// `NoRoom` if the room is too short. It is unchanged, and `written` is the required length.
 pub fn write_bytes(bytes: &[u8], room: &mut [u8], written: &mut usize) -> Result<(), Status>
     ensures needed { written.new ≡ length bytes.now }
     ensures bytes { OnOk result (room.new ≡ bytes.now ++ drop (length bytes.now) room.old) }
@@ -46,8 +46,8 @@ pub fn write_bytes(bytes: &[u8], room: &mut [u8], written: &mut usize) -> Result
 ///
 /// # Errors
 ///
-/// `NoRoom` if the room is shorter than the text. The room is unchanged, and `written` has the
-/// length that is needed.
+/// `NoRoom` if the room is shorter than the text. It is unchanged, and `written` is the required
+/// length.
 pub fn write(text: &str, room: &mut [u8], written: &mut usize) -> Result<(), Status>
     ensures needed { written.new ≡ length text.now }
     ensures text { OnOk result (room.new ≡ text.now ++ drop (length text.now) room.old) }
@@ -61,7 +61,7 @@ pub fn write(text: &str, room: &mut [u8], written: &mut usize) -> Result<(), Sta
 ///
 /// # Errors
 ///
-/// `Absent` if there is none; `NoRoom` as [`write`] says. The room is unchanged.
+/// `Absent` if there is no text. `NoRoom` as for [`write`]. The room is unchanged.
 pub fn write_found(found: Option<&str>, room: &mut [u8], written: &mut usize) -> Result<(), Status>
     ensures text { OnOk result (HoldsFound (option_copied found.entry)
         room.old room.new written.new) }

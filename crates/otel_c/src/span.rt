@@ -13,22 +13,22 @@ use crate::trace_state::read;
 use otel_ids::{SpanContext, SpanId, TraceFlags, TraceId, TraceState};
 use std::alloc::Global;
 
-/// What identifies a span: `otel_span_context` of `include/otel.h`.
+/// The ids and the flags of a span: `otel_span_context` in `include/otel.h`.
 #[repr(C)]
 #[derive(Clone, Copy)]
 pub struct SpanParts {
-    /// The id of the trace, the most significant byte first.
+    /// The id of the trace, most significant byte first.
     pub trace_id: [u8; 16],
     /// The id of the span in it.
     pub span_id: [u8; 8],
     /// The flags. Bit 0 is the flag `sampled`.
     pub flags: u8,
-    /// Whether the span is of another process.
+    /// Whether the span is from another process.
     pub is_remote: bool,
 }
 
 impl SpanParts {
-    /// Returns the parts of the span context. The trace state is none of them.
+    /// Returns the parts of the span context, without its trace state.
     pub fn of(context: &SpanContext) -> SpanParts
         ensures { result ≡ parts_of context.now }
     {
@@ -40,7 +40,7 @@ impl SpanParts {
         }
     }
 
-    /// Returns the span context of these parts and of the trace state.
+    /// Returns the span context with these parts and this trace state.
     pub fn with_state(&self, trace_state: TraceState) -> SpanContext
         ensures { result ≡ span_of self.now trace_state }
     {

@@ -91,7 +91,7 @@ fn attach(
     push_to(alloc, stack, context, position)
 }
 
-/// Detaches what is live at the position.
+/// Detaches the context at the position.
 fn pop(stack: &mut ContextStack, position: u16) -> Result<(), Status>
     ensures detached { OnOk result (IsSome (context_at position stack.old.live)) }
     ensures stack { OnOk result (stack.new ≡ detached position stack.old) }
@@ -154,7 +154,7 @@ fn current(alloc: Global, stack: &mut Handle, context: &mut Handle) -> Result<()
     make(alloc, context, found)
 }
 
-/// Makes an empty stack, and frees what the handle held.
+/// Makes an empty stack, and frees the object that the handle held.
 #[unsafe(no_mangle)]
 pub extern "C" fn otel_stack_new(alloc: Global, stack: &mut Handle) -> u32
     ensures empty { result ≡ 0 → stack_of stack.new.object ≡ Some new_stack }
@@ -164,7 +164,7 @@ pub extern "C" fn otel_stack_new(alloc: Global, stack: &mut Handle) -> u32
     code(new(alloc, stack))
 }
 
-/// Attaches a copy of the context at the position above the newest, which is written.
+/// Attaches a copy of the context at the position above the newest. Writes that position.
 #[unsafe(no_mangle)]
 pub extern "C" fn otel_stack_attach(
     alloc: Global,
@@ -183,7 +183,7 @@ pub extern "C" fn otel_stack_attach(
     code(attach(alloc, stack, context, position))
 }
 
-/// Detaches what is live at the position.
+/// Detaches the context at the position.
 #[unsafe(no_mangle)]
 pub extern "C" fn otel_stack_detach(alloc: Global, stack: &mut Handle, position: u16) -> u32
     ensures detached { result ≡ 0 → Detaches position stack.old.object stack.new.object }
@@ -194,7 +194,7 @@ pub extern "C" fn otel_stack_detach(alloc: Global, stack: &mut Handle, position:
     code(detach(alloc, stack, position))
 }
 
-/// Puts a copy of the current context into the other handle, and frees what that held.
+/// Puts a copy of the current context into the other handle, and frees the object that this held.
 #[unsafe(no_mangle)]
 pub extern "C" fn otel_stack_current(alloc: Global, stack: &mut Handle, context: &mut Handle) -> u32
     ensures current { result ≡ 0 → HasCurrent stack.old.object context.new.object }

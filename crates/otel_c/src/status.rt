@@ -1,4 +1,4 @@
-//! What a call returns to C.
+//! The status of a call from C.
 ghost use Rattle.std.specs.Prelude.{◌≡◌};
 ghost use Rattle.otel_c.specs.Status.{code_of};
 
@@ -6,16 +6,16 @@ use opentelemetry::propagation::PropagationError;
 use otel_ids::TraceStateError;
 use std::alloc::{AllocError, AllocFailed};
 
-/// Why a call did nothing: `enum otel_status` of `include/otel.h`, but for `OTEL_OK`.
+/// The reason why a call did nothing: `enum otel_status` in `include/otel.h`, without `OTEL_OK`.
 #[derive(Clone, Copy, Debug, PartialEq, Eq)]
 pub enum Status {
     /// Out of memory.
     NoMemory,
     /// The text isn't UTF-8.
     NotText,
-    /// The room is too short for the answer.
+    /// The room is too short for the result.
     NoRoom,
-    /// There is no such entry.
+    /// No such entry exists.
     Absent,
     /// The key isn't valid.
     Key,
@@ -23,7 +23,7 @@ pub enum Status {
     Value,
     /// A member has no `=`.
     List,
-    /// A handle is empty, or holds something of another kind.
+    /// A handle is empty, or holds another kind of object.
     Invalid,
     /// The headers can't carry a text.
     Refused,
@@ -80,7 +80,7 @@ impl From<TraceStateError> for Status {
     }
 }
 
-/// Returns the number that C has for the outcome: 0 for success.
+/// Returns the number of the outcome in C: 0 for success.
 pub fn code(outcome: Result<(), Status>) -> u32
     ensures { result ≡ code_of outcome }
 {

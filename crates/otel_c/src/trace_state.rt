@@ -15,7 +15,7 @@ use std::alloc::Global;
 ///
 /// # Errors
 ///
-/// `NotText` if it isn't UTF-8; `List`, `Key` or `Value` as [`TraceState::from_str`] says;
+/// `NotText` if it isn't UTF-8. `List`, `Key` or `Value` as specified by [`TraceState::from_str`].
 /// `NoMemory` if out of memory.
 pub(crate) fn read(alloc: Global, header: &[u8]) -> Result<TraceState, Status>
     ensures read { IfOk result (λ state. Reads header.now state) }
@@ -43,7 +43,7 @@ fn get(
     write(value, room, written)
 }
 
-/// Returns the key of the pair at the position, from 0 on.
+/// Returns the key of the pair at the position, counted from 0.
 fn key_at(state: &TraceState, position: usize) -> Option<&str>
     ensures { option_copied result ≡ key_at state.now position }
 {
@@ -105,7 +105,7 @@ fn delete(
     write(text.as_str(), room, written)
 }
 
-/// Writes the value that the trace state of the header has at the key.
+/// Writes the value of the key in the trace state of the header.
 #[unsafe(no_mangle)]
 pub extern "C" fn otel_trace_state_get(
     alloc: Global,
@@ -122,7 +122,7 @@ pub extern "C" fn otel_trace_state_get(
     code(get(alloc, header, key, room, written))
 }
 
-/// Writes the key that the trace state of the header has at the position, from 0 on.
+/// Writes the key of the pair at the position, counted from 0, in the trace state of the header.
 #[unsafe(no_mangle)]
 pub extern "C" fn otel_trace_state_key(
     alloc: Global,
@@ -139,7 +139,7 @@ pub extern "C" fn otel_trace_state_key(
     code(key(alloc, header, position, room, written))
 }
 
-/// Writes the header of the trace state with the pair in front.
+/// Writes the header of the trace state with the pair inserted in front.
 #[unsafe(no_mangle)]
 pub extern "C" fn otel_trace_state_insert(
     alloc: Global,
@@ -158,7 +158,7 @@ pub extern "C" fn otel_trace_state_insert(
     code(insert(alloc, header, key, value, room, written))
 }
 
-/// Writes the header of the trace state without the pair of the key.
+/// Writes the header of the trace state without the pair with the key.
 #[unsafe(no_mangle)]
 pub extern "C" fn otel_trace_state_delete(
     alloc: Global,

@@ -1,4 +1,4 @@
--- One line more.
+-- One more line.
 use Rattle.std.proofs.Common.{◌≡◌, ℕ, ◌+◌, ◌<◌, true, false, List, [], ◌∷◌, ◌++◌, length, take, get_or, Some, refl, sym, ap, subst, ◌∙◌, arith, inl, inr, ◌⊎◌, append-nil}
 use Rattle.std.specs.Prelude.{if◌then◌else◌}
 use Rattle.std.specs.List.{slice_get, enumerate_from}
@@ -16,7 +16,7 @@ use Rattle.otel_carry.specs.declared.failure.Failure.{Failure}
 use Rattle.otel_carry.specs.declared.failure.Failure.TheVariants.{Unreadable, NotUtf8, Line, NoMemory}
 use Rattle.otel_carry.specs.Events.{AskFor, AsksFor, IsReported, IsTold, asking, is_asking}
 
--- an element at an index of one more is that one, or one of those before
+-- an element at an index of the extended list is the new one or an earlier one
 last_or_before : {X : Type 0} (xs : List X) (y : X) (i : ℕ) (x : X) → slice_get (xs ++ y ∷ []) i ≡ Some x → (i < length xs) ⊎ ((i ≡ length xs) × (y ≡ x))
 last_or_before xs y i x at = elim (cases_lt i (length xs)) [
   | inl h ↦ inl h
@@ -86,7 +86,7 @@ fails lines n number line events (Line m fault) is turn h a told = record {
 }
 fails lines n number line events NoMemory is turn h a told = tt
 
--- a line that the loop meets is the one at the index that it meets it with
+-- a line that the loop reads is the one at the loop's index
 pub line_at : (lines : List (List ℕ)) (n index : ℕ) (line : List ℕ) → (n < length (enumerate_from 0 lines)) × ((index, line) ≡ get_or (enumerate_from 0 lines) n (index, line))
     → (index ≡ n) × ((n < length lines) × (line ≡ get_or lines n line))
 line_at lines n index line turn =

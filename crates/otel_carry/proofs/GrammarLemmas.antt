@@ -1,4 +1,4 @@
--- A line that asks for an event has no fault.
+-- A line that requests an event has no fault.
 use Rattle.std.proofs.Common.{◌≡◌, ℕ, zero, suc, ◌<◌, true, false, List, [], ◌∷◌, ◌++◌, length, take, get_or, drop, is_some, Option, Some, None, refl, sym, ap, subst, ◌∙◌, arith, inl, inr, codes, IfSome, IsSome, eqb-true}
 use Rattle.std.specs.Prelude.{◌==◌}
 use Rattle.std.specs.List.{list_any, slice_get}
@@ -18,7 +18,7 @@ use Rattle.otel_carry.specs.declared.lines.Fault.TheVariants.{UnknownCommand, Ba
 use Rattle.otel_carry.specs.Lines.{IsName, IsNumber, first_word}
 use Rattle.otel_carry.specs.Events.{AskFor, AsksFor, IsAttachLine, IsFaulty, IsFirstFaulty, asking, is_asking}
 
--- what follows `attach` and its space in a line that attaches
+-- the text after `attach` and its space, for a line that attaches
 abbrev rest_of : List ℕ → Option (List ℕ) → List ℕ
 rest_of name None = name
 rest_of name (Some state) = name ++ (32 ∷ state)
@@ -62,7 +62,7 @@ two_words line a b x y = let first : 97 ≡ 100 = ap (λ l. get_or l 0 0) (sym x
 no_fault : (text : List ℕ) → fault_of text ≡ None → IsSome (fault_of text) → ⊥
 no_fault text none some = absurd (let h : false ≡ true = ap is_some (sym none) ∙ some in cc)
 
--- one trace state isn't read and faulty
+-- a trace state can't be both read and faulty
 given_state : (name other text : List ℕ) (given : Option (List ℕ)) → name ≡ other → rest_of name given ≡ rest_of other (Some text)
     → ((t : List ℕ) → given ≡ Some t → (pairs : List Pair) × ReadsState t pairs) → IsSome (fault_of text) → ⊥
 given_state name other text None names same read some =
@@ -95,7 +95,7 @@ asked_apart : (attaches : ℕ) (line : List ℕ) (event : StackEvent) (fault : F
 asked_apart attaches line (Attach context) fault a f = attach_apart line a.1 (attached line a.0 a.1 a.2) fault f
 asked_apart attaches line (Detach number) fault a f = detach_apart line a.0 number a.1 a.2 fault f
 
--- a line that asks for something is one of those that do
+-- a line that isn't empty is one of the requesting lines
 asked_at : (lines : List (List ℕ)) (n : ℕ) (line : List ℕ) → slice_get lines n ≡ Some line → is_asking line ≡ true → (index : ℕ) × (slice_get (asking lines) index ≡ Some line)
 asked_at [] n line at asks = absurd (cc)
 asked_at (l ∷ ls) zero line at asks =
@@ -108,7 +108,7 @@ asked_at (l ∷ ls) (suc n) line at asks =
       | inr f ↦ (later.0, rw f later.1)
     ]
 
--- lines that ask for events have no faulty one among them
+-- lines that request events have no faulty one among them
 pub never_both : (lines : List (List ℕ)) (events : List StackEvent) (number : ℕ) (fault : Fault) → AskFor lines events → IsFirstFaulty lines number fault → ⊥
 never_both lines events number fault a f =
     let p = asked_at lines f.before f.line f.at f.asks in

@@ -1,4 +1,4 @@
--- What the program's exit status says of its input and of what was written.
+-- The meaning of the program's exit status for its input and its output.
 use Rattle.std.proofs.Common.{◌≡◌, ◌≢◌, ℕ, zero, suc, ◌≤◌, List, Option, Some, None, Result, Ok, Err, inl, inr, refl, sym, ◌∙◌, arith, subst, IfSome, IfOk, OnOk, IsOk}
 use Rattle.std.specs.Io.KnownBytes.{Appends, Keeps}
 use Rattle.std.specs.Result.{result_unwrap_or}
@@ -16,7 +16,7 @@ use Rattle.otel_carry.specs.Report.{Writes, failure_line}
 use Rattle.otel_carry.specs.Run.{Ends, IsCutOff, IsFailureReport, IsReport, IsRunOf, IsRunText}
 use Rattle.otel_carry.proofs.GrammarLemmas.{never_both}
 
--- what is appended stays
+-- an appended text stays
 appends_kept : (old mid new : Option (List ℕ)) (text : List ℕ) → Appends old mid text → Keeps mid new → Appends old new text
 appends_kept None mid new text a k = tt
 appends_kept (Some x) None new text a k = absurd a
@@ -35,7 +35,7 @@ faulty_by input NotUtf8 e h = inl h
 faulty_by input (Line number fault) e h = inr (number, fault, h)
 faulty_by input NoMemory e h = absurd (let one : 1 ≡ 2 = e in omega (arith, one))
 
--- it has the status 1 or 2
+-- the status of a failure is 1 or 2
 status_cases : (failure : Failure) → status_of failure ≢ 1 → status_of failure ≡ 2
 status_cases Unreadable h = absurd (h refl)
 status_cases NotUtf8 h = refl
@@ -64,7 +64,7 @@ writes_kept : (P : List ℕ → Type 0) (old mid new : Option (List ℕ)) → Ke
 writes_kept P old mid new kept w = record { text = w.text; is = w.is; appended = appends_kept old mid new w.text w.appended kept }
 
 module _ (pairs : ContextRecord → Pairs) (extracted : ContextRecord → TextMap → ContextRecord) where
-  -- a flush keeps what was written
+  -- a flush keeps the written text
   pub ends_kept : (known old mid new : Option (List ℕ)) (status : ℕ) → Keeps mid new
       → IfSome known (λ input. Ends pairs extracted input status old mid) → IfSome known (λ input. Ends pairs extracted input status old new)
   ends_kept None old mid new status kept h = tt
@@ -122,7 +122,7 @@ module _ (pairs : ContextRecord → Pairs) (extracted : ContextRecord → TextMa
         };
   }
 
-  -- the status 1 stands for a failed write, of which nothing is known
+  -- the status 1 may mean a failed write, of which nothing is known
   pub ends_or_1 : {E : Type 0} (known old new : Option (List ℕ)) (r : Result ℕ E) (status : ℕ)
       → status ≡ result_unwrap_or r 1 → IfOk r (λ n. IfSome known (λ input. Ends pairs extracted input n old new))
       → status ≢ 1 → IfSome known (λ input. Ends pairs extracted input status old new)
@@ -130,7 +130,7 @@ module _ (pairs : ContextRecord → Pairs) (extracted : ContextRecord → TextMa
       subst (λ n. IfSome known (λ input. Ends pairs extracted input n old new)) (sym said) ends
   ends_or_1 known old new (Err e) status said ends other = absurd (other said)
 
-  -- where the output is cut off, the status is neither 0 nor 2
+  -- if the output is cut off, the status is neither 0 nor 2
   pub cut_off_is_1 : {E : Type 0} (known old new : Option (List ℕ)) (r : Result ℕ E) (status : ℕ)
       → status ≡ result_unwrap_or r 1 → IfOk r (λ n. n ≤ 2)
       → IfOk r (λ n. IfSome known (λ input. Ends pairs extracted input n old new))

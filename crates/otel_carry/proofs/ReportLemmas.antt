@@ -1,4 +1,4 @@
--- Text that is written in parts.
+-- Writing a text in parts.
 use Rattle.std.proofs.Common.{◌≡◌, List, [], ℕ, ◌++◌, ◌+◌, ◌<◌, ◌≤◌, Bool, Option, Some, Result, Ok, Err, OnOk, refl, subst, sym, ap, ◌∙◌, arith, length, take, get_or, map, codes, Bor, append_assoc, zero-add}
 use Rattle.std.specs.Io.KnownBytes.{Appends}
 use Rattle.std.specs.List.{enumerate_from, flat_map}
@@ -19,7 +19,7 @@ use Rattle.otel_carry.specs.Extracted.{shown, shown_of_context, status_of, text_
 use Rattle.otel_carry.specs.Report.{AreTextLines, Writes, outcome_line, outcome_lines, current_line, text_line}
 use Rattle.otel_carry.specs.Run.{IsRunText}
 
--- one part more
+-- one more part
 pub written_more : {X : Type 0} (f : X → List ℕ) (xs : List X) (n k : ℕ) (x : X) (a b c : Option (List ℕ)) → k ≡ n + 1 → (n < length xs) × (x ≡ get_or xs n x)
     → Appends a b (flat_map f (take n xs)) → Appends b c (f x) → Appends a c (flat_map f (take k xs))
 written_more f xs n k x a b c more turn h one =
@@ -58,11 +58,11 @@ texts_written texts old new keys items (Ok x) same are h = record {
   appended = h;
 }
 
--- the same of texts by another name
+-- the same for texts by another name
 pub extracts_moved : (give : TextMap → ContextRecord) (may_refuse : Bool) (r : Result ContextRecord PropagationError) (a b : TextMap) → a ≡ b → Extracts (give a) may_refuse r → Extracts (give b) may_refuse r
 extracts_moved give may_refuse r a b same = subst (λ (t : TextMap). Extracts (give t) may_refuse r) same
 
--- what is shown of an extraction that succeeded
+-- the output for an extraction that succeeded
 shown_if_0 : (context : ContextRecord) (may_refuse : Bool) (r : Result ContextRecord PropagationError) (x : Extracted) → Extracts context may_refuse r → x ≡ shown r → status_of x ≡ 0
     → x ≡ shown_of_context context
 shown_if_0 context may_refuse (Ok found) x e is zero = is ∙ ap shown_of_context e.ok

@@ -13,11 +13,11 @@ use Rattle.otel_carry.specs.declared.lines.Fault.TheVariants.{BadTraceState, Bad
 abbrev pub IsName : List ℕ → Type 0
 IsName name = (0 < length name) × All (λ byte. (33 ≤ byte) × (byte ≤ 126)) name
 
--- the text is one or more decimal digits that write n, which fits a `usize`, as `007` writes 7
+-- the text is one or more decimal digits of n, which fits a `usize`: `007` is 7
 abbrev pub IsNumber : List ℕ → ℕ → Type 0
 IsNumber text n = IsNumeral 10 text × (digits_value 10 text ≡ n) × (n < 2 ^ 64)
 
--- the text before the first space, as `a` in `a v=1`; all of it if it has no space
+-- the text before the first space, as `a` in `a v=1`; the whole text if it has no space
 abbrev pub first_word : List ℕ → List ℕ
 first_word text = before_first (λ byte. byte == 32) text
 
@@ -32,21 +32,21 @@ abbrev pub IsDetach : List ℕ → Line → Type 0
 IsDetach text (Attach name state) = ⊥
 IsDetach text (Detach number) = IsNumber text number
 
--- the line asks for this
+-- the line requests this
 abbrev pub Reads : List ℕ → Line → Type 0
 Reads line (Attach name state) =
     (rest : List ℕ) × (line ≡ codes "attach " ++ rest) × IsAttach rest (Attach name state)
 Reads line (Detach number) =
     (digits : List ℕ) × (line ≡ codes "detach " ++ digits) × IsDetach digits (Detach number)
 
--- the words that are written of a fault
+-- the text that is written for a fault
 abbrev pub fault_text : Fault → List ℕ
 fault_text UnknownCommand = codes "unknown command"
 fault_text BadName = codes "bad name"
 fault_text BadTraceState = codes "bad trace state"
 fault_text BadNumber = codes "bad number"
 
--- the line has this fault: it begins with neither word; or with `attach ` and no name; or with
+-- the line has this fault: it starts with neither word; or with `attach ` and no name; or with
 -- `detach ` and no number that fits
 abbrev pub IsFault : List ℕ → Fault → Type 0
 IsFault line UnknownCommand =

@@ -1,4 +1,4 @@
--- What the program's own propagator sets, and the contexts that its attaches make.
+-- The pairs that the program's own propagator sets, and the contexts of its attaches.
 use Rattle.std.specs.Prelude.{ℕ, List, [], ◌∷◌, true, false, Option, Some, None, option_map, codes}
 use Rattle.std.specs.Option.{option_map_or}
 use Rattle.std.specs.FinMap as map
@@ -42,7 +42,7 @@ span_context_for state id = record {
 }
 
 -- The context of an attach: the empty one with the entry `name` and, if a trace state is given,
--- with the span context of that state.
+-- with a span context with that state.
 abbrev pub context_for : List ℕ → Option (List Pair) → ℕ → ContextRecord
 context_for name state id = record {
   entries = map.insert map.empty (codes "name") (text name);

@@ -1,4 +1,4 @@
--- What the program writes, line by line. Not in the Rust crate.
+-- The output of the program, line by line. Not in the Rust crate.
 use Rattle.std.specs.Prelude.{◌≡◌, ℕ, List, [], ◌++◌, codes, Option, unwrap_or}
 use Rattle.std.specs.Fmt.{decimal}
 use Rattle.std.specs.HashMap.{HashMap}
@@ -56,7 +56,7 @@ pub record AreTextLines (texts : TextMap) (lines : List ℕ) : Type 0 where
 abbrev pub AreLinesOf : {A S : Type 0} → HashMap (String A) (String A) S → List ℕ → Type 0
 AreLinesOf texts lines = AreTextLines (text_map texts.entries) lines
 
--- the line of what is extracted from a carrier: this context
+-- the line of the context extracted from a carrier
 abbrev pub extracted_line : ContextRecord → List ℕ
 extracted_line context =
     codes "extracted: " ++ extraction.text_of (extraction.shown_of_context context) ++ codes "\n"
@@ -65,7 +65,7 @@ extracted_line context =
 abbrev pub failure_line : Failure → List ℕ
 failure_line failure = failures.text_of failure ++ codes "\n"
 
--- a text of which P holds was written, and nothing else
+-- one text that meets P was written, and nothing else
 pub record Writes (P : List ℕ → Type 0) (old new : Option (List ℕ)) : Type 0 where
   pub text : List ℕ
   pub is : P text

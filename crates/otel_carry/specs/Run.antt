@@ -1,4 +1,4 @@
--- What the program writes of a whole run. Not in the Rust crate.
+-- The output of a whole run. Not in the Rust crate.
 use Rattle.std.specs.Prelude.{◌≡◌, ◌≢◌, ◌↔◌, ℕ, Bool, List, ◌++◌, Option, IfSome, Result, OnOk}
 use Rattle.std.specs.FinMap as fin
 use Rattle.std.specs.HashMap.{HashMap}
@@ -20,7 +20,7 @@ use Rattle.otel_carry.specs.Report.{AreTextLines, Writes, outcome_lines, current
 use Rattle.otel_carry.specs.Report.{extracted_line, failure_line}
 use Rattle.otel_carry.specs.declared.failure.Failure.{Failure}
 
--- A run of the events that the lines of the input ask for: its attaches had these outcomes, this
+-- A run of the events that the lines of the input request: its attaches had these outcomes, this
 -- context was current after it, and the pairs of this context were set in a carrier.
 pub record IsRunOf (pairs : ContextRecord → Pairs) (input : List ℕ) (old new : TextMap)
     (outcomes : List AttachOutcome) (context : ContextRecord) : Type 0 where
@@ -30,8 +30,8 @@ pub record IsRunOf (pairs : ContextRecord → Pairs) (input : List ℕ) (old new
   pub current : IsCurrent events outcomes context
   pub sets : Sets old (pairs context) new
 
--- if the report of a run says that its injection succeeded, it is a run of the input, if that is
--- known, which filled the map
+-- if the report of a run says that its injection succeeded, and the input is known, it is a run of
+-- the input, which filled the map
 abbrev pub IsRunReport : {A S I : Type 0} {D : I → Type 0} → TextMapCompositePropagator I D
     → ((x : I) × D x → ContextRecord → Pairs) → Option (List ℕ)
     → HashMap (String A) (String A) S → HashMap (String A) (String A) S → RunReport → Type 0
@@ -41,7 +41,7 @@ IsRunReport composite pairs input old new report =
     report.outcomes.items (current report.stack.live)))
 
 -- The text has the lines of the outcomes, of the current context, of the carrier's texts, and of
--- what is extracted from these.
+-- the context extracted from them.
 pub record IsRunText (extracted : ContextRecord → TextMap → ContextRecord)
     (outcomes : List AttachOutcome) (context : ContextRecord) (texts : TextMap)
     (text : List ℕ) : Type 0 where
@@ -58,7 +58,7 @@ WritesRun composite extracted report texts old new status =
     status ≡ 0 → Writes (IsRunText (extracted_of (λ m. extracted (m.vtable, m.value)) composite)
     report.outcomes.items (current report.stack.live) (text_map texts.entries)) old new
 
--- the composite extracted from the map onto the context with this result
+-- the composite extracted from the map into the context, with this result
 abbrev pub ExtractsFromMap : {A S I : Type 0} {D : I → Type 0} → TextMapCompositePropagator I D
     → ((x : I) × D x → ContextRecord → TextMap → ContextRecord) → ((x : I) × D x → Bool)
     → ContextRecord → HashMap (String A) (String A) S
@@ -68,7 +68,7 @@ ExtractsFromMap composite extracted may_refuse context texts result =
     (text_map texts.entries))
     (may_refuse_of (λ m. may_refuse (m.vtable, m.value)) composite) result
 
--- the text is what the program writes of a run of the input, which fills an empty carrier
+-- the text is the output for a run of the input, which fills an empty carrier
 pub record IsReport (pairs : ContextRecord → Pairs)
     (extracted : ContextRecord → TextMap → ContextRecord) (input text : List ℕ) : Type 0 where
   pub outcomes : List AttachOutcome
@@ -84,21 +84,21 @@ pub record IsFailureReport (status : ℕ) (input text : List ℕ) : Type 0 where
   pub status_is : status_of failure ≡ status
   pub text_is : text ≡ failure_line failure
 
--- what the exit status of the program says of its input and of what was written
+-- the meaning of the program's exit status for its input and its output
 pub record Ends (pairs : ContextRecord → Pairs)
     (extracted : ContextRecord → TextMap → ContextRecord) (input : List ℕ) (status : ℕ)
     (old new : Option (List ℕ)) : Type 0 where
-  -- if it isn't 1, it is 2 exactly if the input is faulty
+  -- if it isn't 1, it is 2 if and only if the input is faulty
   pub faulty : status ≢ 1 → (status ≡ 2) ↔ IsFaultyInput input
   -- after 2 the line of the first fault is written, and nothing else
   pub fault : status ≡ 2 → Writes (IsFailureReport 2 input) old new
-  -- if it is 1 though the input is faulty, the line that says that it can't be read, or that the
-  -- program is out of memory, is written, and nothing else
+  -- if it is 1 although the input is faulty, the line that says that the input can't be read, or
+  -- that the program is out of memory, is written, and nothing else
   pub unread : status ≡ 1 → IsFaultyInput input → Writes (IsFailureReport 1 input) old new
   -- after 0 the whole report of the run is written, and nothing else
   pub report : status ≡ 0 → Writes (IsReport pairs extracted input) old new
 
--- the exit status and what was written are those of an end of the program, if the input is known
+-- the program ended with this exit status and this output, if the input is known
 abbrev pub EndsBy : {I : Type 0} {D : I → Type 0} → TextMapCompositePropagator I D
     → ((x : I) × D x → ContextRecord → Pairs)
     → ((x : I) × D x → ContextRecord → TextMap → ContextRecord)
@@ -108,15 +108,15 @@ EndsBy composite pairs extracted input old new status =
     Ends (pairs_of (λ m. pairs (m.vtable, m.value)) composite)
     (extracted_of (λ m. extracted (m.vtable, m.value)) composite) bytes status old new)
 
--- The output was cut off, as by a write that failed: neither the whole report of a run of the input
--- is written nor the line of its first fault.
+-- The output was cut off, for example by a write that failed: neither the whole report of a run of
+-- the input nor the line of its first fault is written.
 pub record IsCutOff (pairs : ContextRecord → Pairs)
     (extracted : ContextRecord → TextMap → ContextRecord) (input : List ℕ)
     (old new : Option (List ℕ)) : Type 0 where
   pub no_report : ¬ Writes (IsReport pairs extracted input) old new
   pub no_fault : ¬ Writes (IsFailureReport 2 input) old new
 
--- if the output was cut off, the exit status is 1, if the input is known
+-- if the output was cut off and the input is known, the exit status is 1
 abbrev pub FailsIfCutOff : {I : Type 0} {D : I → Type 0} → TextMapCompositePropagator I D
     → ((x : I) × D x → ContextRecord → Pairs)
     → ((x : I) × D x → ContextRecord → TextMap → ContextRecord)

@@ -19,13 +19,13 @@ use std::alloc::Global;
 use std::collections::HashMap;
 use std::io::{self, Read, Write};
 
-/// Reads the whole input, runs its attaches and detaches, writes the report of the run, or why
-/// there is none, and flushes the output. Returns the exit status of the program.
+/// Reads the whole input, runs its attaches and detaches, writes the report of the run or the line
+/// of a failure, and flushes the output. Returns the exit status of the program.
 ///
-/// It is 0 if the whole report was written, and 2 if the input isn't UTF-8 or has a faulty line and
-/// the line that says so was written. Otherwise it is 1: the input can't be read, the injection or
-/// the extraction failed, a write or the flush failed, or memory ran out. After a failed write
-/// nothing more is written.
+/// The status is 0 if the whole report was written, and 2 if the input isn't UTF-8 or has a faulty
+/// line and the line that says so was written. Otherwise it is 1: the input couldn't be read, the
+/// injection or the extraction failed, a write or the flush failed, or the program was out of
+/// memory. Nothing is written after a failed write.
 pub fn carry<R: Read + Drop, W: Write>(
     alloc: Global,
     input: R,
@@ -41,13 +41,13 @@ pub fn carry<R: Read + Drop, W: Write>(
     write_and_flush(alloc, input, output, composite).unwrap_or(1)
 }
 
-/// Reads the whole input, runs its attaches and detaches, writes the report of the run, or why
-/// there is none, and flushes the output. Returns the exit status of the program.
+/// Reads the whole input, runs its attaches and detaches, writes the report of the run or the line
+/// of a failure, and flushes the output. Returns the exit status of the program.
 ///
 /// # Errors
 ///
-/// The error of a write or a flush that fails, and `OutOfMemory` if out of memory while the report
-/// is written. A prefix of the report may have been written.
+/// The error of a write or a flush that fails, and `OutOfMemory` if out of memory during a write. A
+/// prefix of the report may have been written.
 fn write_and_flush<R: Read + Drop, W: Write>(
     alloc: Global,
     input: R,
@@ -63,8 +63,8 @@ fn write_and_flush<R: Read + Drop, W: Write>(
     Ok(status)
 }
 
-/// Reads the whole input, runs its attaches and detaches, and writes the report of the run, or why
-/// there is none. Returns the exit status of the program.
+/// Reads the whole input, runs its attaches and detaches, and writes the report of the run or the
+/// line of a failure. Returns the exit status of the program.
 fn write_result<R: Read + Drop, W: Write>(
     alloc: Global,
     input: R,
@@ -100,7 +100,7 @@ fn run_input<R: Read + Drop>(
     Ok(run(alloc, events, composite, carrier)?)
 }
 
-/// Reads the whole input, and returns the events that its lines ask for.
+/// Reads the whole input. Returns the events that its lines request.
 fn read_events<R: Read + Drop>(alloc: Global, input: R) -> Result<Vec<StackEvent>, Failure>
     ensures good { IfOk result (λ events. IfSome (R.remaining input) (λ bytes.
         IsGoodInput bytes events.items)) }
@@ -122,8 +122,8 @@ fn write_failure<W: Write>(output: &mut W, failure: Failure) -> io::Result<u8>
     Ok(failure.status())
 }
 
-/// Writes the report and, if the injection succeeded, what the composite extracts again from the
-/// carrier. Returns the status of the run: 1 if either was an error.
+/// Writes the report and, if the injection succeeded, the context that the composite extracts from
+/// the carrier. Returns the status of the run: 1 if either failed.
 fn write_run<W: Write>(
     alloc: Global,
     output: &mut W,

@@ -1,4 +1,4 @@
-//! The events that the lines of the input ask for.
+//! The events that the lines of the input request.
 ghost use Rattle.std.specs.Prelude.{◌≡◌, ◌<◌, ◌-◌, ◌^◌, IfOk, IfErr};
 ghost use Rattle.otel_carry.specs.Events.{AreRead, AskFor, AsksFor, IsFaultIn, IsReported};
 ghost use Rattle.otel_carry.specs.Events.{IsTold, lines_of};
@@ -12,12 +12,12 @@ use opentelemetry::trace::{SpanContext, TraceState, TraceStateError};
 use opentelemetry::{Context, Key, SpanId, StringValue, TraceFlags, TraceId};
 use std::alloc::{AllocError, Global};
 
-/// Returns the events of the lines, in order. Each line ends with `\n`, which the last may lack. An
-/// empty line is skipped, but counted.
+/// Returns the events of the lines, in order. Each line ends with `\n`, except possibly the last.
+/// Empty lines are skipped, but counted.
 ///
 /// # Errors
 ///
-/// `Failure::Line` for the first line that can't be carried out, with its number, from 1;
+/// `Failure::Line` with the number, from 1, of the first line that can't be carried out.
 /// `Failure::NoMemory` if out of memory. The events so far are dropped.
 pub fn events_of(alloc: Global, text: &str) -> Result<Vec<StackEvent>, Failure>
     ensures events { IfOk result (λ events. AskFor (lines_of text.now) events.items) }
@@ -38,7 +38,7 @@ pub fn events_of(alloc: Global, text: &str) -> Result<Vec<StackEvent>, Failure>
     Ok(events)
 }
 
-/// Returns the event that the line with this number asks for, after `attaches` attaches.
+/// Returns the event that the line with this number requests, after `attaches` attaches.
 fn event_of(alloc: Global, number: usize, line: &str, attaches: u64) -> Result<StackEvent, Failure>
     requires { attaches < 2 ^ 64 - 1 }
     ensures event { IfOk result (AsksFor attaches line.now) }

@@ -1,4 +1,4 @@
-//! What the program prints of an extraction.
+//! The output for an extraction.
 ghost use Rattle.std.specs.Prelude.{◌≡◌, Some};
 ghost use Rattle.otel_carry.specs.Extracted.{shown, shown_of_context, status_of, text_of};
 
@@ -6,7 +6,7 @@ use opentelemetry::propagation::PropagationError;
 use opentelemetry::{Context, SpanId, TraceId};
 use std::fmt;
 
-/// What the program prints of an extraction, as its `Display` does.
+/// The output for an extraction. Print it with `Display`.
 #[derive(Clone, Copy, Debug, PartialEq, Eq)]
 pub enum Extracted {
     /// The context has an active span, with this trace id and this span id.
@@ -20,7 +20,7 @@ pub enum Extracted {
 }
 
 impl Extracted {
-    /// Returns what is printed of the result of an extraction.
+    /// Returns the output for the result of an extraction.
     pub fn of(extraction: &Result<Context, PropagationError>) -> Extracted
         ensures { result ≡ shown extraction.now }
     {
@@ -55,7 +55,7 @@ impl fmt::Display for Extracted {
     }
 }
 
-/// Returns what is printed of a context.
+/// Returns the output for a context.
 fn of_context(context: &Context) -> Extracted
     ensures { result ≡ shown_of_context context.now }
 {

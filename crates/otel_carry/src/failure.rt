@@ -1,4 +1,4 @@
-//! Why there is no report.
+//! Failures, for which there is no report.
 ghost use Rattle.std.specs.Prelude.{◌≡◌, Some};
 ghost use Rattle.otel_carry.specs.Failures.{status_of, text_of};
 ghost use Rattle.otel_carry.specs.declared.failure.Failure.TheVariants.{NoMemory};
@@ -7,21 +7,22 @@ use crate::lines::Fault;
 use std::alloc::{AllocError, AllocFailed};
 use std::fmt;
 
-/// The reason why there is no report. Its `Display` prints the line that the program then writes.
+/// The reason why there is no report. Its `Display` prints the line that the program writes
+/// instead.
 #[derive(Clone, Copy, Debug, PartialEq, Eq)]
 pub enum Failure {
     /// A read failed, or no read reported the end of the input.
     Unreadable,
     /// The input isn't UTF-8.
     NotUtf8,
-    /// The first faulty line: its number, 1 for the first, and what is wrong with it.
+    /// The number of the first faulty line, counted from 1, and its fault.
     Line(usize, Fault),
     /// Out of memory.
     NoMemory,
 }
 
 impl Failure {
-    /// Returns the exit status of the program: 2 if the input is at fault, otherwise 1.
+    /// Returns the exit status of the program: 2 if the input has a fault, otherwise 1.
     pub fn status(self) -> u8
         ensures { result ≡ status_of self }
     {

@@ -5,20 +5,20 @@ use crate::failure::Failure;
 use std::alloc::Global;
 use std::io::Read;
 
-/// The limit on the number of reads, for a reader that never ends.
+/// The maximum number of reads, for a reader that never ends.
 const READS: u32 = 1_048_576;
 
-/// The most bytes that one read returns.
+/// The maximum number of bytes that one read returns.
 const ROOM: usize = 4096;
 
-/// Returns all bytes that are left in the input.
+/// Returns all remaining bytes of the input.
 ///
 /// Reads at most 1,048,576 times, each time up to 4,096 bytes.
 ///
 /// # Errors
 ///
-/// `Unreadable` if a read fails, or if none of them reports the end; `NoMemory` if out of memory.
-/// What was read is dropped.
+/// `Unreadable` if a read fails, or if no read reports the end. `NoMemory` if out of memory. The
+/// bytes read so far are dropped.
 pub fn read_whole<R: Read + Drop>(alloc: Global, mut input: R) -> Result<Vec<u8>, Failure>
     ensures whole { IfOk result (λ bytes. IfSome (R.remaining input) (λ left.
         bytes.items ≡ left)) }

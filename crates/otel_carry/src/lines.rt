@@ -5,27 +5,27 @@ ghost use Rattle.otel_carry.specs.Lines.{fault_text, first_word};
 
 use std::fmt;
 
-/// What a line asks for.
+/// The request of a line.
 #[derive(Clone, Copy)]
 pub enum Line<'a> {
-    /// `attach NAME` or `attach NAME STATE`: attach a context with this name and, if one is given,
-    /// this trace state.
+    /// `attach NAME` or `attach NAME STATE`: attaches a context with this name and, if given, this
+    /// trace state.
     Attach {
         /// One or more bytes `!` to `~`.
         name: &'a str,
         /// Everything after the second space.
         state: Option<&'a str>,
     },
-    /// `detach N`: detach the attach with this number, 0 for the first of the input.
+    /// `detach N`: detaches the context attached by attach number N, counted from 0.
     Detach(usize),
 }
 
-/// The reason why a line can't be carried out. Its `Display` prints what the program says of it.
+/// The reason why a line can't be carried out. Its `Display` prints the program's message.
 #[derive(Clone, Copy, Debug, PartialEq, Eq)]
 pub enum Fault {
-    /// The line begins neither with `attach ` nor with `detach `.
+    /// The line starts neither with `attach ` nor with `detach `.
     UnknownCommand,
-    /// The name of an attach is empty, or has a byte that isn't one of `!` to `~`.
+    /// The name of an attach is empty, or has a byte outside `!` to `~`.
     BadName,
     /// The trace state of an attach isn't valid by the W3C's rules.
     BadTraceState,
@@ -46,12 +46,11 @@ impl fmt::Display for Fault {
     }
 }
 
-/// Returns what the line asks for. Takes no memory.
+/// Returns the request of the line. Doesn't allocate.
 ///
 /// # Errors
 ///
-/// The fault of the line's form. A trace state isn't examined, so `BadTraceState` is never
-/// returned.
+/// The fault of the line's form. Doesn't check the trace state, so never returns `BadTraceState`.
 pub fn parse(line: &str) -> Result<Line<'_>, Fault>
     ensures line { IfOk result (Reads line.now) }
     ensures fault { IfErr result (IsFault line.now) }
@@ -65,7 +64,7 @@ pub fn parse(line: &str) -> Result<Line<'_>, Fault>
     Err(Fault::UnknownCommand)
 }
 
-/// Parses what follows `attach `.
+/// Parses the text after `attach `.
 fn attach_of(rest: &str) -> Result<Line<'_>, Fault>
     ensures line { IfOk result (IsAttach rest.now) }
     ensures fault { IfErr result (λ fault.
@@ -88,7 +87,7 @@ fn is_name(name: &str) -> bool
     !name.is_empty() && name.bytes().all(|byte| byte.is_ascii_graphic())
 }
 
-/// Parses what follows `detach `.
+/// Parses the text after `detach `.
 fn detach_of(digits: &str) -> Result<Line<'_>, Fault>
     ensures line { IfOk result (IsDetach digits.now) }
     ensures fault { IfErr result (λ fault.

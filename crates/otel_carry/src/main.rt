@@ -1,5 +1,5 @@
 //! Reads attaches and detaches from standard input, runs them, and prints the positions of the
-//! contexts, what was injected from the current one, and what is extracted again.
+//! contexts, the texts injected from the current one, and the context extracted again.
 #![tactic(auto)]
 
 pub mod carry;

@@ -1,4 +1,4 @@
-//! The program's own propagator, which carries a context's name.
+//! The program's own propagator, for a context's name.
 ghost use Rattle.std.specs.Prelude.{◌≡◌, IfOk, map, option_map, string_bytes};
 ghost use Rattle.otel_carry.specs.NamedContext.{name_in, name_fields};
 
@@ -18,8 +18,7 @@ pub fn name_of(context: &Context) -> Option<&str>
     }
 }
 
-/// Sets `Context-Name` to the context's name, if it has one, and extracts a copy of the given
-/// context.
+/// Sets `Context-Name` to the context's name, if it has one. Extracts a copy of the given context.
 #[derive(Drop)]
 pub struct NameMember {
     /// The allocator of the texts that are set.

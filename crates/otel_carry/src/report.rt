@@ -1,4 +1,4 @@
-//! What the program writes of a run, line by line.
+//! Writes the report of a run, line by line.
 ghost use Rattle.std.specs.Prelude.{OnOk};
 ghost use Rattle.std.specs.Io.KnownBytes.{Appends};
 ghost use Rattle.otel_carry.specs.Report.{AreLinesOf, Writes, current_line, line_at, lines_at};

@@ -5,7 +5,7 @@ use Rattle.std.specs.List.{list_all}
 use Rattle.std.proofs.lemmas.Bool.{and_parts, and_from, not-true, both_ways, eq-eqb}
 use Rattle.std.proofs.lemmas.List.Folds.{list_all-append}
 
--- the byte stands nowhere in the text
+-- the byte isn't in the text
 abbrev pub Lacks : ℕ → List ℕ → Type 0
 Lacks c xs = list_all (λ b. not (b == c)) xs ≡ true
 

@@ -1,4 +1,4 @@
--- The escapes of `percent_encoding` with this set are those of `specs`.
+-- The escapes of `percent_encoding` with this set are the ones of `specs`.
 use Rattle.std.proofs.Common.{◌≡◌, ℕ, ◌/◌, ◌%◌, ◌<◌, true, List, [], ◌∷◌, ◌++◌, All, refl, sym, ap}
 use Rattle.std.proofs.Common.{◌∙◌, ⊎_elim, arith}
 use Rattle.std.specs.Prelude.{not}

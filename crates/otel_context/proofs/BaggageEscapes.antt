@@ -1,4 +1,4 @@
--- Escapes determine their text, and which bytes stand in them.
+-- Escapes determine their text; which bytes they contain.
 use Rattle.std.proofs.Common.{◌≡◌, ◌≢◌, ℕ, ◌*◌, ◌/◌, ◌%◌, ◌≤◌, true, false, List, [], ◌∷◌, ◌++◌}
 use Rattle.std.proofs.Common.{length, refl, sym, ap, ◌∙◌, ⊎_elim, arith}
 use Rattle.std.specs.Prelude.{not, ◌==◌}
@@ -69,7 +69,7 @@ escaped-injective (x ∷ xs) (y ∷ ys) h =
     (cases_Bool (is_unreserved y)))
     (cases_Bool (is_unreserved x))
 
--- ---- neither a comma nor a semicolon stands among escapes
+-- ---- escapes contain neither a comma nor a semicolon
 
 plain_no_comma : (b : ℕ) → is_unreserved b ≡ true → not (b == 44) ≡ true
 plain_no_comma b h = grind (arith, nat_tests)

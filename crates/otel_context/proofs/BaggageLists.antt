@@ -22,7 +22,7 @@ AreDistinct ms = IsDistinct bytes_eq (keys ms)
 abbrev pub HasNone : List ℕ → List Member → Type 0
 HasNone key ms = AllByRecursion (λ other. bytes_eq key other ≡ false) (keys ms)
 
--- ---- where no member has the key
+-- ---- if no member has the key
 
 map_others : (m : Member) (ms : List Member) → HasNone m.key ms → map (λ other. if has_key m.key other then m else other) ms ≡ ms
 map_others m [] h = refl

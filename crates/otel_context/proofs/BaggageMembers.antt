@@ -99,7 +99,7 @@ length-metadata : (m : List ℕ) → length (metadata_text m) ≤ 3 * length m
 length-metadata [] = omega arith
 length-metadata (b ∷ bs) = omega arith
 
--- with the comma after it, the text of a member has at most three bytes for each of its own
+-- the text of a member and the comma after it have at most three bytes for each byte of the member
 member_short : (t : Member) → IsValidMember t → length (member_text t) + 1 ≤ 3 * weight_of t
 member_short t good =
     omega (arith, key_nonempty t.key good.0, length-escaped t.value, length-metadata t.metadata, length-append t.key (61 ∷ escaped t.value ++ metadata_text t.metadata), length-append (escaped t.value) (metadata_text t.metadata))

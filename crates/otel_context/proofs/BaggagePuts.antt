@@ -1,4 +1,4 @@
--- What inserts and removals do to the members of a baggage.
+-- The effect of inserts and removals on the members of a baggage.
 use Rattle.std.proofs.Common.{◌≡◌, ℕ, suc, length-append, length-take, length-drop, ◌+◌, ◌-◌, ◌<◌}
 use Rattle.std.proofs.Common.{◌≤◌, Bool, true, false, List, [], ◌∷◌, length, All, Option}
 use Rattle.std.proofs.Common.{Some, None, refl, sym, ap, subst, ◌∙◌, ⊎_elim, arith, take, drop}
@@ -92,7 +92,7 @@ get_is (o ∷ es) key =
     ∙ sym (ap (option_map (λ m. (m.value, m.metadata))) (at_later key (entry_member o) ms t)))
     (cases_Bool (bytes_eq key o.0))
 
--- the member of the key, from what stands beside the key
+-- the member of the key, from the value beside the key
 pub member_found : (es : List Entry) (key : List ℕ) (beside : List ℕ × List ℕ) → lookup (bytes_eq key) es ≡ Some beside → member_at (entry_members es) key ≡ Some (entry_member (key, beside))
 member_found [] key beside h = absurd (cc)
 member_found (o ∷ es) key beside h =
@@ -190,7 +190,7 @@ key_held (o ∷ ms) key old valid h =
     (λ e. key_held ms key old (All-tail IsValidMember o ms valid) (sym (at_later key o ms e) ∙ h))
     (cases_Bool (has_key key o))
 
--- ---- what is accepted is a baggage again
+-- ---- the baggage after an accepted insert is valid
 
 module _ (ms : List Member) (m : Member) (held : IsBaggage ms) (text : is_utf8 m.value ≡ true) (cut : IsTrimmed m.metadata) (distinct : AreDistinct (put ms m)) (ok : accepts ms m ≡ true) where
   abbrev may_stand : Bool
@@ -250,7 +250,7 @@ module _ (ms : List Member) (m : Member) where
       ap (λ x. if x then Some n else None) (sym (a ∙ and-true (fits n)))
       ∙ ap (λ n. if accepts ms m then Some n else None) (sym w)
 
-  -- from what the others weigh
+  -- from the weight of the others
   pub after_is : (o : ℕ) → AreDistinct ms → weight_of_others ms m.key ≡ Some o → (if nat_le (o + weight_of m) max_len_of_all_pairs then Some (o + weight_of m) else None) ≡ weight_after ms m
   after_is o d h = by (member_at ms m.key) refl
     where
@@ -304,7 +304,7 @@ module _ (ms : List Member) (m : Member) where
       (λ f. f)
       (cases_Bool (accepts ms m))
 
--- what the others weigh, from what stands beside the key
+-- the weight of the others, from the value beside the key
 pub others_held : (es : List Entry) (key : List ℕ) (beside : List ℕ × List ℕ) → lookup (bytes_eq key) es ≡ Some beside
     → weight_of_others (entry_members es) key ≡ Some (weight (entry_members es) - weight_of (entry_member (key, beside)))
 others_held es key beside h =
@@ -325,7 +325,7 @@ module _ (es : List Entry) (key : List ℕ) (new : Bool) (h : lookup (bytes_eq k
   pub others_refused : new ≡ false → weight_of_others (entry_members es) key ≡ None
   others_refused t = others_new ∙ cond-false new (Some (weight (entry_members es))) None t
 
--- ---- what the calls leave
+-- ---- the results of the calls
 
 pub none_held : (es : List Entry) → es ≡ [] → IsBaggage (entry_members es) × (0 ≡ weight (entry_members es))
 none_held es is =

@@ -1,4 +1,4 @@
--- A text that was trimmed stays as it is.
+-- Trimming a trimmed text doesn't change it.
 use Rattle.std.proofs.Common.{◌≡◌, ℕ, true, List, [], ◌∷◌, length, refl, sym, ap, ◌∙◌, ⊎_elim}
 use Rattle.std.specs.Prelude.{◌&&◌, ◌==◌}
 use Rattle.std.specs.Char.{is_whitespace}

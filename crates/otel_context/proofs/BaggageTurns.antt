@@ -1,4 +1,4 @@
--- A baggage that is made of members in turn isn't empty once one of them is accepted.
+-- A baggage made from members inserted in turn isn't empty once one of them is accepted.
 use Rattle.std.proofs.Common.{◌≡◌, Bool, true, false, List, [], ◌∷◌, ◌++◌, map, length, sym, ap, ◌∙◌, arith}
 use Rattle.std.specs.Prelude.{if◌then◌else◌, fold, Result}
 use Rattle.std.specs.Result.{IsOk}
@@ -33,12 +33,12 @@ accepted_some done rest m taken none =
     (λ e. put_some (from_members done) m (sym (cond-true (accepts (from_members done) m) (put (from_members done) m) (from_members done) taken) ∙ e))
     (sym (fold-append insert [] done (m ∷ rest)) ∙ none)
 
--- the baggage of those that were inserted so far, and the others that are left
+-- the baggage of the members inserted so far, and the remaining members
 pub record InsertedSoFar (all baggage done left : List Member) : Type 0 where
   pub baggage_is : baggage ≡ from_members done
   pub parts : all ≡ done ++ left
 
--- if all of them give the empty baggage, no insert fails, as a failing one would be accepted
+-- if all of them give the empty baggage, no insert fails, since a failing one would be accepted
 pub none_fails : {A E : Type 0} (r : Result A E) (all baggage done left rest : List Member) (m n : Member)
     → InsertedSoFar all baggage done left → left ≡ n ∷ rest → m ≡ n → accepts baggage m ≡ true → from_members all ≡ [] → IsOk r
 none_fails r all baggage done left rest m n h more same taken none =

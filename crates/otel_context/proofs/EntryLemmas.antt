@@ -1,4 +1,4 @@
--- A list of shared entries in rising order of their keys, beside the finite map that it stands for.
+-- A list of shared entries in rising order of their keys, and the finite map that it holds.
 use Rattle.std.proofs.Common.{bytes_eq, drop-cons, ◌+◌, Ordering, Less, Equal, Greater, ◌≡◌, ◌<◌, zero, suc, ℕ, List, [], ◌∷◌, ◌++◌, length, get_or, take, drop, add-one, append_assoc, None, Some, Bool, true, false, cond, ◌&&◌, T, HoldsAt, nat_cmp, is_eq, is_lt, refl, sym, ap, subst, ◌∙◌, arith}
 use Rattle.std.specs.List.{AllZip}
 use Rattle.std.specs.List.Sorted.{IsNonDecreasingBy, IsPartitionPoint}
@@ -43,7 +43,7 @@ find_later e es q h = find_first (e.value.key, tree e.value.value) (pairs es) q 
 pub from_index : (es : List (Rc Entry Global)) (i : ℕ) (e : Rc Entry Global) → e ≡ get_or es i e → i < length es → drop i es ≡ e ∷ drop (i + 1) es
 from_index es i e is within = drop-cons es i e within ∙ ap (λ f. f ∷ drop (suc i) es) (sym is) ∙ ap (λ n. e ∷ drop n es) (sym (add-one i))
 
--- a copy that shares the entries stands for the same pairs
+-- a copy that shares the entries has the same pairs
 pub pairs-AllZip : (es fs : List (Rc Entry Global)) → AllZip (λ e f. f.value ≡ e.value) es fs → pairs fs ≡ pairs es
 pairs-AllZip [] [] h = refl
 pairs-AllZip [] (f ∷ fs) h = absurd h
@@ -78,7 +78,7 @@ next_above [] h i d w = absurd (omega arith)
 next_above (e ∷ es) h zero d w = ap is_lt (turned e.value.key _ Less (below_at e.value.key es 0 d (first _ _ h) (omega arith)))
 next_above (e ∷ es) h (suc i) d w = next_above es (second _ _ h) i d (omega arith)
 
--- what a binary search for k asks of the entries
+-- the conditions of a binary search for k among the entries
 pub searchable : (es : List (Rc Entry Global)) (k : List ℕ) → IsRising es → IsNonDecreasingBy (λ e. ordering_index (by_key k e)) es
 searchable es k h = searchable_from_sorted nat_list_cmp_total (λ e. e.value.key) es k
     (λ i d _ w. ap (λ n. is_lt (text_cmp (get_or es n d).value.key (get_or es i d).value.key)) (add-one i) ∙ next_above es h i d (omega arith))
@@ -137,7 +137,7 @@ module _ (k : List ℕ) where
       ∙ ap (λ ps. (e.value.key, tree e.value.value) ∷ ps)
       (put-missed t es at (λ i d a b. h.0 (suc i) d (omega arith) (omega arith), λ i d a b. h.1 (suc i) d (omega arith) (omega arith)))
 
--- what copies of two parts with e between them stand for
+-- the pairs of copies of two parts with e between them
 pub pairs-joined : (front back ys zs fs : List (Rc Entry Global)) (e : Rc Entry Global) (k : List ℕ) (t : Tree)
     → AllZip (λ e f. f.value ≡ e.value) front ys → AllZip (λ e f. f.value ≡ e.value) back zs → fs ≡ (ys ++ e ∷ []) ++ zs
     → e.value.key ≡ k → tree e.value.value ≡ t → pairs fs ≡ pairs front ++ (k, t) ∷ pairs back
@@ -147,7 +147,7 @@ pairs-joined front back ys zs fs e k t h g is key value =
     ∙ map-append pair ys (e ∷ zs)
     ∙ (λ i. pairs-AllZip front ys h i ++ (key i, value i) ∷ pairs-AllZip back zs g i)
 
--- entries whose pairs are those of es with k put at t
+-- entries whose pairs are the ones of es with k put at t
 module _ (es fs : List (Rc Entry Global)) (k : List ℕ) (t : Tree) (is : pairs fs ≡ put text_cmp k t (pairs es)) where
   pub IsRising-put : IsRising es → IsRising fs
   IsRising-put h = subst (λ ps. T (is_sorted text_cmp ps)) (sym is) (is_sorted-put text_cmp nat_list_cmp_total k t (pairs es) h)
@@ -160,7 +160,7 @@ module _ (es fs : List (Rc Entry Global)) (k : List ℕ) (t : Tree) (is : pairs 
       ∙ ap (cond (is_eq (text_cmp q k)) (Some t)) (sym (get_seen es q))
       ∙ sym (get-insert nat_list_cmp_total (entries_seen es) k t q))
 
--- only no entries stand for the empty map
+-- the map is empty only if there are no entries
 pub seen_none : (es : List (Rc Entry Global)) → length es ≡ 0 → entries_seen es ≡ empty
 seen_none [] h = refl
 seen_none (e ∷ es) h = absurd (omega (arith, h))

@@ -16,14 +16,14 @@ pub length-RisesAbove : (p : ℕ) (xs : List ℕ) → RisesAbove p xs → p + le
 length-RisesAbove p [] r = omega arith
 length-RisesAbove p (x ∷ xs) r = omega (arith, length-RisesAbove x xs r.1, r.0)
 
--- no position at or below `q` is live where they rise from above it
+-- if the positions rise from above `q`, no position at or below `q` is live
 is_live-below : (q p : ℕ) (xs : Live) → RisesAbove q (positions xs) → p ≤ q → is_live p xs ≡ false
 is_live-below q p [] r h = refl
 is_live-below q p (x ∷ xs) r h =
     let other : (x.0 == p) ≡ false = ne_eqb x.0 p (λ e. omega (arith, r.0, e)) in
     rw other (is_live-below x.0 p xs r.1 (omega (arith, r.0)))
 
--- above `x` the test of what isn't live needn't ask for `x`
+-- above `x`, the test for positions that aren't live can skip `x`
 dead-above : (x : ℕ × ContextRecord) (xs : Live) (a n : ℕ) → x.0 < a → filter (λ p. not (is_live p (x ∷ xs))) (range_with_len a n) ≡ filter (λ p. not (is_live p xs)) (range_with_len a n)
 dead-above x xs a zero h = refl
 dead-above x xs a (suc n) h =
@@ -59,7 +59,7 @@ pub RisesAbove-push : (p : ℕ) (xs : List ℕ) (x : ℕ) → RisesAbove p xs �
 RisesAbove-push p [] x r h = (h, tt)
 RisesAbove-push p (y ∷ xs) x r h = (r.0, RisesAbove-push y xs x r.1 h)
 
--- what rises from above a number rises from above a lower one
+-- a list that rises from above a number rises from above a lower one
 pub RisesAbove-below : (q p : ℕ) (xs : List ℕ) → q ≤ p → RisesAbove p xs → RisesAbove q xs
 RisesAbove-below q p [] h r = tt
 RisesAbove-below q p (x ∷ xs) h r = (omega (arith, r.0), r.1)
@@ -72,7 +72,7 @@ detach-above q p (x ∷ xs) r h =
     let other : (x.0 == p) ≡ false = ne_eqb x.0 p (λ e. omega arith) in
     rw other (ap (λ (l : Live). x ∷ l) (detach-above x.0 p xs r.1 (omega arith)))
 
--- taking out a position leaves the others in order
+-- removing a position leaves the others in order
 pub RisesAbove-detach : (q p : ℕ) (xs : Live) → RisesAbove q (positions xs) → RisesAbove q (positions (detach p xs))
 RisesAbove-detach q p [] r = tt
 RisesAbove-detach q p (x ∷ xs) r = elim (cases_Bool (x.0 == p)) [

@@ -1,4 +1,4 @@
--- What a map of names does to the list of its keys.
+-- The effect of a map of names on the list of its keys.
 use Rattle.std.proofs.Common.{◌≡◌, ℕ, suc, false, List, [], ◌∷◌, length, refl, sym, ap, ◌∙◌}
 use Rattle.std.proofs.Common.{subst, position, remove, take, drop, slice_get, Some, None, ⊎_elim, cond}
 use Rattle.std.specs.Prelude.{◌+◌, not, nat_lt}

@@ -6,7 +6,7 @@ use Rattle.std.proofs.lemmas.Option.{none-some}
 use Rattle.otel_context.specs.Context.{ContextRecord}
 use Rattle.otel_context.specs.Links.{SetAt, context_by, occupant_by}
 
--- the newest position has the context that stands beside
+-- the newest position has the context beside the slots
 pub context-newest : (kept : ℕ → ContextRecord) (m : ℕ) (c : ContextRecord) (q : ℕ) → q ≡ m → context_by kept m c q ≡ c
 context-newest kept m c q e = ap (λ (b : Bool). if b then c else kept q) (eq-eqb q m e)
 
@@ -31,7 +31,7 @@ live-occupant live kept m c x q h = live-if (live q) (context_by kept m c q) x h
 same : (b b' : Bool) (r r' : ContextRecord) → b' ≡ b → r' ≡ r → (if b' then Some r' else None) ≡ (if b then Some r else None)
 same b b' r r' e f = ap (λ (x : Bool). if x then Some r' else None) e ∙ ap (λ (y : ContextRecord). if b then Some y else None) f
 
--- a position below the newest is taken out
+-- a position below the newest is removed
 pub occupant-below : (live live' : ℕ → Bool) (kept kept' : ℕ → ContextRecord) (m m' p : ℕ) (c : ContextRecord)
     → SetAt live live' p false → ((q : ℕ) → (q ≡ p → ⊥) → kept' q ≡ kept q) → m' ≡ m
     → SetAt (occupant_by live kept m c) (occupant_by live' kept' m' c) p None
@@ -41,7 +41,7 @@ occupant-below live live' kept kept' m m' p c l k e = record {
       (ap (λ (n : ℕ). context_by kept' n c q) e ∙ ap (λ (r : ContextRecord). if q == m then c else r) (k q g));
 }
 
--- the newest is taken out: `o` becomes the newest, and what it kept stands beside
+-- the newest is removed: `o` becomes the newest, and its stored context moves beside the slots
 pub occupant-newest : (live live' : ℕ → Bool) (kept kept' : ℕ → ContextRecord) (m m' o : ℕ) (c c' : ContextRecord)
     → SetAt live live' m false → ((q : ℕ) → (q ≡ o → ⊥) → kept' q ≡ kept q) → m' ≡ o → (o ≡ m → ⊥) → c' ≡ kept o
     → SetAt (occupant_by live kept m c) (occupant_by live' kept' m' c') m None
@@ -53,7 +53,7 @@ occupant-newest live live' kept kept' m m' o c c' l k is_o not_m is_c = record {
   ]);
 }
 
--- position `p` is put above the newest, which keeps what stood beside
+-- position `p` is put above the newest, which stores the context that was beside the slots
 pub occupant-above : (live live' : ℕ → Bool) (kept kept' : ℕ → ContextRecord) (m m' p : ℕ) (c c' : ContextRecord)
     → SetAt live live' p true → ((q : ℕ) → (q ≡ p → ⊥) → (q ≡ m → ⊥) → kept' q ≡ kept q) → kept' m ≡ c → m' ≡ p
     → SetAt (occupant_by live kept m c) (occupant_by live' kept' m' c') p (Some c')

@@ -1,4 +1,4 @@
--- How attributes that are set in turn make up those that were set so far, and what makes the event of an error.
+-- Attributes set in turn, and the event of an error.
 use Rattle.std.proofs.Common.{◌≡◌, ℕ, List, ◌∷◌, length, take, fold, sym, ap, ◌∙◌, arith, length-append, Bool, true}
 use Rattle.std.proofs.Math.Seq.{take-append_seam}
 use Rattle.std.specs.Prelude.{Option, Result, Ok, Err, OnOk, OnErr, IfSome, codes}
@@ -6,7 +6,7 @@ use Rattle.otel_base.specs.KeyValue.{Attribute}
 use Rattle.otel_context.specs.SpanEffects.{message, RecordsError, SetSoFar, SetsBeginning}
 
 module _ {S : Type 0} (after : S → Attribute → S) (old : S) (attributes : List Attribute) where
-  -- if one is left, those set so far are a beginning
+  -- if one remains, a prefix was set
   set_some : (now : S) (done left : List Attribute) (next : Attribute) (rest : List Attribute) → left ≡ next ∷ rest → SetSoFar after old attributes now done left → SetsBeginning after old attributes now
   set_some now done left next rest more h = record {
     count = length done;

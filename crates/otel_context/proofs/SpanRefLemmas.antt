@@ -1,4 +1,4 @@
--- What is written through a reference to a span is an effect on it, and leaves the other spans.
+-- A write through a reference to a span is an effect on it, and leaves the other spans unchanged.
 use Rattle.std.proofs.Common.{◌≡◌, ℕ, Option, Some, None, Bool, cond, true, false, Result, Ok, Err, refl, sym, ap, ◌∙◌}
 use Rattle.std.specs.Result.{IsOk, OnOk, OnErr}
 use Rattle.std.specs.Option.{option_map_or}
@@ -14,7 +14,7 @@ module _ {S : Type 0} where
   kept true o v h = sym (h refl)
   kept false o v h = refl
 
-  -- to write a span that stands there changes nothing
+  -- replacing a span with itself changes nothing
   replace-same : (t : SpansState S) (k : ℕ) (s : S) → get t k ≡ Some s → replace t k s ≡ t
   replace-same t k s there =
       let m = t.spans in
@@ -26,12 +26,12 @@ module _ {S : Type 0} where
   replace_found-same t (Some k) s there = replace-same t k s there
   replace_found-same t None s there = refl
 
-  -- what was written is an effect on what was found
+  -- a write is an effect on the span that was found
   pub changed : (effect : S → S) (t : SpansState S) (number : Option ℕ) (s w : S) (after : SpansState S)
       → Some s ≡ find t number → after ≡ replace_found t number w → w ≡ effect s → after ≡ after_effect effect t number
   changed effect t number s w after there written is = rw (← there) (written ∙ ap (replace_found t number) is)
 
-  -- the same of a call that may report an error
+  -- the same for a call that may return an error
   pub changed-ok : {A E : Type 0} (r : Result A E) (effect : S → S) (t : SpansState S) (number : Option ℕ) (s w : S) (after : SpansState S)
       → Some s ≡ find t number → after ≡ replace_found t number w → OnOk r (w ≡ effect s) → OnOk r (after ≡ after_effect effect t number)
   changed-ok (Ok x) effect t number s w after there written is = changed effect t number s w after there written is
@@ -56,7 +56,7 @@ module _ {S : Type 0} where
   becomes-err (Ok x) R t number s w after there written h = tt
   becomes-err (Err e) R t number s w after there written h = becomes R t number s w after there written h
 
-  -- a call that leaves a span alone that doesn't record leaves the table too
+  -- a call that leaves a span unchanged if it doesn't record leaves the table unchanged too
   pub idle-found : {A E : Type 0} (r : Result A E) (records : S → Bool) (t : SpansState S) (number : Option ℕ) (s w : S) (after : SpansState S)
       → Some s ≡ find t number → after ≡ replace_found t number w → (records s ≡ false → IsOk r × (w ≡ s))
       → option_map_or records (find t number) false ≡ false → IsOk r × (after ≡ t)
@@ -68,7 +68,7 @@ module _ {S : Type 0} where
   passed_over true o v h = absurd (h refl)
   passed_over false o v h = refl
 
-  -- to write the span under the number leaves the others
+  -- writing the span with the number leaves the others unchanged
   pub OthersStay-replaced : (number : Option ℕ) (first t : SpansState S) (w : S) → OthersStay number first t → OthersStay number first (replace_found t number w)
   OthersStay-replaced None first t w h = h
   OthersStay-replaced (Some k) first t w h = (

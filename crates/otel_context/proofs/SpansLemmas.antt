@@ -58,7 +58,7 @@ module _ {S : Type 0} where
       ∙ ap (λ n. n + 1) rest ∙ (omega arith)
 
 module _ {S H : Type 0} where
-  -- the map of the entries finds what the hash map finds
+  -- the map of the entries finds the same values as the hash map
   pub get-view : (m : HashMap ℕ S H) (q : ℕ) → map.get (map_of m) q ≡ hash.get ◌==◌ m q
   get-view m q = map.get-from_entries nat_cmp_total m.entries q ∙ find_is_lookup q m.entries
 
@@ -108,7 +108,7 @@ module _ {S : Type 0} where
   folded true o v h = sym (h refl)
   folded false o v h = refl
 
-  -- to take a span back that was just put in leaves the same spans
+  -- taking back a span that was just inserted leaves the same spans
   pub HasSameSpans-take_back : (t : SpansState S) (s : S) → get t t.next_number ≡ None → HasSameSpans t (take (insert t s) t.next_number)
   HasSameSpans-take_back t s absent =
       let m = t.spans in let k = t.next_number in
@@ -120,6 +120,6 @@ module _ {S : Type 0} where
         next_number = inr refl;
       }
 
-  -- if numbers are left, a table takes no span only because memory ran out
+  -- if numbers are left, a table refuses a span only if out of memory
   pub cause_of-memory : (t : SpansState S) → (t.next_number ≡ used_up → ⊥) → cause_of t ≡ Memory alloc_error
   cause_of-memory t left = ap (λ b. if b then NumbersUsedUp else Memory alloc_error) (false_from_ne_true (t.next_number == used_up) (λ e. left ((unsigned_Decides t.next_number used_up).0 e)))

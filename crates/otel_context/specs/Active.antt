@@ -1,4 +1,4 @@
--- What a call does that makes a span the current one, or lends a function the reference to it.
+-- The effect of the calls that make a span active, or pass a function a reference to it.
 use Rattle.std.specs.Prelude.{◌≡◌, ℕ, Ok}
 use Rattle.std.specs.declared.alloc.AllocError.{AllocError}
 use Rattle.std.specs.Borrow.{MutBor}
@@ -15,19 +15,19 @@ use Rattle.otel_context.specs.Stack.{StackState, Attaches}
 abbrev pub AttachesAt : ℕ → ContextRecord → StackState → StackState → Type 0
 AttachesAt position context old new = Attaches {E = AllocError} context old new (Ok position)
 
--- a function that is lent a reference, and returns a value of type T
+-- a function that takes a reference, and returns a value of type T
 abbrev pub OnSpan : Type 0 → Type 0 → Type 0 → Type 1
 OnSpan F T S = Once F (MutBor (SpanRef S) × Unit {0}) (T × (MutBor (SpanRef S) × Unit {0}))
 
 module _ {F T S : Type 0} (g : OnSpan F T S) (f : F) where
-  -- whatever reference f is lent, it leaves that one there and no other, as each call of a
-  -- `SpanRef` does
+  -- f never replaces the reference that it is passed with another one, as no call of a `SpanRef`
+  -- does
   abbrev pub KeepsReference : Type 0
   KeepsReference =
       (lent left : MutBor (SpanRef S)) (returned : T)
       → g.post f (lent, tt) (returned, (left, tt)) → IsSameReference lent.now left.now
 
-  -- f was called once, on a reference to the context's span in the table, and returned that. The
+  -- f was called once, with a reference to the context's span in the table, and returned that. The
   -- table is as f left it, and no other span changed
   pub record CallsOnce (context : ContextRecord) (old : SpansState S) (returned : T)
       (new : SpansState S) : Type 0 where

@@ -4,7 +4,7 @@ use Rattle.std.specs.List.{join_with_byte}
 use Rattle.otel_context.specs.BaggageText.{escaped}
 use Rattle.otel_context.specs.BaggageMember.{Member, member_of}
 
--- `;` (59) and the metadata as it is, if there is some.
+-- `;` (59) and the metadata as it is, unless it is empty.
 abbrev pub metadata_text : List ℕ → List ℕ
 metadata_text [] = []
 metadata_text (b ∷ bs) = 59 ∷ b ∷ bs
@@ -22,6 +22,6 @@ header_example : header (member_of (codes "k") (codes "a b") (codes "m=1")
     ∷ member_of (codes "l") (codes "2") [] ∷ []) ≡ codes "k=a%20b;m=1,l=2"
 header_example = refl
 
--- The most bytes of a header, 3 * 8192 - 1. Not in the Rust crate.
+-- The maximum number of bytes of a header, 3 * 8192 - 1. Not in the Rust crate.
 abbrev pub max_len_of_header : ℕ
 max_len_of_header = 24575

@@ -1,5 +1,5 @@
--- What a context is: a record of four parts. Sharing among contexts doesn't appear.
--- A word beside a method of `Context` has the method's name; `baggage` is the record's own part.
+-- The model of a context: a record of four parts, without the sharing among contexts. Definitions
+-- have the names of the methods of `Context`; `baggage` is the record's own part.
 use Rattle.std.specs.Prelude.{ℕ, List, Bool, true, false, Option, Some, None, is_some}
 use Rattle.std.specs.Option.{option_and_then, option_map_or}
 use Rattle.std.specs.Ordering.{nat_cmp}
@@ -9,8 +9,8 @@ use Rattle.otel_ids.specs.SpanContext.{SpanContextRecord, no_span_context}
 use Rattle.otel_base.specs.AnyValue.{Tree}
 use Rattle.otel_context.specs.BaggageMember.{Member}
 
--- a finite map from texts, in the order of their bytes, to value trees
--- (not in the Rust crate, whose map goes from types to values of any type)
+-- a finite map from texts, in the order of their bytes, to value trees (not in the Rust crate,
+-- whose map is from types to values of any type)
 abbrev pub EntryMap : Type 0
 EntryMap = map.FinMap (slice_cmp nat_cmp) Tree
 
@@ -20,23 +20,23 @@ pub record SpanPart : Type 0 where
   pub context : SpanContextRecord
   pub number : Option ℕ
 
--- a context: its entries, its baggage, its active span, and whether telemetry is suppressed
--- (the Rust crate's `Context`). Without a baggage, `None` stands for the empty one.
+-- a context: its entries, its baggage, its active span, and whether telemetry is suppressed (the
+-- Rust crate's `Context`). The baggage `None` means the empty one.
 pub record ContextRecord : Type 0 where
   pub entries : EntryMap
   pub baggage : Option (List Member)
   pub span : Option SpanPart
   pub suppressed : Bool
 
--- the context that has no part (`Context::new`)
+-- the empty context (`Context::new`)
 abbrev pub empty_context : ContextRecord
 empty_context = record { entries = map.empty; baggage = None; span = None; suppressed = false }
 
--- the value of the entry with that name, if there is one (`Context::get`)
+-- the value of the entry with that name, if any (`Context::get`)
 abbrev pub get : ContextRecord → List ℕ → Option Tree
 get context key = map.get context.entries key
 
--- the same context, with the entry in place of an older one with that name (`Context::with_value`)
+-- the same context, with the entry in place of any entry with that name (`Context::with_value`)
 abbrev pub with_value : ContextRecord → List ℕ → Tree → ContextRecord
 with_value context key value = record context { entries = map.insert context.entries key value }
 
@@ -57,19 +57,19 @@ has_active_span context = is_some context.span
 abbrev pub span_context : ContextRecord → SpanContextRecord
 span_context context = option_map_or (λ span. span.context) context.span no_span_context
 
--- the number of the active span in its span table, if it is a local one
--- (`Context::span_number`; not in the Rust crate)
+-- the number of the active span in its span table, if it is local (`Context::span_number`; not in
+-- the Rust crate)
 abbrev pub span_number : ContextRecord → Option ℕ
 span_number context = option_and_then (λ span. span.number) context.span
 
--- the same context, whose active span is a remote one (`Context::with_remote_span_context`)
+-- the same context, whose active span is remote (`Context::with_remote_span_context`)
 abbrev pub with_remote_span_context : ContextRecord → SpanContextRecord → ContextRecord
 with_remote_span_context context remote = record context {
   span = Some (record { context = remote; number = None });
 }
 
--- the same context, whose active span is a local one, of this span context and this number in its
--- span table (`Context::with_span`)
+-- the same context, whose active span is local, with this span context and this number in its span
+-- table (`Context::with_span`)
 abbrev pub with_span : ContextRecord → SpanContextRecord → ℕ → ContextRecord
 with_span context local number = record context {
   span = Some (record { context = local; number = Some number });

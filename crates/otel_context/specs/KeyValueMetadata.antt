@@ -9,6 +9,6 @@ use Rattle.otel_context.specs.BaggageMember.{Member, member_of}
 abbrev pub from_key_value : KeyValue → Member
 from_key_value p = member_of p.key (display (value_of p.value)) []
 
--- Each value is a text, so its printed text takes no memory. Not in the Rust crate.
+-- Each value is a text, so printing it doesn't allocate. Not in the Rust crate.
 abbrev pub AreTexts : List KeyValue → Type 0
 AreTexts attributes = All (λ attribute. IsTrue (is_text (value_of attribute.value))) attributes

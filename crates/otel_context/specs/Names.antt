@@ -1,4 +1,4 @@
--- The names of a map: keys that it holds, and texts by which it is asked for one.
+-- The names of a map: its keys, and texts by which to look one up.
 use Rattle.std.specs.Prelude.{ℕ, Bool, List, map, All, ⊤}
 use Rattle.std.specs.Str.{bytes_eq}
 use Rattle.otel_context.specs.BaggageView.{Entry}
@@ -14,7 +14,7 @@ text_of (Asked text) = text.now
 abbrev pub has_same_text : Name → Name → Bool
 has_same_text x y = bytes_eq (text_of x) (text_of y)
 
--- it is a key
+-- it is an owned key
 abbrev pub IsHeld : Name → Type 0
 IsHeld (Held key) = ⊤
 IsHeld (Asked text) = ⊥
@@ -27,10 +27,10 @@ Named = Name × (List ℕ × List ℕ)
 abbrev pub entry_of : Named → Entry
 entry_of e = (text_of e.0, e.1)
 
--- the same of each
+-- the same for each
 abbrev pub entries_of : List Named → List Entry
 entries_of es = map entry_of es
 
--- each name is a key
+-- each name is an owned key
 abbrev pub AreHeld : List Named → Type 0
 AreHeld es = All (λ e. IsHeld e.0) es

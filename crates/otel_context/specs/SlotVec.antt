@@ -1,18 +1,18 @@
--- What contracts see of the vector of slots. No public contract cites this file.
+-- The model of the vector of slots. No public contract cites this file.
 use Rattle.std.specs.Prelude.{ℕ, List, refl}
 use Rattle.std.specs.Coded.{Coded, code_by, coded×, coded_ℕ, coded_list}
 use Rattle.otel_context.specs.declared.stack.slots.slot_vec.Slot.{Slot}
 use Rattle.otel_context.specs.contracts.stack.slots.slot_vec.Slot as slot
 
--- the slots, how many fit before more memory is requested, how many emptied slots were stepped
--- over, and how many times the vector was asked whether a position is live
+-- the slots, the number that fits before more memory is requested, the number of emptied slots that
+-- were stepped over, and the number of queries whether a position is live
 pub record SlotVecState : Type 0 where
   pub items : List Slot
   pub capacity : ℕ
   pub stepped : ℕ
   pub asked : ℕ
 
--- a code of the vector: that of the tuple of the four fields
+-- a code of the vector: the one of the tuple of the four fields
 abbrev pub slot_vec_code : Coded SlotVecState
 slot_vec_code = code_by (List Slot × (ℕ × (ℕ × ℕ)))
     (coded× (coded_list slot.the_row.coded) (coded× coded_ℕ (coded× coded_ℕ coded_ℕ)))

@@ -1,4 +1,4 @@
--- What the calls of a span that are made of others do.
+-- The effect of the provided calls of a span.
 use Rattle.std.specs.Prelude.{◌≡◌, ◌<◌, ℕ, List, [], ◌∷◌, ◌++◌, length, map, take, fold, codes}
 use Rattle.std.specs.Prelude.{Bool, Option, IfSome, MatchBool}
 use Rattle.std.specs.declared.vec.Vec.{Vec}
@@ -29,15 +29,15 @@ module _ {S : Type 0} where
   SetsAttributes is_recording after_attribute old attributes new =
       MatchBool (is_recording old) (new ≡ each_set after_attribute old attributes) (new ≡ old)
 
-  -- the first of the attributes were set, in order, but not all
+  -- a prefix of the attributes was set, in order, but not all
   pub record SetsBeginning (after_attribute : S → Attribute → S) (old : S)
       (attributes : List Attribute) (new : S) : Type 0 where
     pub count : ℕ
     pub within : count < length attributes
     pub set : new ≡ each_set after_attribute old (take count attributes)
 
-  -- an event `exception` at that time, with the error's text: what the error prints, if its type
-  -- says what it prints
+  -- an event `exception` at that time, with the error's printed text, if the error's type specifies
+  -- what it prints
   pub record AddsException (after_event : List ℕ → ℕ → List Attribute → S)
       (output : Option (List ℕ)) (time : ℕ) (new : S) : Type 0 where
     pub printed : List ℕ
@@ -51,7 +51,7 @@ module _ {S : Type 0} where
   RecordsError is_recording after_event old output time new =
       MatchBool (is_recording old) (AddsException (after_event old) output time new) (new ≡ old)
 
-  -- the first ones were set, and the others are left
+  -- the first ones were set, and the others remain
   pub record SetSoFar (after_attribute : S → Attribute → S) (old : S)
       (attributes : List Attribute) (new : S) (done left : List Attribute) : Type 0 where
     pub set : new ≡ each_set after_attribute old done

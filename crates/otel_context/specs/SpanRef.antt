@@ -1,4 +1,4 @@
--- What a reference to the span of a context is, and what a call through it does.
+-- The model of a reference to the span of a context, and the effect of a call through it.
 use Rattle.std.specs.Prelude.{◌≡◌, ℕ, Bool, false, Option}
 use Rattle.std.specs.Option.{option_map_or}
 use Rattle.otel_ids.specs.SpanContext.{SpanContextRecord}
@@ -7,7 +7,7 @@ use Rattle.otel_context.specs.SpanCalls as calls
 use Rattle.otel_context.specs.declared.span.span_ref.SpanRef.{SpanRef}
 
 module _ {S : Type 0} where
-  -- the table that was lent
+  -- the borrowed table
   abbrev pub table_of : SpanRef S → SpansState S
   table_of reference = reference.spans.now
 
@@ -23,7 +23,7 @@ module _ {S : Type 0} where
   abbrev pub span_of : SpanRef S → Option S
   span_of reference = find (table_of reference) (number_of reference)
 
-  -- whether the span records; without a span it doesn't
+  -- whether the span records; `false` without a span
   abbrev pub is_recording : (S → Bool) → SpanRef S → Bool
   is_recording records reference = option_map_or records (span_of reference) false
 

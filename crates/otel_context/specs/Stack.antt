@@ -1,31 +1,33 @@
--- What a stack of contexts is: a list of live attachments with rising positions, and two counts.
--- A word beside a method of `ContextStack` has the method's name: `attach`, `detach`, `current`,
--- `newest_position`.
+-- The model of a stack of contexts: a list of live attachments with rising positions, and two
+-- counts. Definitions have the names of the methods of `ContextStack`: `attach`, `detach`,
+-- `current`, `newest_position`.
 use Rattle.std.specs.Prelude.{◌≡◌, ◌≤◌, ℕ, ◌+◌, ◌<◌, ◌==◌, Bool, not, List, [], ◌∷◌, ◌++◌, length}
 use Rattle.std.specs.Prelude.{map, filter, Option, None, option_map, Result, IfOk, OnErr, IfNone}
 use Rattle.std.specs.List.{find, list_any, range_with_len}
 use Rattle.otel_context.specs.Context.{ContextRecord, empty_context}
 
--- the attachments that are live, each at its position, in the order of the positions
--- (the Rust crate's `ContextStack`, without its holes)
--- after attaching A, B, C and detaching position 2: (1, A) ∷ (3, C) ∷ []
+-- the live attachments, each at its position, in the order of the positions (the Rust crate's
+-- `ContextStack`, without its holes). After attaching A, B, C and detaching position 2: (1, A) ∷
+-- (3, C) ∷ []
 abbrev pub Live : Type 0
 Live = List (ℕ × ContextRecord)
 
--- what contracts see of a stack: the live attachments, how many attaches were accepted, and how
--- many emptied slots were stepped over
--- No running program holds the two counts. A removal looks at the slot of its position, which has
--- the neighbours, and otherwise at live ones only, and so leaves `stepped` (not in the Rust crate).
+-- the model of a stack: the live attachments, the number of accepted attaches, and the number of
+-- emptied slots that were stepped over
+--
+-- The two counts don't exist at run time. A removal reads the slot of its position, which has the
+-- neighbors, and otherwise only live ones, so it leaves `stepped` unchanged (not in the Rust
+-- crate).
 pub record StackState : Type 0 where
   pub live : Live
   pub accepted : ℕ
   pub stepped : ℕ
 
--- a stack that nothing was attached to (`ContextStack::new`)
+-- the empty stack (`ContextStack::new`)
 abbrev pub new_stack : StackState
 new_stack = record { live = []; accepted = 0; stepped = 0 }
 
--- how many attachments a new stack has room for (the Rust crate's `INITIAL_CAPACITY`)
+-- the number of attachments for which a new stack has room (the Rust crate's `INITIAL_CAPACITY`)
 abbrev pub initial_capacity : ℕ
 initial_capacity = 8
 
@@ -33,7 +35,7 @@ initial_capacity = 8
 abbrev pub last_position : ℕ
 last_position = 65534
 
--- what is returned in place of a position, if the greatest is live (the Rust crate's `MAX_POS`)
+-- returned in place of a position, if the greatest is live (the Rust crate's `MAX_POS`)
 abbrev pub no_position : ℕ
 no_position = 65535
 
@@ -50,7 +52,7 @@ positions live = map (λ a. a.0) live
 abbrev pub newest_position : Live → ℕ
 newest_position live = last_or 0 (positions live)
 
--- the current context: that of the newest attachment, or the empty one (`ContextStack::current`)
+-- the current context: the newest one, or the empty context (`ContextStack::current`)
 abbrev pub current : Live → ContextRecord
 current live = last_or empty_context (map (λ a. a.1) live)
 
@@ -62,19 +64,18 @@ context_at position live = option_map (λ a. a.1) (find (λ a. a.0 == position) 
 abbrev pub is_live : ℕ → Live → Bool
 is_live position live = list_any (λ a. a.0 == position) live
 
--- the attachments once the context is attached, at the position above the newest
--- (`ContextStack::attach`, `ContextStack::push`)
--- of (1, A) and B: (1, A) ∷ (2, B) ∷ []
+-- the attachments after attaching the context at the position above the newest
+-- (`ContextStack::attach`, `ContextStack::push`). For (1, A) and B: (1, A) ∷ (2, B) ∷ []
 abbrev pub attach : ContextRecord → Live → Live
 attach context live = live ++ (newest_position live + 1, context) ∷ []
 
--- the attachments at the other positions (`ContextStack::detach`, `ContextStack::pop_id`)
--- of (1, A), (3, C) and 3: (1, A) ∷ []
+-- the attachments at the other positions (`ContextStack::detach`, `ContextStack::pop_id`). For (1,
+-- A), (3, C) and 3: (1, A) ∷ []
 abbrev pub detach : ℕ → Live → Live
 detach position live = filter (λ a. not (a.0 == position)) live
 
--- how many positions from 1 to the newest are not live: the emptied slots that stand
--- of (1, A) ∷ (4, D) ∷ []: 2
+-- the number of positions from 1 to the newest that aren't live, that is, of emptied slots. For (1,
+-- A) ∷ (4, D) ∷ []: 2
 abbrev pub emptied_of : Live → ℕ
 emptied_of live =
     length (filter (λ p. not (is_live p live)) (range_with_len 1 (newest_position live)))
@@ -84,7 +85,7 @@ abbrev pub RisesAbove : ℕ → List ℕ → Type 0
 RisesAbove p [] = Unit {0}
 RisesAbove p (x ∷ xs) = (p < x) × RisesAbove x xs
 
--- what holds of every stack at any time
+-- the invariant of every stack
 pub record IsLawful (stack : StackState) : Type 0 where
   -- positions rise from 1 on
   pub rising : RisesAbove 0 (positions stack.live)
@@ -92,10 +93,10 @@ pub record IsLawful (stack : StackState) : Type 0 where
   pub within : newest_position stack.live ≤ last_position
   -- each position up to the newest is live or an emptied slot
   pub heights : emptied_of stack.live + length stack.live ≡ newest_position stack.live
-  -- each accepted attach is stepped over, an emptied slot or live at most once
+  -- each accepted attach is counted at most once as stepped over, emptied or live
   pub law : stack.stepped + emptied_of stack.live + length stack.live ≤ stack.accepted
 
--- What a call that attaches the context does, and the position that it returns.
+-- The effect of a call that attaches the context, and the position that it returns.
 pub record Attaches {E : Type 0} (context : ContextRecord) (old new : StackState)
     (result : Result ℕ E) : Type 0 where
   -- if the greatest position is live, nothing changes
@@ -113,22 +114,21 @@ pub record Attaches {E : Type 0} (context : ContextRecord) (old new : StackState
   pub err : OnErr result (new ≡ old)
   pub lawful : IsLawful new
 
--- An attach may request memory: there is a position left, and it is past those that a new stack
--- has room for.
+-- An attach may request memory: there is a position left, and the room of a new stack is used up.
 pub record MayRequest (live : Live) : Type 0 where
   pub past : initial_capacity ≤ newest_position live
   pub left : newest_position live < last_position
 
--- What `ContextStack::detach` and `ContextStack::pop_id` do at a position, and what they return.
+-- The effect and the result of `ContextStack::detach` and `ContextStack::pop_id` at a position.
 pub record Detaches (position : ℕ) (old new : StackState) (result : Option ContextRecord)
     : Type 0 where
-  -- the context that is live there, if there is one
+  -- the context that is live there, if any
   pub given : result ≡ context_at position old.live
-  -- if nothing is, nothing changes
+  -- if none is, nothing changes
   pub none : IfNone result (new ≡ old)
   -- nothing is ever live at 65535
   pub unattached : position ≡ no_position → (result ≡ None) × (new ≡ old)
-  -- the others stay, and so do the two counts
+  -- the other attachments and both counts are unchanged
   pub live : new.live ≡ detach position old.live
   pub accepted : new.accepted ≡ old.accepted
   pub stepped : new.stepped ≡ old.stepped

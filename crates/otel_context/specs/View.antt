@@ -1,6 +1,5 @@
--- From code to meaning: what contracts see of the fields of a context, and the codes by which a
--- model's value may hold contexts, slots, stacks and span tables. No public contract cites a word
--- of this file.
+-- From code to models: the views of the fields of a context, and the codes with which a model's
+-- value contains contexts, slots, stacks and span tables. No public contract cites this file.
 use Rattle.std.specs.Prelude.{ℕ, List, Bool, Option, Some, None, T, map, refl}
 use Rattle.std.specs.declared.rc.Rc.{Rc}
 use Rattle.std.specs.declared.alloc.Global.{Global}
@@ -27,7 +26,7 @@ use Rattle.otel_context.specs.declared.context.contents.ActiveSpan.{ActiveSpan}
 abbrev pub pairs : List (Rc Entry Global) → List (List ℕ × Tree)
 pairs = map (λ e. (e.value.key, tree e.value.value))
 
--- how an entry's key compares with that one, by bytes
+-- the order of an entry's key and that key, by bytes
 abbrev pub by_key : List ℕ → Rc Entry Global → Ordering
 by_key key e = slice_cmp nat_cmp e.value.key key
 
@@ -35,7 +34,7 @@ by_key key e = slice_cmp nat_cmp e.value.key key
 abbrev pub IsRising : List (Rc Entry Global) → Type 0
 IsRising entries = T (is_sorted (slice_cmp nat_cmp) (pairs entries))
 
--- the finite map that a list of shared entries stands for
+-- the finite map held by a list of shared entries
 abbrev pub entries_seen : List (Rc Entry Global) → EntryMap
 entries_seen entries = from_entries (pairs entries)
 
@@ -48,7 +47,7 @@ abbrev pub record_of : Option (Rc ContextRecord Global) → ContextRecord
 record_of None = empty_context
 record_of (Some contents) = contents.value
 
--- a code of entries: that of the map's pairs
+-- a code of entries: the one of the map's pairs
 abbrev pub entries_code : Coded EntryMap
 entries_code = code (coded_list coded_ℕ) tree_code
 
@@ -56,7 +55,7 @@ entries_code = code (coded_list coded_ℕ) tree_code
 abbrev pub members_code : Coded (List Member)
 members_code = coded_list member_code
 
--- a code of active spans: that of the pair of their two fields
+-- a code of active spans: the one of the pair of their two fields
 abbrev pub span_part_code : Coded SpanPart
 span_part_code = code_by (SpanContextRecord × Option ℕ)
     (coded× span_context_code (coded_option coded_ℕ))
@@ -64,7 +63,7 @@ span_part_code = code_by (SpanContextRecord × Option ℕ)
     (λ p. record { context = p.0; number = p.1 })
     (λ _. refl)
 
--- a code of contexts: that of the tuple of their four parts
+-- a code of contexts: the one of the tuple of their four parts
 abbrev pub context_code : Coded ContextRecord
 context_code = code_by (EntryMap × (Option (List Member) × (Option SpanPart × Bool)))
     (coded× entries_code
@@ -73,7 +72,7 @@ context_code = code_by (EntryMap × (Option (List Member) × (Option SpanPart ×
     (λ p. record { entries = p.0; baggage = p.1.0; span = p.1.1.0; suppressed = p.1.1.1 })
     (λ _. refl)
 
--- a code of the slots: that of the tuple of the four fields
+-- a code of the slots: the one of the tuple of the four fields
 abbrev pub slots_code : Coded SlotsState
 slots_code = code_by (List (Option ContextRecord) × (ℕ × (ℕ × ℕ)))
     (coded× (coded_list (coded_option context_code)) (coded× coded_ℕ (coded× coded_ℕ coded_ℕ)))
@@ -81,7 +80,7 @@ slots_code = code_by (List (Option ContextRecord) × (ℕ × (ℕ × ℕ)))
     (λ p. record { slots = p.0; capacity = p.1.0; stepped = p.1.1.0; asked = p.1.1.1 })
     (λ _. refl)
 
--- a code of stacks: that of the tuple of the three fields
+-- a code of stacks: the one of the tuple of the three fields
 abbrev pub stack_code : Coded StackState
 stack_code = code_by (Live × (ℕ × ℕ))
     (coded× (coded_list (coded× coded_ℕ context_code)) (coded× coded_ℕ coded_ℕ))
@@ -93,7 +92,7 @@ stack_code = code_by (Live × (ℕ × ℕ))
 abbrev pub map_of : {S H : Type 0} → HashMap ℕ S H → FinMap nat_cmp S
 map_of table = from_entries table.entries
 
--- a code of span tables: that of the pair of the two fields
+-- a code of span tables: the one of the pair of the two fields
 abbrev pub spans_code : {S : Type 0} → Coded S → Coded (SpansState S)
 spans_code {S} span_code = code_by (FinMap nat_cmp S × ℕ)
     (coded× (code coded_ℕ span_code) coded_ℕ)

@@ -1,7 +1,8 @@
 //! Baggage: named values that travel with a request, in insertion order.
 //!
-//! A contract sees a baggage as the list of its members, each a key with its value and its metadata
-//! (W3C baggage, `list-member`): at most 64 with distinct keys, and at most 8192 bytes in all.
+//! Contracts see a baggage as the list of its members, each a key with its value and its metadata
+//! (W3C baggage, `list-member`). A baggage has at most 64 members, with distinct keys, and at most
+//! 8192 bytes.
 ghost use Rattle.std.specs.Prelude.{◌≡◌, List, [], length, map as map_list, Some, IfOk};
 ghost use Rattle.std.specs.Prelude.{IsOk, IsTrue, ◌↔◌};
 ghost use Rattle.std.specs.Map.Iter.{ShowsInOrder};
@@ -29,16 +30,16 @@ use std::alloc::{AllocError, Global};
 use std::fmt;
 use std::marker::Model;
 
-/// A list of keys, each with a value and metadata, in insertion order.
+/// Named values that travel with a request, each with metadata, in insertion order.
 ///
-/// It has at most 64 members with distinct keys, and at most 8192 bytes in all keys, values and
-/// metadata together. A key is one or more of the ASCII characters `!` to `~`, without the
-/// delimiters `(),/:;<=>?@[\]{}"` (RFC 7230, section 3.2.6).
+/// It has at most 64 members with distinct keys. All keys, values and metadata together have at
+/// most 8192 bytes. A key is one or more of the ASCII characters `!` to `~`, except the delimiters
+/// `(),/:;<=>?@[\]{}"` (RFC 7230, section 3.2.6).
 ///
-/// It prints as the value of a `baggage` header (W3C baggage): for each member the key, `=` and the
-/// value, in which every byte except A-Z, a-z, 0-9 and `.` `-` `_` `~` is written as `%` and two
-/// hexadecimal digits, then `;` and the metadata unless it is empty; members are joined by `,`.
-/// Metadata is printed as it is.
+/// It prints as the value of a `baggage` header (W3C baggage). Each member is printed as the key,
+/// `=` and the value, then `;` and the metadata unless it is empty. In the value, every byte except
+/// A-Z, a-z, 0-9 and `.` `-` `_` `~` is escaped as `%` and two hexadecimal digits. Metadata is
+/// printed as it is. Members are joined by `,`.
 ///
 /// ```
 /// let mut baggage = Baggage::new(alloc);
@@ -48,7 +49,7 @@ use std::marker::Model;
 #[derive(Debug, Drop)]
 pub struct Baggage {
     inner: Members,
-    // The bytes of all keys, values and metadata in `inner`.
+    // The total bytes of all keys, values and metadata in `inner`.
     content_len: usize,
 }
 
@@ -67,7 +68,7 @@ impl Model for Baggage {
 }
 
 impl Baggage {
-    /// Returns the empty baggage. It takes no memory, and keeps the allocator for later inserts.
+    /// Returns an empty baggage. Doesn't allocate, but keeps the allocator for later inserts.
     pub fn new(alloc: Global) -> Baggage
         ensures { result ≡ [] }
     {
@@ -79,8 +80,8 @@ impl Baggage {
 
     /// Returns the value of the key, or `None` if no member has the key.
     ///
-    /// Takes no memory. Up to four keys are compared one by one; among more, the key is found by
-    /// its hash.
+    /// Doesn't allocate. Compares the keys one by one if there are at most four members, and
+    /// otherwise finds the key by its hash.
     pub fn get(&self, key: &str) -> Option<&StringValue>
         ensures { option_copied result ≡ get self.now key.now }
     {
@@ -90,7 +91,7 @@ impl Baggage {
 
     /// Returns the value and the metadata of the key, or `None` if no member has the key.
     ///
-    /// Finds the key as [`get`](Self::get) does, and takes no memory.
+    /// Finds the key as [`get`](Self::get) does. Doesn't allocate.
     pub fn get_with_metadata(&self, key: &str) -> Option<&(StringValue, BaggageMetadata)>
         ensures { option_copied result ≡ get_with_metadata self.now key.now }
     {
@@ -98,15 +99,15 @@ impl Baggage {
         self.inner.pair_at(index)
     }
 
-    /// Sets the value of the key, with empty metadata, and returns the value that it replaces.
+    /// Sets the value of the key, with empty metadata. Returns the replaced value.
     ///
     /// Returns `None` if the key is new, or if the member isn't accepted (see
     /// [`insert_with_metadata`](Self::insert_with_metadata)), which leaves the baggage unchanged.
     ///
     /// # Errors
     ///
-    /// Returns an error if memory runs out, which is possible only for a new key that is accepted.
-    /// The baggage is then unchanged, and the arguments are dropped.
+    /// `AllocError` if out of memory, which can only happen for a new key that is accepted. The
+    /// baggage is unchanged, and the arguments are dropped.
     pub fn insert(
         &mut self,
         key: Key,
@@ -121,17 +122,17 @@ impl Baggage {
         }
     }
 
-    /// Sets the value and the metadata of the key, and returns those that they replace.
+    /// Sets the value and the metadata of the key. Returns the replaced ones.
     ///
-    /// A key that is present keeps its place, and isn't checked again; a new key goes last. The
-    /// member is accepted if the baggage then has at most 8192 bytes, not counting those replaced,
-    /// and if a new key is valid and there are fewer than 64 members. Returns `None` if the key is
-    /// new, or if the member isn't accepted, which leaves the baggage unchanged.
+    /// A present key keeps its place and isn't checked again. A new key goes last. The member is
+    /// accepted if the baggage would then have at most 8192 bytes, not counting replaced ones, and
+    /// if a new key is valid and there are fewer than 64 members. Returns `None` if the key is new,
+    /// or if the member isn't accepted, which leaves the baggage unchanged.
     ///
     /// # Errors
     ///
-    /// Returns an error if memory runs out, which is possible only for a new key that is accepted.
-    /// The baggage is then unchanged, and the arguments are dropped.
+    /// `AllocError` if out of memory, which can only happen for a new key that is accepted. The
+    /// baggage is unchanged, and the arguments are dropped.
     pub fn insert_with_metadata(
         &mut self,
         key: Key,
@@ -154,10 +155,11 @@ impl Baggage {
         Ok(old)
     }
 
-    /// Returns `true` if the member is accepted: if an insert of it, as
-    /// [`insert_with_metadata`](Self::insert_with_metadata) does, would set it.
+    /// Returns `true` if [`insert_with_metadata`](Self::insert_with_metadata) would accept the
+    /// member.
     ///
-    /// Finds the key as [`get`](Self::get) does, and takes no memory. Not in the Rust crate.
+    /// Use it to detect a member that would be ignored. Finds the key as [`get`](Self::get) does.
+    /// Doesn't allocate. Not in the Rust crate.
     pub fn accepts(&self, key: &str, value: &str, metadata: &str) -> bool
         ensures { let m = member_of key.now value.now metadata.now in
             result ≡ accepts self.now m }
@@ -166,11 +168,11 @@ impl Baggage {
         weight_after(&self.inner, self.content_len, key, pair, value, metadata).is_some()
     }
 
-    /// Removes the member with the key, and returns its value and metadata, or `None` if no member
-    /// has the key.
+    /// Removes the member with the key. Returns its value and metadata, or `None` if no member has
+    /// the key.
     ///
-    /// The others keep their order, and the member's bytes no longer count. Finds the key as
-    /// [`get`](Self::get) does, and takes no memory.
+    /// The other members keep their order, and the removed bytes no longer count. Finds the key as
+    /// [`get`](Self::get) does. Doesn't allocate.
     pub fn remove(&mut self, key: &str) -> Option<(StringValue, BaggageMetadata)>
         ensures list { self.new ≡ remove self.old key.now }
         ensures old { result ≡ get_with_metadata self.old key.now }
@@ -197,8 +199,8 @@ impl Baggage {
         self.len() == 0
     }
 
-    /// Returns an iterator over the members in order, each a key with its value and metadata. It
-    /// takes no memory.
+    /// Returns an iterator over the members in order, each a key with its value and metadata.
+    /// Doesn't allocate.
     pub fn iter(&self) -> Iter<'_>
         ensures list { result ≡ self.now }
         ensures baggage { IsBaggage self.now }
@@ -209,13 +211,13 @@ impl Baggage {
         }
     }
 
-    /// Inserts the members in order into an empty baggage, and returns it. Members that aren't
-    /// accepted are left out.
+    /// Returns a baggage with these members, inserted in order. Members that aren't accepted are
+    /// left out.
     ///
     /// # Errors
     ///
-    /// Returns an error as soon as memory runs out, which is possible only for a member that is
-    /// accepted. Everything inserted so far is dropped.
+    /// `AllocError` if out of memory, which can only happen for a member that is accepted. All
+    /// members are dropped.
     pub fn from_pairs(
         alloc: Global,
         members: Vec<(Key, (StringValue, BaggageMetadata))>,
@@ -230,13 +232,13 @@ impl Baggage {
         Ok(baggage)
     }
 
-    /// Inserts the attributes in order into an empty baggage, each with the printed text of its
-    /// value and no metadata, and returns it. Attributes that aren't accepted are left out.
+    /// Returns a baggage with these attributes, inserted in order, each with the printed text of
+    /// its value and no metadata. Attributes that aren't accepted are left out.
     ///
     /// # Errors
     ///
-    /// Returns an error as soon as memory runs out, which is possible only for an attribute that is
-    /// accepted or whose value isn't a text. Everything inserted so far is dropped.
+    /// `AllocError` if out of memory, which can only happen for an attribute that is accepted or
+    /// whose value isn't a text. All attributes are dropped.
     pub fn from_key_values(alloc: Global, attributes: Vec<KeyValue>) -> Result<Baggage, AllocError>
         ensures members { IfOk result (λ b.
             b ≡ from_members (map_list from_key_value attributes.items)) }
@@ -251,13 +253,13 @@ impl Baggage {
         Ok(baggage)
     }
 
-    /// Inserts the members in order into an empty baggage, and returns it. Members that aren't
-    /// accepted are left out.
+    /// Returns a baggage with these members, inserted in order. Members that aren't accepted are
+    /// left out.
     ///
     /// # Errors
     ///
-    /// Returns an error as soon as memory runs out, which is possible only for a member that is
-    /// accepted. Everything inserted so far is dropped.
+    /// `AllocError` if out of memory, which can only happen for a member that is accepted. All
+    /// members are dropped.
     pub fn from_key_values_with_metadata(
         alloc: Global,
         members: Vec<KeyValueMetadata>,
@@ -309,8 +311,8 @@ impl<'a> IntoIterator for &'a Baggage {
     }
 }
 
-/// An iterator over the members of a [`Baggage`], in order. A contract sees it as the list of the
-/// members that are left.
+/// An iterator over the members of a [`Baggage`], in order. Contracts see it as the list of the
+/// remaining members.
 ///
 /// ```
 /// for (key, (value, metadata)) in &baggage {
@@ -348,7 +350,7 @@ impl<'a> Iterator for Iter<'a> {
         self.entries.next()
     }
 
-    /// Returns the exact number of members left.
+    /// Returns the exact number of remaining members.
     fn size_hint(&self) -> (usize, Option<usize>)
         ensures lower { IsWithinCount result.0 (at_most (length self.now)) }
         ensures upper { IfSome result.1 (UpTo (at_most (length self.now))) }

@@ -3,7 +3,7 @@ ghost use Rattle.otel_context.specs.BaggageLaws.{HeaderDetermines, HeaderIsShort
 ghost use Rattle.otel_context.specs.StackLaws.{DetachRestores, AttachIsCurrent, AttachLeavesAll};
 ghost use Rattle.otel_context.specs.StackLaws.{RemovalLeavesOthers, RemovalKeepsOrder};
 
-/// What the header of a baggage says about its members, for callers to cite. Not in the Rust crate.
+/// States two laws of baggage headers, for callers to cite. Not in the Rust crate.
 ///
 /// - If no metadata contains a comma, baggages with equal headers have equal members.
 /// - A header has at most 24575 bytes.
@@ -12,10 +12,10 @@ pub fn header_reading()
     ensures short { HeaderIsShort }
 {}
 
-/// What attaching and removing leave of a stack, for callers of
+/// States how attaching and removing change a stack, for callers of
 /// [`ContextStack`](crate::ContextStack) to cite. Not in the Rust crate.
 pub fn stack_calls()
-    // Detaching the guard that an attach has just returned restores what was live.
+    // Detaching the guard that an attach has just returned restores the earlier attachments.
     ensures restores { DetachRestores }
     // The context attached last is current.
     ensures current { AttachIsCurrent }

@@ -1,5 +1,4 @@
-//! What travels with a request: the baggage, the context that holds it, and the stack of attached
-//! contexts.
+//! Baggage, contexts, the stack of attached contexts, and spans.
 //!
 //! A call runs out of memory if an allocation fails or a reference count is at its limit.
 #![tactic(auto)]

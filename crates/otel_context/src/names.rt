@@ -1,4 +1,4 @@
-//! Names: the texts by which keys are found.
+//! Names, by which keys are found.
 ghost use Rattle.std.specs.Prelude.{◌≡◌};
 ghost use Rattle.std.specs.Str.{bytes_eq};
 ghost use Rattle.otel_context.specs.Names.{text_of};
@@ -7,8 +7,8 @@ use otel_base::Key;
 use std::fmt;
 use std::hash::{Hash, Hasher};
 
-/// A key that a map holds, or a text by which the map is asked for it. Equality and hash depend on
-/// the text only, so asking takes no memory.
+/// An owned key of a map, or a text by which to look one up. Equality and hash depend only on the
+/// text, so a look-up doesn't allocate.
 #[derive(Drop)]
 pub enum Name<'a> {
     Held(Key),
@@ -74,7 +74,7 @@ impl fmt::Debug for Name<'_> {
 
 /// Returns `true` if both are the same text.
 ///
-/// Compares the lengths and the last bytes first, since names often share a beginning: that settles
+/// Compares the lengths and the last bytes first, since names often share a prefix. That settles
 /// most comparisons without a call.
 pub fn is_same(name: &str, other: &str) -> bool
     ensures { result ≡ bytes_eq name.now other.now }

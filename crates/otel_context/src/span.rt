@@ -1,4 +1,4 @@
-//! What a span records while it runs.
+//! Spans, which record a piece of work.
 ghost use Rattle.std.specs.Prelude.{◌≡◌, false, IsOk, OnOk, OnErr};
 ghost use Rattle.otel_base.specs.View.{attribute_of};
 
@@ -16,17 +16,17 @@ use otel_ids::SpanContext;
 use std::alloc::{AllocError, Global};
 use std::fmt::Display;
 
-/// A piece of work in a trace. Records what happens to it while it runs.
+/// A piece of work in a trace. Records what happens while it runs.
 ///
-/// A span type names, by ghost members, the effect of each writing call as a function of the span
-/// and of the arguments' meaning: `after_event` of name, time and attributes, `after_attribute`,
-/// `after_link`, `after_status`, `after_name`, `after_end`; and `context_of` and `records`, what
-/// `span_context` and `is_recording` return. Each call has its effect or, on an error, leaves the
-/// span unchanged, and no effect changes the span context (`event_keeps` and the five laws like
-/// it). The other calls are made of these. The type decides what the calls do after the span has
-/// ended.
+/// Implementors define the effect of each writing call as a ghost function of the span and of the
+/// arguments' meaning: `after_event` (of a name, a time and attributes), `after_attribute`,
+/// `after_link`, `after_status`, `after_name` and `after_end`. They also define the results of
+/// `span_context` and `is_recording`: `context_of` and `records`. Each call has its effect or, on
+/// an error, leaves the span unchanged. No effect changes the span context (`event_keeps` and the
+/// five similar laws). The other calls are provided. The type decides the effect of the calls after
+/// the span has ended.
 ///
-/// One effect with its law and its call, of a span type that stores its name:
+/// One effect with its law and its call, for a span type that stores its name:
 ///
 /// ```
 /// ghost after_name = { λ span name. record span { name = name } };
@@ -38,7 +38,7 @@ use std::fmt::Display;
 /// ghost name_keeps = { λ span name. refl };
 /// ```
 ///
-/// `RecordingSpan` in the crate `otel_recording` is a complete, proved span type.
+/// For a complete span type, see `RecordingSpan` in the crate `otel_recording`.
 ///
 /// Timestamps are nanoseconds since 1970-01-01T00:00:00Z. The Rust crate reads the clock in
 /// `add_event`, `record_error` and `end`; here the caller passes the time.
@@ -70,7 +70,7 @@ pub trait Span: Drop {
     ///
     /// # Errors
     ///
-    /// Returns an error if memory runs out. The span is then unchanged.
+    /// `AllocError` if out of memory. The span is unchanged.
     fn add_event_with_timestamp(
         &mut self,
         alloc: Global,
@@ -86,7 +86,7 @@ pub trait Span: Drop {
     ///
     /// # Errors
     ///
-    /// Returns an error if memory runs out. The span is then unchanged.
+    /// `AllocError` if out of memory. The span is unchanged.
     fn set_attribute(&mut self, alloc: Global, attribute: KeyValue) -> Result<(), AllocError>
         ensures ok { OnOk result (self.new ≡ after_attribute self.old (attribute_of attribute)) }
         ensures err { OnErr result (self.new ≡ self.old) };
@@ -95,7 +95,7 @@ pub trait Span: Drop {
     ///
     /// # Errors
     ///
-    /// Returns an error if memory runs out. The span is then unchanged.
+    /// `AllocError` if out of memory. The span is unchanged.
     fn add_link(
         &mut self,
         alloc: Global,
@@ -122,15 +122,16 @@ pub trait Span: Drop {
     fn span_context(&self) -> &SpanContext
         ensures { result.now ≡ context_of self.now };
 
-    /// Returns `true` if the span still records what the calls pass to it.
+    /// Returns `true` if the span still records the data passed to it. Check it before computing
+    /// expensive attributes.
     fn is_recording(&self) -> bool
         ensures { result ≡ records self.now };
 
-    /// Adds an event that happens now.
+    /// Adds an event that happens now, at the given time.
     ///
     /// # Errors
     ///
-    /// Returns an error if memory runs out. The span is then unchanged.
+    /// `AllocError` if out of memory. The span is unchanged.
     fn add_event(
         &mut self,
         alloc: Global,
@@ -146,12 +147,12 @@ pub trait Span: Drop {
     }
 
     /// Adds an event `exception` that happens now, with the error's text as the attribute
-    /// `exception.message`. Does nothing if the span doesn't record: the error isn't printed then.
+    /// `exception.message`. Does nothing, not even print the error, if the span doesn't record.
     ///
     /// # Errors
     ///
-    /// `AllocError` if out of memory, or if the error's `fmt` fails. The span, which records, is
-    /// unchanged.
+    /// `AllocError` if out of memory or if the error's `fmt` fails, which can only happen if the
+    /// span records. The span is unchanged.
     fn record_error<E: Display>(
         &mut self,
         alloc: Global,
@@ -174,12 +175,12 @@ pub trait Span: Drop {
         self.add_event(alloc, StringValue::from("exception"), attributes, now)
     }
 
-    /// Asks once whether the span records, and if so sets each attribute, in order.
+    /// Sets each attribute, in order, if the span records. Checks once whether it does.
     ///
     /// # Errors
     ///
-    /// `AllocError` if out of memory. The span records, and the attributes before the one that
-    /// failed are set.
+    /// `AllocError` if out of memory, which can only happen if the span records. The attributes
+    /// before the failed one are set.
     fn set_attributes(&mut self, alloc: Global, attributes: Vec<KeyValue>) -> Result<(), AllocError>
         ensures ok { OnOk result
             (SetsAttributes records after_attribute self.old (attributes_of attributes) self.new) }

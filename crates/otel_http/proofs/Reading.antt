@@ -1,4 +1,4 @@
--- What a header map has as a carrier at a name, before and after a value is set.
+-- The texts of a header map as a carrier, before and after a value is set.
 use Rattle.std.proofs.Common.{◌≡◌, ◌≢◌, ℕ, List, [], ◌∷◌, ◌++◌, Bool, true, false, cond, Option, None, Some, refl, sym, ap, subst, ◌∙◌, ◌⊎◌, inl, inr, map, IsTrue, is_some, string_bytes, append_assoc, true≢false, Bor}
 use Rattle.std.specs.Prelude.{codes}
 use Rattle.std.specs.FinMap as fin
@@ -26,7 +26,7 @@ use Rattle.otel_http.specs.Headers.{Headers, text, text_of, joined, is_list, tex
 
 -- ---- values
 
--- whether a value is readable, as a fact and as a test
+-- whether a value is readable, as a proposition and as a test
 pub visible : (bytes : List ℕ) → IsVisibleAscii bytes → is_visible_text bytes ≡ true
 visible bytes =
     (Decides-by_and is_visible_or_blank (λ b. IsTrue (is_visible_or_blank b)) (list_all is_visible_or_blank) (λ b. (λ h. h, λ h. h)) refl (λ _ _. refl) bytes).1
@@ -49,7 +49,7 @@ text_own v h = elim (cases_Bool (is_visible_text v.bytes)) [
 pub text_none : (v : FieldValue) → is_some (text v) ≡ false → IsVisibleAscii v.bytes → ⊥
 text_none v h visible_bytes = true≢false (rw (text_visible v visible_bytes) at h)
 
--- a value that was read as none isn't readable
+-- a value that couldn't be read isn't readable
 pub refused_value : (r : Option (Bor (List ℕ))) (v : FieldValue) (bytes : List ℕ)
     → option_copied r ≡ text v → is_some r ≡ false → v ≡ plain_value bytes → IsVisibleAscii bytes → ⊥
 refused_value None v bytes is none own h =
@@ -80,7 +80,7 @@ more_pieces ps new p vs v rest all is split own inv =
     ∙ ap (λ o. map (λ x. x.now) ps ++ cons_option o (filter_map text rest)) own
     ∙ ap (λ ws. map (λ x. x.now) ps ++ filter_map text ws) (sym split) ∙ inv
 
--- a value that isn't readable was passed over
+-- a value that isn't readable was skipped
 pub no_piece : (ts : List (List ℕ)) (vs : List FieldValue) (v : FieldValue) (rest : List FieldValue) (all : List (List ℕ))
     → vs ≡ v ∷ rest → None ≡ text v → ts ++ filter_map text vs ≡ all → ts ++ filter_map text rest ≡ all
 no_piece ts vs v rest all split own inv =
@@ -110,7 +110,7 @@ no_values (e ∷ m) k h = elim (cases_Bool (bytes_eq k e.0)) [
   | inr other ↦ rw (nat_list_eq_equiv.symm e.0 k, other) (no_values m k (rw other at h))
 ]
 
--- a name that isn't there has no text
+-- a name that isn't among them has no text
 pub absent : (m : Headers) (k : List ℕ) → among k (keys m) ≡ false → text_at m k ≡ None
 absent m k h = ap (text_of k) (no_values m k h) ∙ no_text k
 
@@ -145,7 +145,7 @@ find-pairs m (n ∷ names) k =
     without_name rest None other = rest
     without_name rest (Some x) other = rw (← texts_ties k n, other) rest
 
--- the carrier has at each name its text
+-- the carrier has the text of each name
 pub at-texts : (m : Headers) (k : List ℕ) → at (texts m) k ≡ text_at m k
 at-texts m k =
     fin.get-from_entries nat_list_cmp_total (flat_map (pair_at m) (keys m)) k ∙ find-pairs m (keys m) k
@@ -156,7 +156,7 @@ at-texts m k =
 
 -- ---- reading
 
--- the texts of all names but these are held, and no others
+-- the texts of all names except these are in the map, and no others
 pub record Filled (m : Headers) (left : List (List ℕ)) (held : TextMap) : Type 0 where
   pub sound : (k : List ℕ) → (at held k ≡ None) ⊎ (at held k ≡ text_at m k)
   pub whole : (k : List ℕ) → among k left ≡ false → at held k ≡ text_at m k
@@ -167,7 +167,7 @@ filled_none m held none = record {
   whole = λ k h. none k ∙ sym (absent m k h);
 }
 
--- a name without a text is passed over
+-- a name without a text is skipped
 pub filled_without : (m : Headers) (name : List ℕ) (left : List (List ℕ)) (held : TextMap)
     → text_at m name ≡ None → Filled m (name ∷ left) held → Filled m left held
 filled_without m name left held is f = record {
@@ -180,7 +180,7 @@ filled_without m name left held is f = record {
   ];
 }
 
--- a name is held with its text
+-- a name is added with its text
 pub filled_with : (m : Headers) (name t : List ℕ) (left : List (List ℕ)) (held new : TextMap)
     → text_at m name ≡ Some t → lower name ≡ name → Sets held ((name, t) ∷ []) new
     → Filled m (name ∷ left) held → Filled m left new
@@ -233,7 +233,7 @@ put_in m name n k values found key value whole left held new same all is some co
     (sets_one held new name key value (copied ∙ same_key ∙ sym lowered) updated)
     (subst (λ l. Filled m l (text_map held.entries)) split f)
 
--- all names are held
+-- all names are in the map
 pub filled_all : (m : Headers) (left : List (List ℕ)) (held : TextMap) → left ≡ [] → Filled m left held → held ≡ texts m
 filled_all m left held none filled =
     let f = subst (λ l. Filled m l held) none filled in
@@ -268,7 +268,7 @@ after_insert m name value q readable = elim (cases_Bool (bytes_eq name q)) [
       rw other (ap (text_of q) (get_all-insert_other m name q (plain_value value) apart) ∙ sym (at-texts m q))
 ]
 
--- a value in place of all those of a name sets its text
+-- a value in place of all values of a name sets its text
 pub sets_header : (m n : Headers) (key value : List ℕ) → n ≡ insert m (lower key) (plain_value value)
     → text (plain_value value) ≡ Some value → Sets (texts m) ((key, value) ∷ []) (texts n)
 sets_header m n key value is readable = record {

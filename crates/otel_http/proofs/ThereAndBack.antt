@@ -1,4 +1,4 @@
--- What comes back of headers that both propagators injected into.
+-- The context extracted from headers into which both propagators injected.
 use Rattle.std.proofs.Common.{◌≡◌, ap, ◌∙◌, inl, Result, Ok, Err}
 use Rattle.std.specs.Prelude.{IfOk}
 use Rattle.otel_context.specs.Context.{ContextRecord, empty_context}

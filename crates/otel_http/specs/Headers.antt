@@ -1,5 +1,5 @@
--- What a map of HTTP headers means as a carrier: which values are read, and which texts are set
--- (RFC 9110, section 5; W3C trace-context-2 and baggage).
+-- A map of HTTP headers as a carrier: the values that are read, and the texts that are set (RFC
+-- 9110, section 5; W3C trace-context-2 and baggage).
 use Rattle.std.specs.Prelude.{◌≡◌, ◌⊎◌, ℕ, Bool, ◌||◌, List, [], ◌∷◌, flat_map, codes, refl}
 use Rattle.std.specs.Prelude.{Option, Some, None, if◌then◌else◌}
 use Rattle.std.specs.List.{filter_map, join_by}
@@ -11,7 +11,7 @@ use Rattle.http_header.specs.HeaderMap.{Entries, get_all, keys, RefusesInsert}
 use Rattle.http_header.specs.FieldName.{IsFieldName}
 use Rattle.opentelemetry.specs.Carrier.{Pairs, TextMap, lower}
 
--- what contracts see of a header map: its names in order, each with its values
+-- the model of a header map: its names in order, each with its values
 abbrev pub Headers : Type 0
 Headers = Entries FieldValue
 
@@ -19,13 +19,13 @@ Headers = Entries FieldValue
 abbrev pub text : FieldValue → Option (List ℕ)
 text value = if is_visible_text value.bytes then Some value.bytes else None
 
--- the text of the only value; none if there are two, even if they are equal
+-- the text of the only value; none if there are two values, even if they are equal
 abbrev pub only : List FieldValue → Option (List ℕ)
 only [] = None
 only (v ∷ []) = text v
 only (v ∷ w ∷ values) = None
 
--- the texts of the readable values, joined by commas, if there is any (RFC 9110, section 5.3)
+-- the texts of the readable values, joined by commas, if there are any (RFC 9110, section 5.3)
 abbrev pub joined : List (List ℕ) → Option (List ℕ)
 joined [] = None
 joined (t ∷ ts) = Some (join_by (λ piece. piece) (codes ",") (t ∷ ts))
@@ -47,7 +47,7 @@ text_of name values =
     if bytes_eq name (codes "traceparent") then only values
     else (if is_list name then joined (filter_map text values) else first values)
 
--- the text that the headers have for a name in lower case
+-- the text of a name in lower case
 abbrev pub text_at : Headers → List ℕ → Option (List ℕ)
 text_at headers name = text_of name (get_all headers name)
 
@@ -69,18 +69,18 @@ Refuses headers key value =
 
 -- ---- examples
 
--- two lines of a list are joined; one that isn't readable is left out
+-- two values of a list are joined; an unreadable one is left out
 lists_are_joined : text_of (codes "tracestate")
     (plain_value (codes "a=1") ∷ plain_value (255 ∷ []) ∷ plain_value (codes "b=2") ∷ [])
     ≡ Some (codes "a=1,b=2")
 lists_are_joined = refl
 
--- two equal lines of `traceparent` give none
+-- two equal values of `traceparent` give none
 two_parents_are_none : text_of (codes "traceparent")
     (plain_value (codes "00") ∷ plain_value (codes "00") ∷ []) ≡ None
 two_parents_are_none = refl
 
--- for any other name the first value is read
+-- for any other name, the first value is read
 the_first_is_read : text_of (codes "x-id") (plain_value (codes "1") ∷ plain_value (codes "2") ∷ [])
     ≡ Some (codes "1")
 the_first_is_read = refl

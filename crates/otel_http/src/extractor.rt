@@ -1,4 +1,4 @@
-//! The headers of HTTP as a carrier that texts are read from.
+//! HTTP headers as a carrier from which texts are read.
 ghost use Rattle.std.specs.Prelude.{◌≡◌, IfOk};
 ghost use Rattle.otel_http.specs.Headers.{texts};
 
@@ -12,9 +12,10 @@ use std::marker::Model;
 /// The texts of a header map, read once (the Rust crate's `HeaderExtractor` of
 /// `opentelemetry-http`).
 ///
-/// A value is readable if each byte is a tab, or 20 to 7e in hexadecimal. The readable values of
-/// `tracestate` and of `baggage` are joined by commas; a repeated `traceparent` counts as absent;
-/// for any other name the first value counts, if it is readable.
+/// Use it to extract a context from the headers of a received request. A value is readable if each
+/// byte is a tab, or 20 to 7e in hexadecimal. The readable values of `tracestate` and of `baggage`
+/// are joined by commas. A repeated `traceparent` counts as absent. For any other name, the first
+/// value counts, if it is readable.
 ///
 /// Contracts see it as a finite map of texts.
 #[derive(Drop)]

@@ -1,4 +1,4 @@
-//! The headers of HTTP as a carrier that texts are written to.
+//! HTTP headers as a carrier to which texts are written.
 ghost use Rattle.std.specs.Prelude.{◌≡◌, ◌+◌, IsTrue, IsErr, IfOk, OnOk, OnErr, Some, string_bytes};
 ghost use Rattle.std.specs.Prelude.{if◌then◌else◌};
 ghost use Rattle.http_header.specs.FieldName.{IsFieldName};
@@ -16,8 +16,10 @@ use http_header::{
 use opentelemetry::propagation::{Injector, PropagationError};
 use std::alloc::{AllocError, Global};
 
-/// Headers that texts are written to (the Rust crate's `HeaderInjector` of `opentelemetry-http`).
-/// It has the headers until [`HeaderInjector::into_headers`] gives them back.
+/// Headers to which texts are written (the Rust crate's `HeaderInjector` of `opentelemetry-http`).
+///
+/// Use it to inject a context into the headers of a request to send. It owns the headers until
+/// [`HeaderInjector::into_headers`] returns them.
 #[derive(Drop)]
 pub struct HeaderInjector {
     /// The headers.
@@ -38,7 +40,7 @@ fn name_of(alloc: Global, key: &str) -> Result<HeaderName, PropagationError>
     }
 }
 
-/// Returns the value of a header that has this text.
+/// Returns this text as the value of a header.
 fn value_of(text: String) -> Result<HeaderValue, PropagationError>
     ensures ok { IfOk result (λ value. value ≡ plain_value (string_bytes text)) }
     ensures readable { OnOk result
@@ -94,7 +96,7 @@ fn put(headers: &mut HeaderMap, key: &str, value: String) -> Result<(), Propagat
 }
 
 impl HeaderInjector {
-    /// Returns an injector into the headers. It has refused nothing so far.
+    /// Returns an injector into these headers. It has refused nothing so far.
     pub fn new(headers: HeaderMap) -> HeaderInjector
         ensures headers { result.headers ≡ headers }
         ensures carrier { state result ≡ carrier headers 0 }
@@ -116,7 +118,7 @@ impl HeaderInjector {
         headers
     }
 
-    /// Counts a refusal, and returns it.
+    /// Counts a refusal. Returns the error.
     fn refuse(&mut self) -> Result<(), PropagationError>
         ensures err { IsErr result }
         ensures headers { self.new.headers ≡ self.old.headers }

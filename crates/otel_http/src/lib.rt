@@ -1,5 +1,5 @@
-//! Carriers over the headers of HTTP: a request's headers are read into a context, and a context is
-//! written into a request's headers (the Rust crate `opentelemetry-http`).
+//! HTTP headers as carriers: a context is extracted from the headers of a received request and
+//! injected into the headers of a request to send (the Rust crate `opentelemetry-http`).
 #![tactic(auto)]
 
 mod extractor;

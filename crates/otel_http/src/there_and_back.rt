@@ -1,4 +1,4 @@
-//! A context that is sent by the W3C headers and arrives, through the headers of HTTP.
+//! Sends a context through HTTP headers and receives it, with the W3C propagators.
 ghost use Rattle.std.specs.Prelude.{IfOk, OnOk};
 ghost use Rattle.otel_context.specs.Context.{empty_context};
 ghost use Rattle.opentelemetry.specs.Carrier.{Sets};
@@ -39,12 +39,13 @@ fn extract<P: TextMapPropagator>(
     propagator.extract_with_context(alloc, context, extractor)
 }
 
-/// Injects the context into the headers by both propagators, and extracts it from there into the
+/// Injects the context into the headers with both propagators, and extracts it from them into an
 /// empty context.
 ///
 /// # Errors
 ///
-/// `Memory` if out of memory; `Refused` if the headers refuse a text. The headers are dropped.
+/// `Memory` if out of memory. `Refused` if the headers refuse a text. In both cases, the headers
+/// are dropped.
 pub fn there_and_back(
     alloc: Global,
     trace: &TraceContextPropagator,

@@ -27,7 +27,7 @@ fn read_first<'a>(values: &GetAll<'a, HeaderValue>) -> Option<&'a str>
     }
 }
 
-/// Returns the text of the only value, or `None` if there are two.
+/// Returns the text of the only value, or `None` if there are more.
 fn read_only<'a>(values: &GetAll<'a, HeaderValue>) -> Option<&'a str>
     ensures { option_copied result ≡ only values.now }
 {
@@ -38,7 +38,7 @@ fn read_only<'a>(values: &GetAll<'a, HeaderValue>) -> Option<&'a str>
     }
 }
 
-/// Returns the texts of the readable values, joined by commas, if there is any.
+/// Returns the texts of the readable values, joined by commas, if there are any.
 fn read_joined(
     alloc: Global,
     values: &GetAll<'_, HeaderValue>,

@@ -1,4 +1,4 @@
--- What a carrier holds once both propagators injected, and what both extract of it.
+-- The texts of a carrier once both propagators injected, and the context that both extract from it.
 use Rattle.std.proofs.Common.{◌≡◌, ◌≢◌, ℕ, true, false, List, [], ◌∷◌, ◌++◌, map, refl, sym, ap, subst, ◌∙◌, inl, inr, Option, Some, None, if◌then◌else◌}
 use Rattle.std.specs.Prelude.{◌⊎◌, not, ◌==◌, All}
 use Rattle.std.specs.Option.{option_map_or, option_and_then, option_or}
@@ -25,7 +25,7 @@ use Rattle.otel_propagators.proofs.Parents.{parent_reads, parent_of_reads}
 use Rattle.otel_propagators.proofs.PieceReads.{baggage_reads}
 use Rattle.otel_propagators.specs.Laws.{IsSpanContext, IsContext, BothExtract, IsOther, ArePairsOfBoth, AreSet, CompositeSets, received_span, ComesBack, ComesBackInTurn, ComesBackTogether}
 
--- ---- what is set
+-- ---- the texts that are set
 
 abbrev traceparent_pair : SpanContextRecord → List ℕ × List ℕ
 traceparent_pair s = (traceparent_key, parent_text (parent s))
@@ -55,7 +55,7 @@ differs x y h = elim (bytes_eq x y) as (λ b. bytes_eq x y ≡ b → b ≡ false
   | false ↦ λ is. refl
 ] refl
 
--- no pair of others counts
+-- no pair of the other members counts
 no_value : (ps : Pairs) (k : List ℕ) → All (λ (p : List ℕ × List ℕ). lower p.0 ≢ k) ps → last_value ps k ≡ None
 no_value [] k h = refl
 no_value (p ∷ ps) k h =
@@ -68,7 +68,7 @@ skip_front ps qs k h = last_value-append ps qs k ∙ ap (option_or (last_value q
 skip_back : (ps qs : Pairs) (k : List ℕ) → last_value qs k ≡ None → last_value (ps ++ qs) k ≡ last_value ps k
 skip_back ps qs k h = last_value-append ps qs k ∙ ap (λ o. option_or o (last_value ps k)) h
 
--- ---- what a composite of both sets
+-- ---- the texts that a composite of both sets
 
 module _ (context : ContextRecord) (old m : TextMap) where
   abbrev own : SpanContextRecord
@@ -125,7 +125,7 @@ module _ (context : ContextRecord) (old m : TextMap) where
         baggage = (rw (e.0, e.1) at at_baggage) ∙ ap (λ o. option_or (option_or o (Some (baggage_text (members context)))) (at old baggage_key)) no_baggage;
       }
 
--- ---- validity, as a test and as a fact
+-- ---- validity, as a test and as a proposition
 
 invalid_fails : (s : SpanContextRecord) → (IsValidSpanContext s → ⊥) → is_valid s ≡ false
 invalid_fails s v = by (cases_Bool (is_valid s))

@@ -1,4 +1,4 @@
--- An escaped value holds only unreserved bytes and `%`, and decodes to the value.
+-- An escaped value contains only unreserved bytes and `%`, and decodes to the value.
 use Rattle.std.proofs.Common.{◌≡◌, ℕ, ◌/◌, ◌%◌, ◌<◌, Bool, true, List, [], ◌∷◌, ◌++◌, refl, ap, subst, ◌∙◌, arith, inl, inr}
 use Rattle.std.specs.Prelude.{◌&&◌, ◌||◌, ◌==◌, nat_lt, IsUtf8}
 use Rattle.std.specs.List.{list_all}
@@ -33,7 +33,7 @@ all_chars (c ∷ cs) h =
 utf8_bytes : (bs : List ℕ) → IsUtf8 bs → list_all is_byte bs ≡ true
 utf8_bytes bs u = subst (λ (x : List ℕ). list_all is_byte x ≡ true) u.1.1 (all_chars u.0 u.1.0)
 
--- ---- what an escaped value is made of
+-- ---- the bytes of an escaped value
 
 abbrev pub is_written : ℕ → Bool
 is_written b = is_unreserved b || b == 37

@@ -1,4 +1,4 @@
--- Where a text is cut at the first byte that passes a test, and a text that has no such byte.
+-- Cutting a text at the first byte that passes a test, and a text without such a byte.
 use Rattle.std.proofs.Common.{◌≡◌, ℕ, ◌+◌, ◌<◌, Bool, true, false, List, [], ◌∷◌, ◌++◌, length, take, drop, get_or, refl, subst, sym, ap, ◌∙◌, arith, All, inl, inr}
 use Rattle.std.specs.Prelude.{not, IsUtf8}
 use Rattle.std.specs.List.{list_all, list_any, position_or_len, before_first, after_first}
@@ -84,7 +84,7 @@ utf8_cut xs y ys small u =
       subst IsUtf8 (drop-append-add xs (y ∷ ys) 1) (IsUtf8-drop all (length xs + 1) u (IsCharBoundary-after_ascii all (length xs) u l ascii)),
     )
 
--- what follows the first such byte is UTF-8
+-- the text after the first such byte is UTF-8
 pub utf8_after : (p : ℕ → Bool) (small : (b : ℕ) → p b ≡ true → b < 128) (xs : List ℕ) → IsUtf8 xs → IsUtf8 (after_first p xs)
 utf8_after p small xs u =
     elim (cases_Bool (list_any p xs)) [

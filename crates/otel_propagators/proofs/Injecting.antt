@@ -1,4 +1,4 @@
--- The two texts of a span context, set one after the other, and the state that a text is read as.
+-- The two texts of a span context, set one after the other, and the state read from a text.
 use Rattle.std.proofs.Common.{◌≡◌, ℕ, ◌+◌, true, false, List, [], ◌∷◌, refl, sym, ap, subst, ◌∙◌, arith, Result, Ok, Err, Some, inr, if◌then◌else◌, true≢false}
 use Rattle.std.specs.Prelude.{OnOk, OnErr}
 use Rattle.std.specs.Option.{option_map_or}
@@ -56,7 +56,7 @@ pub injects_parent : {T : Type 0} (r : Result T PropagationError) (a b c : Carri
 injects_parent r a b c s s' tp ts same v e f x n y z m =
     subst (λ ps. Injects ps false a c r) (pairs_are s tp ts v e f ∙ ap span_context_pairs same) (two_sets r a b c (traceparent_key, tp) (tracestate_key, ts) x n y z m)
 
--- ---- the state that a text is read as
+-- ---- the state read from a text
 
 pub state_read : (text : List ℕ) (pairs : List Pair) → Reads text pairs → pairs ≡ state_of (Some text)
 state_read text pairs h = ap (λ r. option_map_or (λ x. x) r []) (sym ((reading_agrees text pairs).0 h))

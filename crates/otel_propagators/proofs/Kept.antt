@@ -1,4 +1,4 @@
--- What every context keeps, if it has no baggage.
+-- The properties of every context, if it has no baggage.
 use Rattle.std.proofs.Common.{◌≡◌, refl, [], Option, None, arith, ap, ◌∙◌, subst, sym}
 use Rattle.std.specs.Option.{option_map, option_map_or}
 use Rattle.std.proofs.lemmas.Cmp.{nat_list_eq_equiv}

@@ -37,7 +37,7 @@ more_below k n d a b = let w = pow-suc 16 k in omega arith
 pub below_128 : (k n : ℕ) → k ≤ 32 → n < 16 ^ k → n < 2 ^ 128
 below_128 k n a b = let p : 16 ^ k ≤ 16 ^ 32 = pow-le-pow_right (omega arith) a in omega arith
 
--- what was read of the first i bytes
+-- the number read from the first i bytes
 pub record ReadUpTo (bytes : List ℕ) (i n : ℕ) : Type 0 where
   pub digits : take i bytes ≡ id_text i n
   pub small : n < 16 ^ i

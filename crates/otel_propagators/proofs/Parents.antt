@@ -27,7 +27,7 @@ begins_with_digit : (k n : ℕ) (cs : List ℕ) → id_text (suc k) n ≡ 43 ∷
 unfolding id_text
 begins_with_digit k n cs e = let h : digit_glyph false (n / 16 ^ k % 16) ≡ 43 = cc in no_plus (n / 16 ^ k % 16) h
 
--- the number of the digits, by what the law of ids says of their text
+-- the number of the digits, by the law of ids about their text
 number_by : (bits k n : ℕ) → ReadsId bits (id_text (suc k) n) n → number_of (id_text (suc k) n) ≡ n
 number_by bits k n r =
     elim r.spelled [
@@ -63,7 +63,7 @@ split_same (a ∷ us) (b ∷ bs) xs ys l e =
     let r = split_same us bs xs ys (omega arith) rest in
     (cc (r.0, first), r.1)
 
--- what follows the version, the trace id, and so on
+-- the text after the version, after the trace id, and so on
 abbrev pub from_trace : Parent → List ℕ
 from_trace p = id_text 32 p.trace_id ++ (45 ∷ (id_text 16 p.span_id ++ (45 ∷ id_text 2 p.flags)))
 
@@ -104,7 +104,7 @@ parent_parts : (t s f : ℕ) (p : Parent) → t ≡ p.trace_id → s ≡ p.span_
 parent_parts t s f p a b c =
     ap (λ (x : ℕ). parent_with x s f) a ∙ ap (λ (x : ℕ). parent_with p.trace_id x f) b ∙ ap (parent_with p.trace_id p.span_id) c
 
--- the numbers at their places are those that were written
+-- the numbers at their places are the ones that were written
 numbers_within : (p : Parent) → p.trace_id < 2 ^ 128 → p.span_id < 2 ^ 64 → p.flags < 2 ^ 8 → numbers_in (parent_text p) ≡ p
 numbers_within p a b c =
     parent_parts _ _ _ p
@@ -115,7 +115,7 @@ numbers_within p a b c =
 numbers_again : (p : Parent) → IsParent p → numbers_in (parent_text p) ≡ p
 numbers_again p v = numbers_within p v.trace_fits v.span_fits v.flags_fit
 
--- numbers that have the text of ids and flags are these
+-- numbers that have the text of ids and flags are the same ids and flags
 same_parent : (t s f : ℕ) (p : Parent) (text : List ℕ) → text ≡ parent_text (parent_with t s f) → t < 16 ^ 32 → s < 16 ^ 16 → f < 16 ^ 2 → IsParent p → text ≡ parent_text p → parent_with t s f ≡ p
 same_parent t s f p text e a b c v g =
     sym (numbers_within (parent_with t s f) (omega arith) (omega arith) (omega arith)) ∙ ap numbers_in (sym e ∙ g) ∙ numbers_again p v
@@ -285,7 +285,7 @@ not_before bytes digits rest count s h n others e =
     let d = (split_same digits (id_text count n) rest others (s.3 ∙ sym (length_text count n)) (sym whole ∙ e)).0 in
     h n (d ∙ ap (λ (k : ℕ). id_text k n) (sym s.3))
 
--- ---- what was written
+-- ---- the numbers that were written
 
 pub text_is : {A E : Type 0} (r : Result (String A) E) (text same : List ℕ) → text ≡ same → IfOk r (λ t. string_bytes t ≡ text) → IfOk r (λ t. string_bytes t ≡ same)
 text_is r text same e h = subst (λ (x : List ℕ). IfOk r (λ t. string_bytes t ≡ x)) e h

@@ -1,4 +1,4 @@
--- What the pieces of a header are read as.
+-- The members read from the pieces of a header.
 use Rattle.std.proofs.Common.{◌≡◌, ℕ, ◌+◌, ◌<◌, ◌≤◌, Bool, true, false, List, [], ◌∷◌, ◌++◌, length, drop, get_or, Option, Some, None, inl, inr, refl, sym, ap, subst, ◌∙◌, arith, append_assoc, All}
 use Rattle.std.specs.Prelude.{◌&&◌, ◌||◌, nat_lt, nat_le, map, IsUtf8, if◌then◌else◌}
 use Rattle.std.specs.List.{list_all, list_any, before_first, after_first, join_with_byte, AllByRecursion}
@@ -182,7 +182,7 @@ baggage_reads (m ∷ ms) held none =
     ap (with_pieces []) (header_split m ms held.valid none)
     ∙ all_inserted [] (m ∷ ms) held.valid held.distinct (let f = held.few in omega arith) (let l = held.light in omega arith)
 
--- ---- what is read is a baggage
+-- ---- the result of reading is a baggage
 
 no_members : IsBaggage []
 no_members = record { few = omega arith; distinct = distinct_nil; valid = All-nil IsValidMember; light = omega arith }
@@ -208,9 +208,9 @@ joined_utf8 (p ∷ q ∷ ps) u = let c = utf8_cut p 44 (join_with_byte 44 (q ∷
 pub reads_baggage : ReadsBaggage
 reads_baggage t u = pieces_baggage [] (pieces t) no_members (joined_utf8 (pieces t) (subst IsUtf8 (sym (join_with_byte-slice_split 44 t)) u))
 
--- ---- what the code does with a piece
+-- ---- the effect of the code on a piece
 
--- whether these bytes are UTF-8 and no more than so many
+-- whether these bytes are UTF-8 and at most `longest` bytes long
 abbrev pub may_stand : ℕ → List ℕ → Bool
 may_stand longest bytes = is_utf8 bytes && nat_le (length bytes) longest
 
@@ -236,7 +236,7 @@ stands_not longest bytes h =
 longer : (longest n : ℕ) → nat_le n longest ≡ false → longest < n
 longer longest n h = grind (arith, nat_tests)
 
--- without such a value no member is inserted
+-- without such a value, no member is inserted
 not_inserted : (longest : ℕ) (ms : List Member) (m : Member) (far : longest < length m.value → max_len_of_all_pairs < length m.value) (readable : Bool) → readable ≡ is_utf8 m.value → may_stand longest m.value ≡ false → (b : Bool) → (if b && readable then insert ms m else ms) ≡ ms
 not_inserted longest ms m far false e h b = cond-false (b && false) (insert ms m) ms (and-false b)
 not_inserted longest ms m far true e h b =
@@ -255,25 +255,25 @@ without_percent (b ∷ bs) h =
 pub metadata_trimmed : (piece metadata : List ℕ) → IsUtf8 piece → metadata ≡ metadata_in piece → IsTrimmed metadata
 metadata_trimmed piece metadata u d = subst IsTrimmed (sym d) (trim_twice (after_first is_semicolon piece) (utf8_after is_semicolon semicolon_small piece u))
 
--- in a room of its length
+-- in a buffer of its length
 pub plain_value : (value : List ℕ) → IsUtf8 value → list_any is_percent value ≡ false → decoded_value (length value) value ≡ Some value
 plain_value value u none =
     let same = without_percent value none in
     sym (decoded_some (length value) value (percent_decode value) (sym same) (subst IsUtf8 (sym same) u) (length-percent_decode value).0)
 
--- a room as long as the value is written is no shorter than what it decodes to
+-- a buffer as long as the value is written has room for the decoded value
 pub room_enough : (longest : ℕ) (value : List ℕ) → length value ≤ longest → longest < length (percent_decode value) → max_len_of_all_pairs < length (percent_decode value)
 room_enough longest value le long = absurd (omega (arith, (length-percent_decode value).0))
 
 module _ (ms : List Member) (piece key value metadata : List ℕ) (some : list_any is_equals (key_and_value piece) ≡ true) (k : key ≡ key_in piece) (v : value ≡ written_value piece) (d : metadata ≡ metadata_in piece) where
-  -- the member of a value that is read
+  -- the member with a value that was read
   piece_is : (found : List ℕ) → is_utf8 (percent_decode value) ≡ true → found ≡ percent_decode value → insert ms (member_of key found metadata) ≡ with_piece ms piece
   piece_is found t e =
       let decodes : found ≡ value_in piece = e ∙ ap percent_decode v in
       let utf8 : is_utf8 (value_in piece) ≡ true = ap (λ (x : List ℕ). is_utf8 (percent_decode x)) (sym v) ∙ t in
       ap (insert ms) (λ i. member_of (k i) (decodes i) (d i)) ∙ sym (cond-true (is_member piece) (insert ms (member_in piece)) ms (and_from (list_any is_equals (key_and_value piece)) (is_utf8 (value_in piece)) some utf8))
 
-  -- the list after a value that was decoded into a room
+  -- the list after a value that was decoded into a buffer
   pub piece_decoded : (longest : ℕ) (found : Option (List ℕ)) → (longest < length (percent_decode value) → max_len_of_all_pairs < length (percent_decode value)) → found ≡ decoded_value longest value → with_value ms key found metadata ≡ with_piece ms piece
   piece_decoded longest None far h =
       sym (not_inserted longest ms (member_in piece) (subst (λ (x : List ℕ). longest < length (percent_decode x) → max_len_of_all_pairs < length (percent_decode x)) v far) (is_utf8 (value_in piece)) refl (ap (λ (x : List ℕ). may_stand longest (percent_decode x)) (sym v) ∙ stands_not longest (percent_decode value) h) (list_any is_equals (key_and_value piece)))

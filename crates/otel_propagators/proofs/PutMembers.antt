@@ -1,4 +1,4 @@
--- What an insert makes of the members of a baggage.
+-- The effect of an insert on the members of a baggage.
 use Rattle.std.proofs.Common.{◌≡◌, ℕ, ◌<◌, ◌≤◌, true, false, List, [], ◌∷◌, ◌++◌, length, sym, ap, subst, ◌∙◌, ⊎_elim, arith}
 use Rattle.std.specs.Prelude.{◌&&◌, ◌||◌, nat_le, nat_lt, map, if◌then◌else◌}
 use Rattle.std.specs.List.{IsDistinct, list_any}
@@ -26,7 +26,7 @@ pub distinct_nil : AreDistinct []
 unfolding IsDistinct
 distinct_nil = tt
 
--- ---- a baggage stays one
+-- ---- a baggage remains one
 
 none_put : (key : List ℕ) (ms : List Member) (m : Member) → AreDistinct ms → HasNone key ms → bytes_eq key m.key ≡ false → HasNone key (put ms m)
 none_put key [] m d h e = (e, tt)

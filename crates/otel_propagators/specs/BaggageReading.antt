@@ -1,4 +1,4 @@
--- How the header `baggage` is read: piece by piece, each a member or nothing.
+-- The reading of the header `baggage`, piece by piece. Each piece is a member or nothing.
 use Rattle.std.specs.Prelude.{◌≡◌, ℕ, Bool, ◌&&◌, ◌==◌, List, [], ◌∷◌, fold, All, IsUtf8, codes}
 use Rattle.std.specs.Prelude.{if◌then◌else◌, refl}
 use Rattle.std.specs.List.{list_any, slice_split, before_first, after_first}
@@ -27,12 +27,12 @@ key_and_value piece = before_first is_semicolon piece
 abbrev pub key_in : List ℕ → List ℕ
 key_in piece = cut_blanks (before_first is_equals (key_and_value piece))
 
--- the value as it is written: the text after the first `=`, without the blanks at both ends
+-- the value as written: the text after the first `=`, without the blanks at both ends
 abbrev pub written_value : List ℕ → List ℕ
 written_value piece = cut_blanks (after_first is_equals (key_and_value piece))
 
--- the value: each `%` with two hexadecimal digits is the byte that it stands for, and any other `%`
--- is kept (RFC 3986, section 2.1)
+-- the value: each `%` with two hexadecimal digits is decoded to a byte, and any other `%` is kept
+-- (RFC 3986, section 2.1)
 abbrev pub value_in : List ℕ → List ℕ
 value_in piece = percent_decode (written_value piece)
 
@@ -41,16 +41,16 @@ value_in piece = percent_decode (written_value piece)
 abbrev pub metadata_in : List ℕ → List ℕ
 metadata_in piece = trim (after_first is_semicolon piece)
 
--- the member that a piece stands for
+-- the member of a piece
 abbrev pub member_in : List ℕ → Member
 member_in piece = member_of (key_in piece) (value_in piece) (metadata_in piece)
 
--- Whether a piece is a member: there is a `=` before its first `;`, and its value is UTF-8. `a;b=1`
--- isn't, and `a=%ff` isn't.
+-- Whether a piece is a member: it has a `=` before its first `;`, and its value is UTF-8. `a;b=1`
+-- and `a=%ff` aren't.
 abbrev pub is_member : List ℕ → Bool
 is_member piece = list_any is_equals (key_and_value piece) && is_utf8 (value_in piece)
 
--- the list after a piece: with its member inserted, if it is one and is accepted
+-- the list after a piece: with its member inserted, if it has one and it is accepted
 abbrev pub with_piece : List Member → List ℕ → List Member
 with_piece ms piece = if is_member piece then insert ms (member_in piece) else ms
 
@@ -58,9 +58,9 @@ with_piece ms piece = if is_member piece then insert ms (member_in piece) else m
 abbrev pub with_pieces : List Member → List (List ℕ) → List Member
 with_pieces ms ps = fold with_piece ms ps
 
--- What a text is read as: its pieces in order, starting from the empty list (the Rust crate's
--- extraction by `BaggagePropagator`). Every text can be read; what isn't a member and what isn't
--- accepted is skipped.
+-- The members read from a text: from its pieces in order, starting with the empty list (the Rust
+-- crate's extraction by `BaggagePropagator`). Every text can be read; pieces that aren't members or
+-- aren't accepted are skipped.
 abbrev pub read_baggage : List ℕ → List Member
 read_baggage text = with_pieces [] (pieces text)
 
@@ -74,7 +74,8 @@ repeated_example : read_baggage (codes "a=1,b=2,a=3")
 unfolding percent_decode is_utf8 chars trim_start trim_end encode_utf8
 repeated_example = refl
 
--- The header of a baggage is read as that baggage, if no metadata contains a comma (own).
+-- The header of a baggage is read as that baggage, if no metadata contains a comma (not in the Rust
+-- crate).
 abbrev pub BaggageReads : Type 0
 BaggageReads = (ms : List Member) → IsBaggage ms → All HasNoComma ms → read_baggage (header ms) ≡ ms
 
@@ -85,6 +86,6 @@ comma_example : read_baggage (header (member_of (codes "a") (codes "1") (codes "
 unfolding percent_decode is_utf8 chars trim_start trim_end encode_utf8
 comma_example = refl
 
--- What a text is read as is a baggage: it keeps the limits, whatever the text is (own).
+-- The result of reading any text is a baggage, within the limits (not in the Rust crate).
 abbrev pub ReadsBaggage : Type 0
 ReadsBaggage = (text : List ℕ) → IsUtf8 text → IsBaggage (read_baggage text)

@@ -1,4 +1,4 @@
--- What the parts of a `traceparent` are read as, one after the other. No public clause cites this.
+-- The parts read from a `traceparent`, one after the other. No public clause cites this file.
 use Rattle.std.specs.Prelude.{◌≡◌, ◌≢◌, ℕ, ◌<◌, ◌^◌, nat_le, Bool, ◌||◌, ◌&&◌, false}
 use Rattle.std.specs.Prelude.{◌⊎◌, List, ◌++◌, Option, Some, None, MatchOption}
 use Rattle.std.specs.Fmt.{digit_glyph}
@@ -15,24 +15,24 @@ abbrev pub IsDigitOf : ℕ → Option ℕ → Type 0
 IsDigitOf b None = is_digit b ≡ false
 IsDigitOf b (Some d) = (d < 16) × (b ≡ digit_glyph false d)
 
--- the number whose digits the bytes are, or None if they are not all digits
+-- the number with these digits, or None if the bytes aren't all digits
 abbrev pub IsNumberOf : ℕ → List ℕ → Option ℕ → Type 0
 IsNumberOf count bytes None = (n : ℕ) → bytes ≢ id_text count n
 IsNumberOf count bytes (Some n) = (bytes ≡ id_text count n) × (n < 16 ^ count)
 
 -- the number of the first `count` digits with the bytes after them, or None if the bytes don't
--- begin with that many digits
+-- start with that many digits
 abbrev pub IsNumberBefore : ℕ → List ℕ → Option (ℕ × Bor (List ℕ)) → Type 0
 IsNumberBefore count bytes result =
     MatchOption result ((n : ℕ) (rest : List ℕ) → bytes ≢ id_text count n ++ rest)
     (λ x. (bytes ≡ id_text count x.0 ++ x.1.now) × (x.0 < 16 ^ count))
 
--- the bytes after the given front, or None if the bytes don't begin with it
+-- the bytes after the given front, or None if the bytes don't start with it
 abbrev pub IsAfter : List ℕ → List ℕ → Option (Bor (List ℕ)) → Type 0
 IsAfter front bytes result =
     MatchOption result ((rest : List ℕ) → bytes ≢ front ++ rest) (λ rest. bytes ≡ front ++ rest.now)
 
--- the numbers whose text this is, or None if it is the text of no numbers
+-- the numbers with this text, or None if it is the text of no numbers
 abbrev pub AreNumbersOf : List ℕ → Option (ℕ × ℕ × ℕ) → Type 0
 AreNumbersOf text None = (p : Parent) → text ≢ parent_text p
 AreNumbersOf text (Some x) =

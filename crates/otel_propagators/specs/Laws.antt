@@ -1,4 +1,5 @@
--- What both headers bring back of a context that both propagators injected. Not in the Rust crate.
+-- The parts of a context that both headers restore after both propagators injected it. Not in the
+-- Rust crate.
 use Rattle.std.specs.Prelude.{◌≡◌, ◌≢◌, ◌^◌, ◌<◌, ◌⊎◌, ℕ, List, ◌++◌, All, true, map, if◌then◌else◌}
 use Rattle.std.specs.Prelude.{Some, None}
 use Rattle.otel_ids.specs.TraceState.{IsState, header as state_header}
@@ -15,7 +16,7 @@ use Rattle.otel_propagators.specs.TraceContext.{traceparent_key, tracestate_key,
 use Rattle.otel_propagators.specs.TraceContext.{trace_pairs, trace_extracted}
 use Rattle.otel_propagators.specs.TraceParent.{parent_text}
 
--- ---- what is known of every context
+-- ---- the properties of every context
 
 -- ids of 128 and of 64 bits, flags of 8 bits, and a trace state
 pub record IsSpanContext (s : SpanContextRecord) : Type 0 where
@@ -24,8 +25,8 @@ pub record IsSpanContext (s : SpanContextRecord) : Type 0 where
   pub trace_flags : s.trace_flags < 2 ^ 8
   pub trace_state : IsState s.trace_state
 
--- The parts that headers carry keep what their types promise. Every `Context` is one: a caller
--- cites `laws::every_context`.
+-- The parts that the headers carry have the properties of their types. Every `Context` is one: cite
+-- `laws::every_context`.
 pub record IsContext (context : ContextRecord) : Type 0 where
   pub span_context : IsSpanContext (span_context context)
   pub members : IsBaggage (members context)
@@ -39,10 +40,10 @@ pub record BothInject (context : ContextRecord) (old new : TextMap) : Type 0 whe
       (Sets old (trace_pairs context) between × Sets between (baggage_pairs context) new)
       ⊎ (Sets old (baggage_pairs context) between × Sets between (trace_pairs context) new)
 
--- What a carrier of the texts `old` has at the three keys once both propagators have injected the
--- context, by themselves or among others of other keys. It says nothing of other keys.
+-- The texts of a carrier with the texts `old` at the three keys once both propagators have injected
+-- the context, alone or among members with other keys. It says nothing of other keys.
 pub record AreSet (context : ContextRecord) (old new : TextMap) : Type 0 where
-  -- `traceparent` and `tracestate` of a valid span context; of another one both stay
+  -- `traceparent` and `tracestate` of a valid span context; otherwise both are unchanged
   pub traceparent : at new traceparent_key
       ≡ (if is_valid (span_context context)
       then Some (parent_text (parent (span_context context)))
@@ -60,8 +61,8 @@ IsOther pair =
     × (lower pair.0 ≢ tracestate_key)
     × (lower pair.0 ≢ baggage_key)
 
--- The pairs of a composite of both, in either order: those of the one and those of the other, and
--- before, between and after them those of members with other keys.
+-- The pairs of a composite of both, in either order: the pairs of one and of the other, and before,
+-- between and after them the pairs of members with other keys.
 pub record ArePairsOfBoth (context : ContextRecord) (pairs : Pairs) : Type 0 where
   pub before : Pairs
   pub one : Pairs
@@ -76,49 +77,49 @@ pub record ArePairsOfBoth (context : ContextRecord) (pairs : Pairs) : Type 0 whe
 
 -- ---- and back
 
--- both propagators extract from the texts, one after the other, the first from the context `given`
--- on; a composite of both does just that
+-- both propagators extract from the texts, one after the other, starting from the context `given`,
+-- as a composite of both does
 abbrev pub BothExtract : ContextRecord → TextMap → ContextRecord → Type 0
 BothExtract given texts back =
     (back ≡ baggage_extracted (trace_extracted given texts) texts)
     ⊎ (back ≡ trace_extracted (baggage_extracted given texts) texts)
 
--- the span that the other side receives: remote, with the same ids, flags and trace state, but for
--- the blanks at the ends of the trace state's values, which reading cuts
+-- the span that the other side receives: remote, with the same ids, flags and trace state, except
+-- the blanks at the ends of the trace state's values, which reading trims
 abbrev pub received_span : SpanContextRecord → SpanPart
 received_span s = record {
   context = record s { is_remote = true; trace_state = map cut_value s.trace_state };
   number = None;
 }
 
--- What comes back of a context that was injected into a carrier of the texts `old` and is extracted
--- into the context `given`.
+-- The result of injecting a context into a carrier with the texts `old` and extracting it into the
+-- context `given`.
 pub record ComesBack (context : ContextRecord) (old : TextMap) (given back : ContextRecord)
     : Type 0 where
-  -- a valid span context comes back as that of a remote span
+  -- a valid span context is restored as a remote one
   pub span : IsValidSpanContext (span_context context)
       → back.span ≡ Some (received_span (span_context context))
-  -- one that isn't valid sets nothing: if nothing was there, the given span stays
+  -- an invalid one sets nothing: if there was no `traceparent`, the given span stays
   pub no_span : ¬ IsValidSpanContext (span_context context)
       → at old traceparent_key ≡ None → back.span ≡ given.span
-  -- the same members come back, if no metadata holds a comma; no baggage has no members
+  -- the same members are restored, if no metadata contains a comma; no baggage counts as no members
   pub members : All HasNoComma (members context) → members back ≡ members context
-  -- nothing else comes back: the given entries stay, and whether telemetry is suppressed
+  -- nothing else changes: the given entries, and whether telemetry is suppressed
   pub nothing_else : back ≡ record given { span = back.span; baggage = back.baggage }
 
 -- ---- the laws
 
--- what two propagators inject one after the other comes back
+-- a context injected by two propagators in turn is restored
 abbrev pub ComesBackInTurn : Type 0
 ComesBackInTurn = (context given back : ContextRecord) (old new : TextMap) → IsContext context
     → BothInject context old new → BothExtract given new back → ComesBack context old given back
 
--- what stands at the three keys comes back, whatever stands at others
+-- a context is restored from the three keys, whatever the texts at other keys
 abbrev pub ComesBackTogether : Type 0
 ComesBackTogether = (context given back : ContextRecord) (old new : TextMap) → IsContext context
     → AreSet context old new → BothExtract given new back → ComesBack context old given back
 
--- a composite of both, and of others of other keys, sets the three keys
+-- a composite of both, and of members with other keys, sets the three keys
 abbrev pub CompositeSets : Type 0
 CompositeSets = (context : ContextRecord) (pairs : Pairs) (old new : TextMap)
     → ArePairsOfBoth context pairs → Sets old pairs new → AreSet context old new

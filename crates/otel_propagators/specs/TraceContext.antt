@@ -1,5 +1,5 @@
--- What the propagator of trace contexts sets for a context, and which context it extracts
--- [W3C trace-context-2, "traceparent Header" and "tracestate Header"].
+-- The pairs that the propagator of trace contexts sets, and the contexts that it extracts [W3C
+-- trace-context-2, "traceparent Header" and "tracestate Header"].
 use Rattle.std.specs.Prelude.{ℕ, ◌==◌, Bool, true, ◌&&◌, not, List, [], ◌∷◌}
 use Rattle.std.specs.Prelude.{Option, if◌then◌else◌, codes}
 use Rattle.std.specs.Option.{option_and_then, option_map_or}
@@ -24,11 +24,11 @@ trace_fields = traceparent_key ∷ tracestate_key ∷ []
 
 -- ---- injection
 
--- what `traceparent` says of a span context: all eight bits of its flags
+-- the `traceparent` of a span context: all eight bits of its flags
 abbrev pub parent : SpanContextRecord → Parent
 parent context = parent_with context.trace_id context.span_id context.trace_flags
 
--- whether neither id is 0
+-- whether both ids are nonzero
 abbrev pub is_valid : SpanContextRecord → Bool
 is_valid context = not (context.trace_id == 0) && not (context.span_id == 0)
 
@@ -41,16 +41,15 @@ span_context_pairs context =
     ∷ (tracestate_key, header context.trace_state) ∷ []
     else []
 
--- the pairs of a context: those of its span context
+-- the pairs of a context: the pairs of its span context
 abbrev pub trace_pairs : ContextRecord → Pairs
 trace_pairs context = span_context_pairs (span_context context)
 
 -- ---- extraction
 
--- the trace state that the value of `tracestate` is read as, or the empty one if the value is
--- absent or can't be read: a faulty `tracestate` doesn't affect the `traceparent` beside it [W3C
--- trace-context-2, "tracestate Header": a failure to parse it must not affect the parsing of
--- `traceparent`]
+-- the trace state read from the value of `tracestate`, or the empty one if the value is absent or
+-- can't be read: a faulty `tracestate` doesn't affect the `traceparent` [W3C trace-context-2,
+-- "tracestate Header": a failure to parse it must not affect the parsing of `traceparent`]
 abbrev pub state_of : Option (List ℕ) → List Pair
 state_of value = option_map_or (λ pairs. pairs) (option_and_then reading value) []
 

@@ -1,4 +1,4 @@
--- What the header `traceparent` holds: two ids and flags [W3C trace-context-2, "traceparent
+-- The contents of the header `traceparent`: two ids and flags [W3C trace-context-2, "traceparent
 -- Header"].
 use Rattle.std.specs.Prelude.{◌≡◌, ◌≢◌, ◌↔◌, ℕ, ◌^◌, ◌<◌, ◌==◌, nat_lt, Bool, ◌&&◌, not}
 use Rattle.std.specs.Prelude.{List, ◌∷◌, ◌++◌, take, drop, length, Option, Some, None}
@@ -18,8 +18,8 @@ abbrev pub parent_with : ℕ → ℕ → ℕ → Parent
 parent_with trace_id span_id flags =
     record { trace_id = trace_id; span_id = span_id; flags = flags }
 
--- ids of 128 and of 64 bits, neither of which is 0, and flags of 8 bits
--- [W3C trace-context-2, "trace-id", "parent-id" and "trace-flags"]
+-- ids of 128 and of 64 bits, both nonzero, and flags of 8 bits [W3C trace-context-2, "trace-id",
+-- "parent-id" and "trace-flags"]
 pub record IsParent (p : Parent) : Type 0 where
   pub trace_fits : p.trace_id < 2 ^ 128
   pub trace_some : p.trace_id ≢ 0
@@ -35,7 +35,7 @@ parent_text p =
     ++ (45 ∷ (id_text 16 p.span_id
     ++ (45 ∷ id_text 2 p.flags))))
 
--- without the blanks at its ends the text is exactly that of the ids and flags. So upper-case
+-- without the blanks at its ends, the text is exactly the text of the ids and flags. So upper-case
 -- digits, another version, an id of only zeros, and anything after the flags can't be read
 pub record ReadsParent (text : List ℕ) (p : Parent) : Type 0 where
   pub spelled : cut_blanks text ≡ parent_text p
@@ -59,23 +59,23 @@ is_parent p =
     && (nat_lt p.span_id (2 ^ 64) && not (p.span_id == 0))
     && nat_lt p.flags (2 ^ 8)
 
--- the numbers of a text without blanks at its ends, if it is exactly what is written for them
+-- the numbers of a text without blanks at its ends, if it is exactly their text
 abbrev pub parent_in : List ℕ → Option Parent
 parent_in text =
     let p = numbers_in text in
     if bytes_eq text (parent_text p) && is_parent p then Some p else None
 
--- the ids and flags that a text is read as, if it can be read
+-- the ids and flags read from a text, if it can be read
 unfoldable pub parent_of : List ℕ → Option Parent
 parent_of text = parent_in (cut_blanks text)
 
--- ---- what holds of each text
+-- ---- the properties of each text
 
--- `parent_of` gives exactly the ids and flags that the text is read as
+-- `parent_of` returns exactly the ids and flags read from the text
 abbrev pub ParentsAgree : Type 0
 ParentsAgree = (text : List ℕ) (p : Parent) → ReadsParent text p ↔ (parent_of text ≡ Some p)
 
--- the text of ids and flags is read as these
+-- the text of ids and flags is read as the same ids and flags
 abbrev pub ParentReads : Type 0
 ParentReads = (p : Parent) → IsParent p → ReadsParent (parent_text p) p
 

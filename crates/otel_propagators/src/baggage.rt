@@ -1,4 +1,4 @@
-//! The header `baggage` (W3C baggage), which carries a context's baggage.
+//! The propagator of the header `baggage` (W3C baggage).
 ghost use Rattle.std.specs.Prelude.{◌≡◌, IfOk, map, string_bytes};
 ghost use Rattle.otel_context.specs.BaggageHeader.{header};
 ghost use Rattle.otel_propagators.specs.BaggagePropagator.{baggage_fields, members};
@@ -14,18 +14,18 @@ use std::alloc::{AllocError, Global};
 /// The name of the header (W3C baggage, "Header Name").
 const BAGGAGE_HEADER: &str = "baggage";
 
-/// Carries a context's baggage from one process to another, in the header `baggage` (W3C baggage;
-/// `BaggagePropagator` of the Rust crate `opentelemetry_sdk`).
+/// Propagates a context's baggage from one process to another, in the header `baggage` (W3C
+/// baggage; `BaggagePropagator` of the Rust crate `opentelemetry_sdk`).
 ///
-/// It sets `baggage` to the text of the context's baggage, which is empty if the context has no
-/// baggage. It extracts the given context with the baggage that the value of `baggage` is read as;
-/// without such a value, the given context. The propagator itself never refuses: what can't be read
-/// or isn't accepted is skipped.
+/// Sets `baggage` to the text of the context's baggage, which is empty if the context has no
+/// baggage. Extracts a copy of the given context with the baggage read from the value of `baggage`,
+/// or a copy of the given context if there is no value. The propagator itself never refuses: it
+/// skips members that can't be read or aren't accepted.
 ///
-/// Keys are tokens and values are escaped, but metadata is written as it is and may hold CR, LF and
-/// NUL: a carrier of text lines must refuse such a value.
+/// Keys are tokens and values are escaped, but metadata is written as it is and may contain CR, LF
+/// and NUL. A carrier of text lines must refuse such a text.
 ///
-/// `otel_examples::service` takes it, like any propagator.
+/// See `otel_examples::service`, which uses a propagator of any type.
 #[derive(Drop)]
 pub struct BaggagePropagator {
     alloc: Global,
@@ -34,7 +34,7 @@ pub struct BaggagePropagator {
 }
 
 impl BaggagePropagator {
-    /// Returns the propagator. The texts that it sets are allocated in `alloc`.
+    /// Returns a propagator that allocates the texts that it sets in `alloc`.
     ///
     /// # Errors
     ///
@@ -45,7 +45,7 @@ impl BaggagePropagator {
     }
 }
 
-/// Returns the text of the context's baggage, which is empty if there is none.
+/// Returns the text of the context's baggage, which is empty if the context has no baggage.
 fn header_of(alloc: Global, context: &Context) -> Result<String, AllocError>
     ensures { IfOk result (λ text. string_bytes text ≡ header (members context.now)) }
 {

@@ -1,5 +1,4 @@
-//! Laws of the headers, each the contract of a function that does nothing, for a caller to cite.
-//! Not in the Rust crate.
+//! Laws of the headers. Each function does nothing: its contract is the law. Not in the Rust crate.
 ghost use Rattle.otel_propagators.specs.BaggageReading.{BaggageReads, ReadsBaggage};
 ghost use Rattle.otel_propagators.specs.Laws.{ComesBackInTurn, ComesBackTogether, CompositeSets};
 ghost use Rattle.otel_propagators.specs.Laws.{IsContext};
@@ -8,25 +7,25 @@ ghost use Rattle.otel_propagators.specs.TraceParent.{ParentsAgree};
 
 use otel_context::Context;
 
-/// A context that both propagators inject into a carrier, and that both extract again from there,
-/// comes back: a valid span context as that of a remote span, with the same ids, flags and trace
-/// state, but for the blanks at the ends of the trace state's values; and the same members of the
-/// baggage, if no metadata holds a comma. If the span context isn't valid and the carrier had no
-/// `traceparent`, the span stays that of the context that is extracted into. Nothing else of that
-/// context changes.
+/// States that a context that both propagators inject into a carrier is restored if both extract it
+/// again. A valid span context is restored as a remote one, with the same ids, flags and trace
+/// state, except blanks at the ends of the trace state's values. The members of the baggage are
+/// restored if no metadata contains a comma. If the span context isn't valid and the carrier had no
+/// `traceparent`, the context that is extracted into keeps its span. Nothing else of that context
+/// changes.
 ///
-/// What it asks of the context holds of every one, by [`every_context`].
+/// Every context meets the conditions, by [`every_context`].
 pub fn headers_there_and_back()
     // One propagator injects after the other, in either order.
     ensures in_turn { ComesBackInTurn }
-    // The three keys have what both set, whatever other keys have.
+    // The three keys have the values that both set; other keys may have any.
     ensures together { ComesBackTogether }
-    // A composite of both, also among members of other keys, sets the three keys so.
+    // A composite of both, possibly with members of other keys, sets the three keys so.
     ensures composite { CompositeSets }
 {}
 
-/// States what is known of every context: its span context has ids of 128 and of 64 bits, flags of
-/// 8 bits and a trace state, and its members are a baggage. Takes no memory.
+/// States the properties of every context: its span context has ids of 128 and of 64 bits, flags of
+/// 8 bits and a trace state, and its members form a baggage. Doesn't allocate.
 pub fn every_context(context: &Context)
     ensures { IsContext context.now }
 {
@@ -42,11 +41,11 @@ pub fn every_context(context: &Context)
 
 /// States how the text of a `traceparent` is read.
 pub fn traceparent_reading()
-    // The text of ids and flags is read as these.
+    // The text of ids and flags is read as the same ids and flags.
     ensures reads { ParentReads }
     // A text is read as at most one trace id, span id and flags.
     ensures one { OneParent }
-    // `parent_of` returns exactly those.
+    // `parent_of` returns exactly this trace id, span id and flags.
     ensures function { ParentsAgree }
     // Each text of ids and flags has 55 bytes.
     ensures length { ParentLength }
@@ -56,6 +55,6 @@ pub fn traceparent_reading()
 pub fn baggage_reading()
     // The header of a baggage is read as that baggage, if no metadata contains a comma.
     ensures reads { BaggageReads }
-    // What a text is read as is a baggage.
+    // Whatever is read from a text is a baggage.
     ensures limits { ReadsBaggage }
 {}

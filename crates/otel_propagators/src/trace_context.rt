@@ -18,17 +18,17 @@ const TRACEPARENT: &str = "traceparent";
 
 const TRACESTATE: &str = "tracestate";
 
-/// Carries the span context of a context from one process to another, in the headers `traceparent`
-/// and `tracestate` (W3C trace-context-2; `TraceContextPropagator` of the Rust crate
+/// Propagates the span context of a context from one process to another, in the headers
+/// `traceparent` and `tracestate` (W3C trace-context-2; `TraceContextPropagator` of the Rust crate
 /// `opentelemetry_sdk`).
 ///
 /// A `traceparent` is `00-`, 32 lower-case hexadecimal digits of the trace id, `-`, 16 of the span
-/// id, `-` and 2 of the flags, of which all eight bits are written and read.
+/// id, `-` and 2 of the flags. All eight bits of the flags are written and read.
 ///
-/// A value of a `tracestate` may hold any byte but `,` and `=`, so CR, LF and NUL too: a carrier of
-/// text lines must refuse such a value.
+/// A value of a `tracestate` may contain any byte except `,` and `=`, even CR, LF and NUL. A
+/// carrier of text lines must refuse such a value.
 ///
-/// `otel_examples::service` takes it, like any propagator.
+/// See `otel_examples::service`, which uses a propagator of any type.
 #[derive(Drop)]
 pub struct TraceContextPropagator {
     alloc: Global,
@@ -50,15 +50,15 @@ impl TraceContextPropagator {
     }
 }
 
-/// Reads the ids and flags of a `traceparent`, if it is there and has the right form.
+/// Reads the ids and flags of a `traceparent`, if it is present and has the right form.
 fn read_parent(value: Option<&str>) -> Option<Parent>
     ensures { result ≡ option_and_then parent_of (option_copied value.entry) }
 {
     traceparent::read(value?)
 }
 
-/// Reads the trace state of a `tracestate`. Returns the empty one if the value is absent or can't
-/// be read.
+/// Reads the trace state of a `tracestate`. Returns an empty one if the value is absent or can't be
+/// read.
 fn read_state(alloc: Global, value: Option<&str>) -> Result<TraceState, AllocError>
     ensures { IfOk result (λ state. state ≡ state_of (option_copied value.entry)) }
 {
@@ -72,13 +72,14 @@ fn read_state(alloc: Global, value: Option<&str>) -> Result<TraceState, AllocErr
     }
 }
 
-/// It sets `traceparent`, and then `tracestate` with the header of the trace state, even if that is
-/// empty; both texts are made before the first is set. If the span context isn't valid it sets
-/// nothing.
+/// Sets `traceparent`, and then `tracestate` with the header of the trace state, even if that is
+/// empty. Both texts are made before the first is set. Sets nothing if the span context isn't
+/// valid.
 ///
-/// It extracts the given context with the remote span context of the two values, or a copy of the
-/// given context if `traceparent` is absent, doesn't have this form between blanks, or has an id
-/// that is 0. A `tracestate` that is absent or can't be read leaves the trace state empty. It never
+/// Extracts a copy of the given context with the remote span context of the two values, or a copy
+/// of the given context if `traceparent` is absent, doesn't have this form between blanks, or has
+/// an id that is 0. If `tracestate` is absent or can't be read, the trace state is empty. Never
+/// refuses.
 /// refuses.
 impl TextMapPropagator for TraceContextPropagator {
     ghost use Rattle.std.specs.Prelude.{false};

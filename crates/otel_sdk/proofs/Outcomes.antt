@@ -1,4 +1,4 @@
--- What follows of a value that is given.
+-- The consequences of a given value.
 use Rattle.std.proofs.Common.{Result, Ok, Err, IfOk}
 
 pub weaken : {T E : Type 0} (P Q : T → Type 0) → ((x : T) → P x → Q x)

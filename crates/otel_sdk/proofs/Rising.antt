@@ -1,4 +1,4 @@
--- The bound doesn't fall as the ratio grows.
+-- The bound doesn't decrease as the ratio increases.
 use Rattle.std.proofs.Common.{◌≡◌, ℕ, ◌+◌, ◌*◌, ◌/◌, ◌%◌, ◌^◌, ◌<◌, ◌≤◌, sym, ap, ◌∙◌, arith, inl, inr, nat_lt, true, refl}
 use Rattle.std.proofs.Math.Nat.{le_trans, le_of_eq, le_of_lt, lt_of_lt_of_le, lt_of_le_of_lt, mul-le-mul, pow-le-pow_right, div-le_of_le-mul, eq-zero-or-pos, eq-or-lt_of_le, mul_assoc, mul_comm, div-mul-le_self}
 use Rattle.std.proofs.lemmas.Nat.{pow-add, pow_pos, le-div}

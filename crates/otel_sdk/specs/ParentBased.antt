@@ -6,7 +6,7 @@ use Rattle.otel_sdk.specs.declared.trace.sampler.Sampler.{Sampler}
 use Rattle.otel_sdk.specs.declared.trace.sampler.Sampler.TheVariants.{AlwaysOn, AlwaysOff}
 use Rattle.otel_sdk.specs.declared.trace.sampler.parent_based.ParentBased.{ParentBased}
 
--- the sampler that asks `root` for a root, and samples another span if its parent is sampled
+-- the sampler that asks `root` for a root, and samples any other span if its parent is sampled
 -- [OpenTelemetry trace SDK, "ParentBased"]
 abbrev pub after_parent : {Root : Type 0} → Root → ParentBased Root Sampler Sampler Sampler Sampler
 after_parent root = record {
@@ -17,7 +17,7 @@ after_parent root = record {
   local_parent_not_sampled = AlwaysOff;
 }
 
--- the text is the description made of those of the five samplers
+-- the text is the description made from descriptions of the five samplers
 abbrev pub IsParentBasedText : {A : Type 0} → List ℕ → List ℕ → List ℕ → List ℕ → List ℕ
     → String A → Type 0
 IsParentBasedText root remote_on remote_off local_on local_off text =

@@ -1,11 +1,11 @@
--- Which traces a ratio samples: the bound of a ratio, which is a double seen as its 64 bits, and
--- the number of a trace id that is compared with that bound.
+-- The traces that a ratio samples: the bound of a ratio, which is a double given by its 64 bits,
+-- and the number of a trace id that is compared with that bound.
 use Rattle.std.specs.Prelude.{◌≡◌, refl, ℕ, ◌+◌, ◌*◌, ◌/◌, ◌%◌, ◌^◌, ◌==◌, ◌<◌, ◌≤◌, nat_lt, nat_le, Bool}
 use Rattle.std.specs.Prelude.{List, codes, if◌then◌else◌}
 
 -- ---- doubles [IEEE 754, "binary64"]
 
--- the bits of 1.0, and of infinity; greater bits are those of NaN or have the sign set
+-- the bits of 1.0, and of infinity; greater bits are NaN or have the sign set
 abbrev pub one : ℕ
 one = 1023 * 2 ^ 52
 
@@ -21,10 +21,10 @@ exponent bits = bits / 2 ^ 52 % 2 ^ 11
 abbrev pub significand : ℕ → ℕ
 significand bits = 2 ^ 52 + bits % 2 ^ 52
 
--- ---- what a ratio samples
+-- ---- the traces that a ratio samples
 
--- The ratio times 2 ^ 63 without its fraction: 2 ^ 62 of 0.5. A ratio below 0 and NaN count as 0,
--- one above 1 as 1 [own; the Rust crate's `TraceIdRatioBased`].
+-- The ratio times 2 ^ 63 without its fraction: 2 ^ 62 for 0.5. A ratio below 0 and NaN count as 0,
+-- a ratio above 1 as 1 [not specified; the Rust crate's `TraceIdRatioBased`].
 abbrev pub bound : ℕ → ℕ
 bound bits =
     if nat_lt infinity bits then 0
@@ -41,8 +41,8 @@ half trace_id = trace_id % 2 ^ 64 / 2
 abbrev pub samples : ℕ → ℕ → Bool
 samples bits trace_id = nat_lt (half trace_id) (bound bits)
 
--- the text of the ratio that counts: 0 if it samples nothing and isn't above 0, 1 from 1 on,
--- otherwise what `Display` prints, about which std promises nothing
+-- the text of the effective ratio: 0 if it samples nothing and isn't above 0, 1 from 1 on,
+-- otherwise the output of `Display`, which std doesn't specify
 pub record IsNumberText (bits : ℕ) (text : List ℕ) : Type 0 where
   pub zero : bits ≡ 0 → text ≡ codes "0"
   pub below_zero : infinity < bits → text ≡ codes "0"
@@ -63,7 +63,7 @@ quarter_bound = refl
 thousandth_bound : bound 0x3f50_624d_d2f1_a9fc ≡ 9223372036854776
 thousandth_bound = refl
 
--- 2 ^ -63, 2 ^ -64 and the least double above 0
+-- 2 ^ -63, 2 ^ -64 and the smallest double above 0
 least_bound : bound 0x3c00_0000_0000_0000 ≡ 1
 least_bound = refl
 
@@ -96,6 +96,6 @@ two_bound = refl
 infinity_bound : bound 0x7ff0_0000_0000_0000 ≡ 2 ^ 63
 infinity_bound = refl
 
--- neither the high half of a trace id nor its last bit counts
+-- the high half of a trace id and its last bit don't count
 high_half : half 0xffff_ffff_ffff_ffff_0000_0000_0000_0003 ≡ 1
 high_half = refl

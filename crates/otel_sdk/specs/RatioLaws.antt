@@ -2,17 +2,17 @@
 use Rattle.std.specs.Prelude.{◌≡◌, ℕ, ◌≤◌, true}
 use Rattle.otel_sdk.specs.Ratio.{half, bound, samples, infinity}
 
--- Whether a trace is sampled is a function of the ratio and of the low half of its id without the
+-- Whether a trace is sampled depends only on the ratio and on the low half of its id without the
 -- last bit.
 abbrev pub OnlyHalfCounts : Type 0
 OnlyHalfCounts = (bits a b : ℕ) → half a ≡ half b → samples bits a ≡ samples bits b
 
--- The bits of doubles that aren't negative rise with the doubles up to infinity, and the bound with
--- the bits.
+-- For nonnegative doubles up to infinity, a greater double has greater bits, and greater bits have
+-- no smaller bound.
 abbrev pub BoundRises : Type 0
 BoundRises = (a b : ℕ) → a ≤ b → b ≤ infinity → bound a ≤ bound b
 
--- A trace that is sampled at one ratio is sampled at each greater one.
+-- A trace that is sampled at one ratio is sampled at every greater ratio.
 abbrev pub SampledAtGreater : Type 0
 SampledAtGreater = (a b trace_id : ℕ) → a ≤ b → b ≤ infinity
     → samples a trace_id ≡ true → samples b trace_id ≡ true

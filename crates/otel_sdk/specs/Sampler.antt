@@ -1,4 +1,4 @@
--- What a sampler is asked and what it answers.
+-- The questions to a sampler and its answers.
 use Rattle.std.specs.Prelude.{◌≡◌, ℕ, List, [], ◌++◌, Bool, true, false, map, codes, if◌then◌else◌, ◌||◌}
 use Rattle.std.specs.Prelude.{nat_eq, to_bits}
 use Rattle.std.specs.Float.{binary64}
@@ -20,8 +20,8 @@ use Rattle.otel_sdk.specs.declared.trace.sampler.SamplingResult.{SamplingResult}
 use Rattle.otel_sdk.specs.declared.trace.sampler.Sampler.{Sampler}
 use Rattle.otel_sdk.specs.declared.trace.sampler.Sampler.TheVariants.{AlwaysOn, AlwaysOff, TraceIdRatioBased}
 
--- the parent context, the trace id of the span, and the name, kind, attributes and links that its
--- builder gives [OpenTelemetry trace SDK, "ShouldSample"]
+-- the parent context, the trace id of the span, and the name, kind, attributes and links from its
+-- builder [OpenTelemetry trace SDK, "ShouldSample"]
 pub record Asked : Type 0 where
   pub parent : ContextRecord
   pub trace_id : ℕ
@@ -37,7 +37,7 @@ pub record Answer : Type 0 where
   pub attributes : List Attribute
   pub trace_state : List Pair
 
--- what the parameters of `ShouldSample::should_sample` ask
+-- the question in the parameters of `ShouldSample::should_sample`
 abbrev pub asked_of : ContextRecord → ℕ → List ℕ → SpanKind → List KeyValue → List Link → Asked
 asked_of parent trace_id name kind attributes links = record {
   parent = parent;
@@ -56,7 +56,7 @@ result_of r = record {
   trace_state = r.trace_state;
 }
 
--- whether the parent is a span: neither of its ids is 0
+-- whether the parent is a span: both of its ids are nonzero
 abbrev pub has_parent : SpanContextRecord → Bool
 has_parent parent = if nat_eq parent.trace_id 0 || nat_eq parent.span_id 0 then false else true
 
@@ -74,8 +74,8 @@ unchanged decision asked = record {
   trace_state = parents_trace_state (span_context asked.parent);
 }
 
--- what becomes of a span of the trace
--- [OpenTelemetry trace SDK, "AlwaysOn", "AlwaysOff", "TraceIdRatioBased"]
+-- the decision for a span of the trace [OpenTelemetry trace SDK, "AlwaysOn", "AlwaysOff",
+-- "TraceIdRatioBased"]
 abbrev pub decision_of : Sampler → ℕ → SamplingDecision
 decision_of AlwaysOn trace_id = RecordAndSample
 decision_of AlwaysOff trace_id = Drop
@@ -106,7 +106,7 @@ parent_based root remote_on remote_off local_on local_off asked =
     else (if sampled then local_on asked else local_off asked))
     else root asked
 
--- the description made of those of the five samplers
+-- the description made from descriptions of the five samplers
 abbrev pub parent_based_text : List ℕ → List ℕ → List ℕ → List ℕ → List ℕ → List ℕ
 parent_based_text root remote_on remote_off local_on local_off =
     codes "ParentBased{root:" ++ root
@@ -115,7 +115,7 @@ parent_based_text root remote_on remote_off local_on local_off =
     ++ codes ",localParentSampled:" ++ local_on
     ++ codes ",localParentNotSampled:" ++ local_off ++ codes "}"
 
--- the text is made of descriptions of the five samplers
+-- the text is made from descriptions of the five samplers
 abbrev pub DescribesParentBased : (List ℕ → Type 0) → (List ℕ → Type 0) → (List ℕ → Type 0)
     → (List ℕ → Type 0) → (List ℕ → Type 0) → List ℕ → Type 0
 DescribesParentBased root remote_on remote_off local_on local_off text =

@@ -188,6 +188,13 @@ MayBuild answer random limits scope builder context span =
     × ((span ≡ silent) ⊎ ((span ≡ without_ids (parent_of context))
     ⊎ MayStart answer random limits scope builder context span))
 
+-- the tracer started the span with these ids
+abbrev pub IsStarted : {S G : Type 0} → (S → Asked → Answer) → (G → Bool) → TracerState S G
+    → BuilderRecord → ContextRecord → ℕ → ℕ → SpanState → Type 0
+IsStarted answer random t builder context trace_id span_id span =
+    StartsWith (answer t.sampler) (random t.id_generator) t.limits t.scope builder context
+    trace_id span_id span
+
 -- ---- providers
 
 -- the parts of a provider that its tracers depend on, and its resource

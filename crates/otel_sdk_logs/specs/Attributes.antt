@@ -15,6 +15,10 @@ pub record Held : Type 0 where
   pub attributes : List Attribute
   pub dropped : ℕ
 
+-- these attributes, with this count
+abbrev pub held : List Attribute → ℕ → Held
+held attributes dropped = record { attributes = attributes; dropped = dropped }
+
 -- the place of the key, if an attribute has it
 abbrev pub place : List ℕ → List Attribute → Option ℕ
 place key held = position (λ a. bytes_eq a.0 key) held

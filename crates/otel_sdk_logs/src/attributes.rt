@@ -53,10 +53,8 @@ fn set(held: &mut Pairs, key: Key, value: AnyValue) -> bool
 // Sets the attribute, or counts it if it isn't kept.
 fn set_counted(held: &mut Pairs, dropped: &mut u32, key: Key, value: AnyValue)
     requires { vec_len held.old < vec_capacity held.old }
-    ensures set { (record { attributes = pairs_view held.new.items; dropped = dropped.new })
-        ≡ spec.with_one
-        (record { attributes = pairs_view held.old.items; dropped = dropped.old })
-        (key, tree value) }
+    ensures set { spec.held (pairs_view held.new.items) dropped.new
+        ≡ spec.with_one (spec.held (pairs_view held.old.items) dropped.old) (key, tree value) }
     ensures len { vec_len held.new ≤ vec_len held.old + 1 }
     ensures capacity { vec_capacity held.new ≡ vec_capacity held.old }
 {
@@ -87,11 +85,8 @@ pub(crate) fn set_one(
     key: Key,
     value: AnyValue,
 ) -> Result<(), AllocError>
-    ensures ok { OnOk result
-        ((record { attributes = pairs_view held.new.items; dropped = dropped.new })
-        ≡ spec.with_one
-        (record { attributes = pairs_view held.old.items; dropped = dropped.old })
-        (key, tree value)) }
+    ensures ok { OnOk result (spec.held (pairs_view held.new.items) dropped.new
+        ≡ spec.with_one (spec.held (pairs_view held.old.items) dropped.old) (key, tree value)) }
     ensures err { OnErr result (held.new.items ≡ held.old.items) }
     ensures uncounted { OnErr result (dropped.new ≡ dropped.old) }
 {
@@ -106,10 +101,8 @@ pub(crate) fn set_one(
 ///
 /// `AllocError` if out of memory. Nothing changes; the attributes are dropped.
 pub(crate) fn set_all(held: &mut Pairs, dropped: &mut u32, given: Pairs) -> Result<(), AllocError>
-    ensures ok { OnOk result
-        ((record { attributes = pairs_view held.new.items; dropped = dropped.new })
-        ≡ spec.with_all
-        (record { attributes = pairs_view held.old.items; dropped = dropped.old })
+    ensures ok { OnOk result (spec.held (pairs_view held.new.items) dropped.new
+        ≡ spec.with_all (spec.held (pairs_view held.old.items) dropped.old)
         (pairs_view given.items)) }
     ensures err { OnErr result (held.new.items ≡ held.old.items) }
     ensures uncounted { OnErr result (dropped.new ≡ dropped.old) }

@@ -1,18 +1,17 @@
-//! Plays many inputs of the program in one process, and prints those for which it writes something
-//! else than is wanted.
+//! Runs many inputs of the program in one process, and prints the ones with an unexpected output.
 //!
 //! Standard input has for each of them a line `LENGTH STATUS LENGTH`, the input's bytes, and the
-//! bytes that are wanted. Before the inputs stands a line, `programs` or `headers`. Standard output
-//! has a line for each other answer, up to 20: the number of the input, the status, and what was
-//! written, in hexadecimal digits; and a last line `done COUNT`.
+//! expected bytes. A line before the inputs is `programs` or `headers`. Standard output has a line
+//! for each unexpected output, up to 20: the number of the input, the status, and the output in
+//! hexadecimal digits. The last line is `done COUNT`.
 use crate::{headers, serve};
 use std::alloc::{AllocError, Global};
 use std::io::{self, BufWriter, Read, Write};
 
-/// How many other answers are printed.
+/// The maximum number of unexpected outputs that are printed.
 const MOST: u32 = 20;
 
-/// An input, and what it is to come to.
+/// An input, and its expected output.
 #[derive(Clone, Copy)]
 struct Case<'a> {
     input: &'a [u8],
@@ -20,7 +19,7 @@ struct Case<'a> {
     wanted: &'a [u8],
 }
 
-/// What comes before the first `end`, and what comes after it.
+/// The bytes before the first `end`, and the bytes after it.
 fn cut(bytes: &[u8], end: u8) -> Option<(&[u8], &[u8])> {
     let at = bytes.iter().position(|byte| *byte == end)?;
     Some((bytes.get(..at)?, bytes.get(at + 1..)?))
@@ -30,7 +29,7 @@ fn number(bytes: &[u8]) -> Option<usize> {
     str::from_utf8(bytes).ok()?.parse::<usize>().ok()
 }
 
-/// The next case, and what comes after it.
+/// The next case, and the bytes after it.
 fn next(bytes: &[u8]) -> Option<(Case<'_>, &[u8])> {
     let (line, rest) = cut(bytes, b'\n')?;
     let (length, line) = cut(line, b' ')?;
@@ -47,7 +46,7 @@ fn next(bytes: &[u8]) -> Option<(Case<'_>, &[u8])> {
     Some((case, rest.get(length + wanted_length..)?))
 }
 
-/// What the program writes for the input, and its status.
+/// The output of the program for the input, and its status.
 fn answer(alloc: Global, input: &[u8]) -> Result<(Vec<u8>, u8), AllocError> {
     let mut output = Vec::new(alloc);
     let status = serve(alloc, input, &mut output)?;

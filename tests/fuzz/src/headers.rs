@@ -1,4 +1,4 @@
-//! What a context that is extracted from headers is injected as, and what comes of that again.
+//! Extracts a context from headers, injects it, and does the same again with the result.
 use opentelemetry::Context;
 use opentelemetry::propagation::{
     Injector, PropagationError, TextMapCompositePropagator, TextMapPropagator,
@@ -10,7 +10,7 @@ use std::io::{self, Write};
 
 type Carrier = HashMap<String, String>;
 
-/// The carrier of the lines `KEY=VALUE`.
+/// The carrier with the lines `KEY=VALUE`.
 fn carrier_of(alloc: Global, input: &[u8]) -> Result<Carrier, PropagationError> {
     let mut carrier: Carrier = HashMap::new(alloc);
     let text = str::from_utf8(input).unwrap_or("");
@@ -29,7 +29,7 @@ fn composite(alloc: Global) -> Result<TextMapCompositePropagator, AllocError> {
     TextMapCompositePropagator::new(alloc, members)
 }
 
-/// The carrier that the context is injected into which is extracted from this one.
+/// The carrier into which the context extracted from this one is injected.
 fn passed_on(
     alloc: Global,
     composite: &TextMapCompositePropagator,
@@ -41,7 +41,7 @@ fn passed_on(
     Ok(next)
 }
 
-/// Adds the lines `KEY=VALUE` of the carrier, in rising order.
+/// Adds the lines `KEY=VALUE` of the carrier, in ascending order.
 fn write_carrier(alloc: Global, output: &mut Vec<u8>, carrier: &Carrier) -> io::Result<()> {
     let mut pairs = Vec::new(alloc);
     for (key, value) in carrier {

@@ -1,8 +1,8 @@
-//! Scenarios for runs in which memory runs out: each makes calls on fixed values, and prints their
-//! answers and what became of what they were lent.
+//! Scenarios for runs out of memory: each makes calls on fixed values, and prints their answers and
+//! the state of their borrowed arguments.
 //!
-//! The name of a scenario is read from standard input; without one all of them run. Nothing here
-//! takes memory to print.
+//! The name of a scenario is read from standard input; without a name, all scenarios run. Nothing
+//! here allocates to print.
 #![tactic(auto)]
 
 mod context;

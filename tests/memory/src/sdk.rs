@@ -100,7 +100,7 @@ fn builder(alloc: Global) -> Result<ResourceBuilder, AllocError> {
     Resource::builder_empty(alloc).with_attribute(attribute())
 }
 
-/// Prints how many attributes there are.
+/// Prints the number of attributes.
 fn built<R: Print>(lines: &Lines<'_, R>, answer: Result<ResourceBuilder, AllocError>) {
     lines.answer_of(answer.map(|builder| builder.build().len()));
 }

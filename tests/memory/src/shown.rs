@@ -1,4 +1,4 @@
-//! How values of the libraries are printed without taking memory.
+//! Printing values of the libraries without allocating.
 use crate::lines::Lines;
 use otel_base::{AnyValue, InstrumentationScope, Key, KeyValue};
 use otel_context::Context;
@@ -7,7 +7,7 @@ use otel_ids::{SpanContext, TraceState};
 use std::collections::BTreeMap;
 use std::fmt::{self, Display, Formatter};
 
-/// A value of the libraries whose type has no `Display`, or one that takes memory.
+/// A value of the libraries whose type has no `Display`, or one that allocates.
 pub trait Shown {
     fn show<W: fmt::Write>(&self, f: &mut Formatter<W>) -> fmt::Result;
 }
@@ -22,7 +22,7 @@ impl<T: Shown> Display for Show<'_, T> {
     }
 }
 
-/// Prints the answer of a call that takes memory, or its error.
+/// Prints the answer of a call that allocates, or its error.
 pub fn answer_shown<R: Print, T: Shown + Drop, E: Display + Drop>(
     lines: &Lines<'_, R>,
     answer: Result<T, E>,
@@ -33,7 +33,7 @@ pub fn answer_shown<R: Print, T: Shown + Drop, E: Display + Drop>(
     }
 }
 
-/// Prints the answer of the named call, which takes no memory, or the error that it never gives.
+/// Prints the answer of the named call, which doesn't allocate, or the error that it never returns.
 pub fn free_shown<R: Print, T: Shown + Drop, E: Display + Drop>(
     lines: &Lines<'_, R>,
     call: &str,
@@ -88,7 +88,7 @@ impl Shown for KeyValue {
     }
 }
 
-/// A value tree, down to what its list or map holds.
+/// A value tree, including the items of its list or map.
 impl Shown for AnyValue {
     fn show<W: fmt::Write>(&self, f: &mut Formatter<W>) -> fmt::Result {
         match self {
@@ -121,7 +121,7 @@ fn write_map<W: fmt::Write>(
     f.write_str("}")
 }
 
-/// A value tree, and of a list or map how long it is.
+/// A value tree, and the length of a list or map.
 fn write_leaf<W: fmt::Write>(f: &mut Formatter<W>, value: &AnyValue) -> fmt::Result {
     match value {
         AnyValue::Int(number) => number.fmt(f),

@@ -1,4 +1,4 @@
-//! Log records of odd values, drawn by the numbers of `Draws`.
+//! Log records with odd values, drawn with the numbers of `Draws`.
 use crate::{BATCHES, Draws, MANY};
 use opentelemetry::logs::{AnyValue, LogRecord, Severity};
 use opentelemetry::trace::{SpanId, TraceFlags, TraceId};
@@ -44,7 +44,7 @@ impl Draws {
         Key::from(self.text())
     }
 
-    // A tree that nests at most so deep.
+    // A tree that nests at most this deep.
     fn tree(&mut self, alloc: Global, depth: u64) -> Result<AnyValue, AllocError> {
         let cases = if depth == 0 { 4 } else { 6 };
         match self.below(cases) {
@@ -142,7 +142,7 @@ impl Draws {
     }
 }
 
-// Exports a batch of so many log records under a resource of its own.
+// Exports a batch of `count` log records under a resource of its own.
 fn export<W: Write + Drop>(
     alloc: Global,
     draws: &mut Draws,

@@ -1,4 +1,5 @@
-//! Lines of JSON for spans and then for log records of odd values, drawn by the numbers of `Draws`.
+//! Lines of JSON for spans and then for log records with odd values, drawn with the numbers of
+//! `Draws`.
 #![tactic(auto)]
 
 mod logs;
@@ -14,10 +15,10 @@ use std::alloc::{AllocError, Global};
 use std::io::{self, ErrorKind, Write};
 use std::rc::Rc;
 
-// The batches of up to three spans or log records.
+// The number of batches of up to three spans or log records.
 const BATCHES: u64 = 1000;
 
-// The spans or log records of the batch after them.
+// The number of spans or log records of the batch after them.
 const MANY: u64 = 10_000;
 
 const TEXTS: [&'static str; 8] = [
@@ -215,7 +216,7 @@ impl Draws {
     }
 }
 
-// Exports a batch of so many spans under a resource of its own.
+// Exports a batch of `count` spans under a resource of its own.
 fn export<W: Write + Drop>(
     alloc: Global,
     draws: &mut Draws,

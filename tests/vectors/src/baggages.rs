@@ -6,7 +6,7 @@ use opentelemetry::baggage::{Baggage, BaggageMetadata, KeyValueMetadata};
 use opentelemetry::{Key, KeyValue, StringValue, Value};
 use std::alloc::{AllocError, Global};
 
-/// The text that metadata of this text keeps.
+/// The text of metadata made from this text.
 pub fn metadata(alloc: Global, arguments: &[Token]) -> Result<Answer, Fault> {
     let metadata = BaggageMetadata::new(alloc, one_text(arguments)?)?;
     let printed = metadata.to_string(alloc)?;
@@ -14,14 +14,14 @@ pub fn metadata(alloc: Global, arguments: &[Token]) -> Result<Answer, Fault> {
     Ok(Answer::of_text(alloc, metadata.as_str())?)
 }
 
-/// What a new baggage prints, and the baggage.
+/// The printed text of a new baggage, and the baggage.
 pub type Made = (Answer, Baggage);
 
 fn printed(alloc: Global, baggage: Baggage) -> Result<Made, AllocError> {
     Ok((Answer::of_text(alloc, &baggage.to_string(alloc)?)?, baggage))
 }
 
-/// The baggage of the pairs `KEY=VALUE`.
+/// The baggage with the pairs `KEY=VALUE`.
 pub fn from_key_values(alloc: Global, arguments: &[Token]) -> Result<Made, Fault> {
     let mut pairs = Vec::new(alloc);
     for pair in arguments.chunks(3) {
@@ -33,7 +33,7 @@ pub fn from_key_values(alloc: Global, arguments: &[Token]) -> Result<Made, Fault
     Ok(printed(alloc, Baggage::from_key_values(alloc, pairs)?)?)
 }
 
-/// The baggage of the entries `KEY=VALUE METADATA`.
+/// The baggage with the entries `KEY=VALUE METADATA`.
 pub fn from_key_values_with_metadata(alloc: Global, arguments: &[Token]) -> Result<Made, Fault> {
     let mut entries = Vec::new(alloc);
     for entry in arguments.chunks(4) {
@@ -128,7 +128,7 @@ fn asked(
     }
 }
 
-/// The number of pairs, and of each its key, value and metadata.
+/// The number of pairs, and the key, value and metadata of each.
 fn pairs(alloc: Global, baggage: &Baggage) -> Result<Answer, Fault> {
     let mut answer = Answer::new(alloc);
     answer.word(baggage.iter().count())?;

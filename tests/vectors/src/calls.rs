@@ -18,7 +18,8 @@ pub enum Subject {
     Scope(InstrumentationScope),
 }
 
-/// What the row's call answers. A row that isn't indented makes a new value for those indented below it, or none.
+/// The answer of the row's call. A row that isn't indented makes a new value for the indented rows
+/// below it, or none.
 pub fn answer(alloc: Global, row: &Row, subject: &mut Subject) -> Result<Answer, Fault> {
     if row.is_indented {
         return act(alloc, row, subject);

@@ -1,17 +1,18 @@
-//! Why a row has no answer.
+//! The reasons why a row has no answer.
 use std::alloc::{AllocError, AllocFailed};
 use std::fmt;
 
-/// Why a row has no answer. It prints the words that the report says of the row.
+/// The reason why a row has no answer. It prints as the message in the report.
 #[derive(Clone, Copy, Debug)]
 pub enum Fault {
-    /// The text of the row isn't of the form of a row.
+    /// The text doesn't have the form of a row.
     Malformed(&'static str),
     /// No call has this name.
     UnknownCall,
     /// The call has other arguments.
     Arguments,
-    /// The call acts on a value of another type than the rows above it made, or on none.
+    /// The call acts on a value of another type than the value of the rows above it, or there is no
+    /// value.
     NoValue,
     /// Two public items that mean the same answer differently.
     Disagrees(&'static str),
@@ -44,7 +45,7 @@ impl<T: Drop> From<AllocFailed<T>> for Fault {
     }
 }
 
-/// Nothing where the two ways agree.
+/// Nothing if the two ways agree.
 pub fn agrees(agrees: bool, what: &'static str) -> Result<(), Fault> {
     if agrees {
         Ok(())

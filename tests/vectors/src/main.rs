@@ -1,7 +1,8 @@
-//! Makes the calls of rows, by the public items of the libraries alone, and compares the answers.
+//! Makes the calls of rows, with only the public items of the libraries, and compares the answers.
 //!
-//! Standard input has a line for each row: its place, a tab, and the row. Standard output has a line for each of them: the
-//! place, and after a tab `same`; or `other`, the row's answer and ours; or `fault` and why the row has no answer.
+//! Standard input has a line for each row: its place, a tab, and the row. Standard output has a
+//! line for each of them: the place, and after a tab `same`; or `other`, the row's answer and ours;
+//! or `fault` and the reason why the row has no answer.
 #![tactic(auto)]
 
 mod baggages;

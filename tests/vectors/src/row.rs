@@ -5,7 +5,7 @@ use std::alloc::{AllocError, Global};
 use std::fmt::Display;
 use std::str::FromStr;
 
-/// What a call answers, as it stands in a row.
+/// The answer of a call, as it is written in a row.
 #[derive(Drop, PartialEq, Eq)]
 pub struct Answer {
     tokens: Vec<Token>,
@@ -57,7 +57,7 @@ impl Answer {
         }
     }
 
-    /// The answer as it may stand in a row.
+    /// The answer as it is written in a row.
     pub fn line(&self, alloc: Global) -> Result<String, AllocError> {
         let mut line = String::new(alloc);
         for token in &self.tokens {
@@ -73,7 +73,7 @@ impl Answer {
 /// A call with its arguments, and its answer.
 #[derive(Drop)]
 pub struct Row {
-    /// Whether the call acts on the value that rows above it made.
+    /// Whether the call acts on the value of the rows above it.
     pub is_indented: bool,
     pub call: String,
     pub arguments: Vec<Token>,
@@ -111,7 +111,7 @@ impl Row {
     }
 }
 
-/// The one argument, a text.
+/// The only argument, a text.
 pub fn one_text(arguments: &[Token]) -> Result<&str, Fault> {
     match arguments {
         [Token::Text(text)] => Ok(text),
@@ -119,7 +119,7 @@ pub fn one_text(arguments: &[Token]) -> Result<&str, Fault> {
     }
 }
 
-/// The one argument, a number or a truth value.
+/// The only argument, a number or a truth value.
 pub fn one_word<T: FromStr>(arguments: &[Token]) -> Result<T, Fault>
 where
     T::Err: Drop,
@@ -130,7 +130,7 @@ where
     }
 }
 
-/// The number or truth value that the token is.
+/// The number or truth value of the token.
 pub fn word_of<T: FromStr>(token: &Token) -> Result<T, Fault>
 where
     T::Err: Drop,

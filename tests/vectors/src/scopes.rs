@@ -34,7 +34,7 @@ fn attributes(alloc: Global, tokens: &[Token]) -> Result<Vec<KeyValue>, Fault> {
     Ok(attributes)
 }
 
-/// The scope of `NAME [version TEXT] [schema_url TEXT] [attributes KEY=VALUE..]`.
+/// The scope made from `NAME [version TEXT] [schema_url TEXT] [attributes KEY=VALUE..]`.
 pub fn scope(alloc: Global, arguments: &[Token]) -> Result<InstrumentationScope, Fault> {
     let [Token::Text(name), parts @ ..] = arguments else {
         return Err(Fault::Arguments);
@@ -68,7 +68,8 @@ fn hash_of(scope: &InstrumentationScope) -> u64 {
     hasher.finish()
 }
 
-/// Whether the scope equals that of the arguments; where it does, also whether their hashes do.
+/// Whether the scope equals the scope of the arguments; if it does, also whether their hashes are
+/// equal.
 pub fn act(
     alloc: Global,
     scope: &InstrumentationScope,

@@ -1,4 +1,4 @@
-//! The tokens of a row, and how they are read and written.
+//! Reading and writing the tokens of a row.
 use crate::fault::Fault;
 use std::alloc::{AllocError, Global};
 
@@ -16,7 +16,7 @@ pub enum Token {
     Arrow,
 }
 
-/// What is left to read of a row.
+/// The unread rest of a row.
 #[derive(Drop)]
 pub struct Cursor<'a> {
     rest: &'a str,
@@ -27,7 +27,7 @@ impl<'a> Cursor<'a> {
         Cursor { rest: row }
     }
 
-    /// The next token; none at the end of the row, or at a comment.
+    /// The next token, or none at the end of the row or at a comment.
     pub fn next(&mut self, alloc: Global) -> Result<Option<Token>, Fault> {
         self.skip_blanks();
         let token = match self.peek() {
@@ -99,7 +99,7 @@ impl<'a> Cursor<'a> {
         }
     }
 
-    /// What stands between two quotes.
+    /// The text between two quotes.
     fn piece(&mut self, alloc: Global) -> Result<String, Fault> {
         if !self.eat('"') {
             return Err(Fault::Malformed("no text stands after `+`"));
@@ -115,7 +115,7 @@ impl<'a> Cursor<'a> {
         }
     }
 
-    /// How often the piece stands: 1, or the number after `*`.
+    /// The number of repetitions of the piece: 1, or the number after `*`.
     fn times(&mut self, alloc: Global) -> Result<usize, Fault> {
         if !self.eat('*') {
             return Ok(1);
@@ -157,7 +157,7 @@ impl<'a> Cursor<'a> {
     }
 }
 
-/// Adds the token, as it may stand in a row.
+/// Adds the token, as it is written in a row.
 pub fn push_token(line: &mut String, token: &Token) -> Result<(), AllocError> {
     match token {
         Token::Word(word) => line.push_str(word),
@@ -167,7 +167,7 @@ pub fn push_token(line: &mut String, token: &Token) -> Result<(), AllocError> {
     }
 }
 
-/// Adds the text between quotes, each long run of one character as a repetition.
+/// Adds the text in quotes, each long run of one character as a repetition.
 fn push_text(line: &mut String, text: &str) -> Result<(), AllocError> {
     let mut is_open = false;
     let mut is_first = true;

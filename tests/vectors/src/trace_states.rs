@@ -5,7 +5,7 @@ use crate::token::Token;
 use opentelemetry::trace::{TraceState, TraceStateError};
 use std::alloc::Global;
 
-/// `ok` with the header, or `err` with the case of the error and the text that it holds.
+/// `ok` with the header, or `err` with the case of the error and its text.
 fn answer(alloc: Global, made: &Result<TraceState, TraceStateError>) -> Result<Answer, Fault> {
     let mut answer = Answer::new(alloc);
     let (word, text) = match made {
@@ -25,7 +25,7 @@ fn answer(alloc: Global, made: &Result<TraceState, TraceStateError>) -> Result<A
     Ok(answer)
 }
 
-/// A new state, where there is one, with the answer.
+/// A new state, if there is one, with the answer.
 pub type Made = (Answer, Option<TraceState>);
 
 pub fn from_str(alloc: Global, arguments: &[Token]) -> Result<Made, Fault> {
@@ -45,7 +45,7 @@ pub fn from_key_value(alloc: Global, arguments: &[Token]) -> Result<Made, Fault>
     Ok((answer(alloc, &made)?, made.ok()))
 }
 
-/// `some` with the text that the error of reading prints, or `none` where the text is read.
+/// `some` with the printed error of reading the text, or `none` if the text can be read.
 pub fn error_text(alloc: Global, arguments: &[Token]) -> Result<Answer, Fault> {
     let mut answer = Answer::new(alloc);
     match TraceState::from_str(alloc, one_text(arguments)?) {
@@ -55,7 +55,7 @@ pub fn error_text(alloc: Global, arguments: &[Token]) -> Result<Answer, Fault> {
     Ok(answer)
 }
 
-/// Acts on the state, which becomes the new one where there is one.
+/// Acts on the state, which is replaced by the new one, if there is one.
 pub fn act(
     alloc: Global,
     state: &mut TraceState,

@@ -65,7 +65,7 @@ fn text(alloc: Global, arguments: &[Token]) -> Result<Value, Fault> {
     Ok(Value::from(text))
 }
 
-/// The text that the value prints.
+/// The printed text of the value.
 pub fn printed(alloc: Global, call: &str, arguments: &[Token]) -> Result<Answer, Fault> {
     let value = match call {
         "Value::Bool" => Value::from(one_word::<bool>(arguments)?),
@@ -87,7 +87,7 @@ pub fn printed(alloc: Global, call: &str, arguments: &[Token]) -> Result<Answer,
     Ok(Answer::of_text(alloc, &printed)?)
 }
 
-/// The name of the severity that has this number.
+/// The name of the severity with this number.
 pub fn severity_name(alloc: Global, arguments: &[Token]) -> Result<Answer, Fault> {
     let number: u8 = one_word(arguments)?;
     for severity in &SEVERITIES {

@@ -6,9 +6,9 @@ use crate::context::Context;
 /// See [`run`](crate::carry::run).
 #[derive(Drop)]
 pub enum StackEvent {
-    /// Attach the context.
+    /// Attaches the context.
     Attach(Context),
-    /// Detach what the attach with this number attached. The attaches of a run are numbered from 0.
+    /// Detaches the context attached by attach number N. The attaches of a run are numbered from 0.
     Detach(usize),
 }
 
@@ -17,7 +17,7 @@ pub enum StackEvent {
 /// See [`run`](crate::carry::run).
 #[derive(Clone, Copy, Debug, PartialEq, Eq)]
 pub enum AttachOutcome {
-    /// The context is attached at this position, from 1 to 65534.
+    /// The context was attached at this position, from 1 to 65534.
     Attached(u16),
     /// The newest live position was 65534. Nothing changed.
     Full,

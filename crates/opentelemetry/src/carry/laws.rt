@@ -5,20 +5,19 @@ ghost use Rattle.opentelemetry.specs.LongRuns.{AttachesInOrder, FilledAndBegunAg
 ghost use Rattle.opentelemetry.specs.WorkedRuns.{DetachedAgain, DetachedBefore, OldestFirst};
 ghost use Rattle.opentelemetry.specs.WorkedRuns.{ThreeAndOne};
 
-/// States that an attach leaves its position and context if it was accepted and no later event
-/// detaches it, and only then.
+/// States that an attach leaves its position and context if and only if it was accepted and no
+/// later event detaches it.
 pub fn survivors_are_those()
     ensures { SurvivorsAreThose }
 {}
 
-/// States that a refused attach, and a detach of a number that doesn't survive, leave the stack
-/// unchanged: what is live, and both counts.
+/// States that a refused attach, or a detach of a number that doesn't survive, leaves the stack
+/// unchanged: the live attachments and both counts.
 pub fn refusals_change_nothing()
     ensures { RefusalsChangeNothing }
 {}
 
-/// States, for four short runs worked by hand, what is live after each, and which outcomes are
-/// legal.
+/// States the live attachments and the legal outcomes of four short runs worked by hand.
 pub fn worked_runs()
     ensures three_and_one { ThreeAndOne }
     ensures detached_again { DetachedAgain }
@@ -26,8 +25,8 @@ pub fn worked_runs()
     ensures oldest_first { OldestFirst }
 {}
 
-/// States, for runs with as many attaches as there are positions, which outcomes are legal, and
-/// what survives.
+/// States the legal outcomes and the survivors of runs with as many attaches as there are
+/// positions.
 pub fn long_runs()
     ensures in_order { AttachesInOrder }
     ensures begun_again { FilledAndBegunAgain }

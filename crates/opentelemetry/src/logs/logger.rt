@@ -5,11 +5,11 @@ use crate::logs::{LogRecord, Severity};
 use otel_base::{InstrumentationScope, StringValue};
 use std::alloc::{AllocError, Global};
 
-/// Creates log records, and emits them (the Rust crate's `Logger`).
+/// Creates and emits log records (the Rust crate's `Logger`).
 ///
-/// An implementor names, by ghost relations, the records that it may create (`may_create`) and what
-/// it may answer if asked whether an event is enabled (`may_enable`). They are relations and not
-/// functions, so that it may read a clock and its configuration may change.
+/// Implementors define two ghost relations: the records that may be created (`may_create`), and the
+/// answers that `event_enabled` may return (`may_enable`). These are relations rather than
+/// functions, so that a logger may read a clock and its configuration may change.
 ///
 /// See `otel_examples::log_bridge`.
 pub trait Logger {
@@ -31,24 +31,23 @@ pub trait Logger {
     fn create_log_record(&self, alloc: Global) -> Result<Self::LogRecord, AllocError>
         ensures { IfOk result (may_create self.now) };
 
-    /// Emits a complete record. No context is read: to record the active span, call
-    /// `set_trace_context` first. (In the Rust crate the logger reads the thread's context.)
+    /// Emits a complete record. Doesn't read a context: to record the active span, call
+    /// `set_trace_context` first. (In the Rust crate, the logger reads the thread's context.)
     fn emit(&self, record: Self::LogRecord);
 
-    /// Returns `true` if the logger wants records with this severity, target and event name.
+    /// Returns `true` if the logger accepts records with this severity, target and event name. Call
+    /// it to avoid creating a record that would be dropped.
     fn event_enabled(&self, level: Severity, target: &str, name: Option<&str>) -> bool
         ensures { let asked = option_map (λ n. n.now) name.entry in
             may_enable self.now level target.now asked result };
 }
 
 /// Makes loggers (the Rust crate's `LoggerProvider`).
+/// Get a logger from it once per library or module. Implementors define the ghost relation
+/// `may_give`: the loggers that may be returned for a scope.
 ///
-/// An implementor names, by the ghost relation `may_give`, the loggers that it may make for a
-/// scope.
-///
-/// ```
-/// let logger = provider.logger(alloc, StringValue::from("lib"))?;
-/// ```
+/// For a provider, see `SdkLoggerProvider` in the crate `otel_sdk_logs`.
+/// See `otel_examples::log_bridge`.
 pub trait LoggerProvider {
     ghost use Rattle.otel_base.specs.InstrumentationScope.{Scope};
     ghost use Rattle.opentelemetry.specs.Scope.{scope_of_name};

@@ -25,7 +25,7 @@ impl LoggerProvider for NoopLoggerProvider {
 
     ghost may_give = { λ _ _ _. Unit {0} };
 
-    /// Returns a logger that does nothing, whatever the scope. Takes no memory.
+    /// Returns a logger that does nothing, whatever the scope. Doesn't allocate.
     fn logger_with_scope(
         &self,
         _alloc: Global,
@@ -36,7 +36,7 @@ impl LoggerProvider for NoopLoggerProvider {
         Ok(NoopLogger)
     }
 
-    /// Returns a logger that does nothing, whatever the name. Takes no memory.
+    /// Returns a logger that does nothing, whatever the name. Doesn't allocate.
     fn logger(&self, alloc: Global, name: StringValue) -> Result<NoopLogger, AllocError>
         ensures { IsOk result }
     {
@@ -45,7 +45,7 @@ impl LoggerProvider for NoopLoggerProvider {
     }
 }
 
-/// A logger that drops each record (the Rust crate's `NoopLogger`).
+/// A logger that drops every record (the Rust crate's `NoopLogger`).
 ///
 /// See [`LoggerProvider`].
 #[derive(Clone, Debug, Drop)]
@@ -60,7 +60,7 @@ impl Logger for NoopLogger {
 
     ghost may_enable = { λ _ _ _ _ enabled. enabled ≡ false };
 
-    /// Returns a record that ignores everything set on it. Takes no memory.
+    /// Returns a record that ignores everything set on it. Doesn't allocate.
     fn create_log_record(&self, _alloc: Global) -> Result<NoopLogRecord, AllocError>
         ensures { IsOk result }
     {
@@ -116,7 +116,7 @@ impl LogRecord for NoopLogRecord {
 
     fn set_body(&mut self, _body: AnyValue) {}
 
-    /// Drops the attributes. Takes no memory.
+    /// Drops the attributes. Doesn't allocate.
     fn add_attributes(
         &mut self,
         _alloc: Global,
@@ -128,7 +128,7 @@ impl LogRecord for NoopLogRecord {
         Ok(())
     }
 
-    /// Drops the attribute. Takes no memory.
+    /// Drops the attribute. Doesn't allocate.
     fn add_attribute(
         &mut self,
         _alloc: Global,

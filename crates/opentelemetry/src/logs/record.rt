@@ -9,15 +9,15 @@ use std::alloc::{AllocError, Global};
 
 /// A log record that is being built (the Rust crate's `LogRecord`).
 ///
-/// An implementor names, by ghost members, the effect of each setter as a function of the record
-/// and of what the arguments mean: `after_event_name`, `after_target`, `after_timestamp`,
+/// Implementors define the effect of each setter as a ghost function of the record and of the
+/// arguments' meaning: `after_event_name`, `after_target`, `after_timestamp`,
 /// `after_observed_timestamp`, `after_severity_text`, `after_severity_number`, `after_body`,
 /// `after_attributes`, `after_attribute`. After an error the record is unchanged. `may_be_traced`
-/// says which records `set_trace_context` may leave: the unchanged record is one of them
-/// (`may_be_untraced`), and by default the only one.
+/// relates a record to the possible results of `set_trace_context`. The unchanged record is one of
+/// them (`may_be_untraced`), and by default the only one.
 ///
-/// Times are nanoseconds since 1970-01-01T00:00:00Z. In the Rust crate they are values of
-/// `SystemTime`, and attributes come from an iterator.
+/// Times are nanoseconds since 1970-01-01T00:00:00Z. In the Rust crate, times are of type
+/// `SystemTime`, and attributes are passed as an iterator.
 ///
 /// See `otel_examples::log_bridge`.
 pub trait LogRecord: Drop {
@@ -49,7 +49,7 @@ pub trait LogRecord: Drop {
     fn set_event_name(&mut self, name: &'static str)
         ensures { self.new ≡ after_event_name self.old name.now };
 
-    /// Sets the target: the part of the program that the record comes from, such as a module path.
+    /// Sets the target: the part of the program that emits the record, such as a module path.
     fn set_target(&mut self, target: StringValue)
         ensures { self.new ≡ after_target self.old target };
 
@@ -61,7 +61,7 @@ pub trait LogRecord: Drop {
     fn set_observed_timestamp(&mut self, timestamp: u64)
         ensures { self.new ≡ after_observed_timestamp self.old timestamp };
 
-    /// Sets the severity as a text, in the words of the record's source.
+    /// Sets the severity text: the name of the severity at the record's source.
     fn set_severity_text(&mut self, text: &'static str)
         ensures { self.new ≡ after_severity_text self.old text.now };
 
@@ -69,7 +69,7 @@ pub trait LogRecord: Drop {
     fn set_severity_number(&mut self, number: Severity)
         ensures { self.new ≡ after_severity_number self.old number };
 
-    /// Sets the body: what the record says.
+    /// Sets the body: the message of the record.
     fn set_body(&mut self, body: AnyValue)
         ensures { self.new ≡ after_body self.old (tree body) };
 
@@ -77,7 +77,7 @@ pub trait LogRecord: Drop {
     ///
     /// # Errors
     ///
-    /// `AllocError` if out of memory. The record is unchanged; the attributes are dropped.
+    /// `AllocError` if out of memory. The record is unchanged, and the attributes are dropped.
     fn add_attributes(
         &mut self,
         alloc: Global,
@@ -91,13 +91,13 @@ pub trait LogRecord: Drop {
     ///
     /// # Errors
     ///
-    /// `AllocError` if out of memory. The record is unchanged; the attribute is dropped.
+    /// `AllocError` if out of memory. The record is unchanged, and the attribute is dropped.
     fn add_attribute(&mut self, alloc: Global, key: Key, value: AnyValue) -> Result<(), AllocError>
         ensures ok { OnOk result (self.new ≡ after_attribute self.old key (tree value)) }
         ensures err { OnErr result (self.new ≡ self.old) };
 
-    /// Sets the span that was active when the event happened, if the record type keeps one. Does
-    /// nothing by default.
+    /// Sets the span that was active when the event happened, if this type of record stores one.
+    /// Does nothing by default.
     fn set_trace_context(
         &mut self,
         trace_id: TraceId,

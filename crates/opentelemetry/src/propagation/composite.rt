@@ -12,7 +12,7 @@ use crate::propagation::{Extractor, Injector, PropagationError};
 use indexmap::IndexSet;
 use std::alloc::{AllocError, Global};
 
-/// A list of propagators that work as one (the Rust crate's `TextMapCompositePropagator`).
+/// Combines several propagators into one (the Rust crate's `TextMapCompositePropagator`).
 ///
 /// Contracts see it as the list of its members.
 ///
@@ -27,7 +27,7 @@ pub struct TextMapCompositePropagator {
     fields: IndexSet<String>,
 }
 
-/// Lets one member inject.
+/// Injects with one member.
 fn inject_member(
     member: &Box<dyn TextMapPropagator>,
     context: &Context,
@@ -39,7 +39,7 @@ fn inject_member(
     member.inject_context(context, injector)
 }
 
-/// Lets one member extract.
+/// Extracts with one member.
 fn extract_member(
     member: &Box<dyn TextMapPropagator>,
     alloc: Global,
@@ -52,7 +52,7 @@ fn extract_member(
     member.extract_with_context(alloc, context, extractor)
 }
 
-/// Adds the fields of one member that are new, in order.
+/// Adds the new fields of one member, in order.
 fn add_fields(
     alloc: Global,
     fields: &mut IndexSet<String>,
@@ -81,11 +81,11 @@ fn join_members(
 }
 
 impl TextMapCompositePropagator {
-    /// Returns the composite of these members, in this order. It keeps the names of their fields.
+    /// Returns a composite of these members, in this order. Stores the names of their fields.
     ///
     /// # Errors
     ///
-    /// `AllocError` if out of memory for the names, so never if there are no members. The members
+    /// `AllocError` if out of memory for the names, which can't happen without members. The members
     /// are dropped.
     pub fn new(
         alloc: Global,
@@ -102,13 +102,13 @@ impl TextMapCompositePropagator {
         Ok(TextMapCompositePropagator { members, fields })
     }
 
-    /// Returns the composite of the members of both, in order: it injects, extracts and names
-    /// fields as they do. Not in the Rust crate, in which a composite may be a member of another.
+    /// Returns a composite of the members of both, in order. It injects, extracts and names fields
+    /// as they do. Not in the Rust crate; there a composite may be a member of another.
     ///
     /// # Errors
     ///
-    /// `AllocError` if out of memory, so never if neither has members. The members of both are
-    /// dropped.
+    /// `AllocError` if out of memory, which can't happen if neither has members. The members of
+    /// both are dropped.
     pub fn join(
         self,
         alloc: Global,
@@ -127,13 +127,13 @@ impl TextMapCompositePropagator {
         TextMapCompositePropagator::new(alloc, members)
     }
 
-    /// Lets each member inject the context, in turn. Stops at the first error and returns it.
-    /// Without members it returns `Ok`, and the carrier is unchanged.
+    /// Injects the context with each member, in order. Stops at the first error and returns it.
+    /// Without members, returns `Ok` and leaves the carrier unchanged.
     ///
     /// # Errors
     ///
-    /// `Memory` if out of memory; `Refused` only if a member may refuse, or the carrier refuses a
-    /// text. After either, a prefix of the members' pairs is set.
+    /// `Memory` if out of memory. `Refused` only if a member may refuse, or the carrier refuses a
+    /// text. In both cases, a prefix of the members' pairs is set.
     pub fn inject_context(
         &self,
         context: &Context,
@@ -150,11 +150,11 @@ impl TextMapCompositePropagator {
         Ok(())
     }
 
-    /// Lets each member inject the stack's current context, as `inject_context` does.
+    /// Injects the stack's current context with each member, as `inject_context` does.
     ///
     /// # Errors
     ///
-    /// Those of `inject_context`.
+    /// See `inject_context`.
     pub fn inject(
         &self,
         stack: &ContextStack,
@@ -168,13 +168,13 @@ impl TextMapCompositePropagator {
         self.inject_context(stack.current(), injector)
     }
 
-    /// Lets each member extract, in turn: the first from the given context, and each other one from
-    /// the context that the member before it returned. Stops at the first error and returns it.
-    /// Without members it returns a copy of the given context.
+    /// Extracts with each member, in order. The first starts from the given context, and each other
+    /// one from the context that the previous member returned. Stops at the first error and returns
+    /// it. Without members, returns a copy of the given context.
     ///
     /// # Errors
     ///
-    /// `Memory` if out of memory; `Refused` only if a member may refuse. After either, the context
+    /// `Memory` if out of memory. `Refused` only if a member may refuse. In both cases, the context
     /// and the carrier are unchanged.
     pub fn extract_with_context(
         &self,
@@ -196,12 +196,12 @@ impl TextMapCompositePropagator {
         Ok(given)
     }
 
-    /// Lets each member extract, starting from the stack's current context, as
+    /// Extracts with each member, starting from the stack's current context, as
     /// `extract_with_context` does.
     ///
     /// # Errors
     ///
-    /// Those of `extract_with_context`.
+    /// See `extract_with_context`.
     pub fn extract(
         &self,
         alloc: Global,

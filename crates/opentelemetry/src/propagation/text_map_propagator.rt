@@ -11,11 +11,11 @@ use std::marker::Model;
 /// Writes a context into a carrier of texts, and reads it back (the Rust crate's
 /// `TextMapPropagator`).
 ///
-/// An implementor names the pairs that it sets for a context, `pairs`; the context that it returns
-/// for a context and a map of texts, `extracted`; the names of its fields, `field_names`; and
-/// whether it may itself refuse, `may_refuse`.
+/// Implementors define four ghost functions: the pairs to set for a context (`pairs`), the context
+/// to return for a context and a map of texts (`extracted`), the names of the fields
+/// (`field_names`), and whether the propagator itself may refuse (`may_refuse`).
 ///
-/// See `otel_examples::request_id` for an implementation, `otel_examples::service` for a caller.
+/// See `otel_examples::request_id` for an implementation and `otel_examples::service` for a caller.
 pub trait TextMapPropagator: Drop {
     ghost use Rattle.std.specs.Prelude.{Bool, ℕ, List};
     ghost use Rattle.otel_context.specs.Context.{ContextRecord};
@@ -33,8 +33,8 @@ pub trait TextMapPropagator: Drop {
     ///
     /// # Errors
     ///
-    /// `Memory` if out of memory; `Refused` only if this propagator may refuse, or the carrier
-    /// refuses a text. After either, a prefix of the pairs is set.
+    /// `Memory` if out of memory. `Refused` only if this propagator may refuse, or the carrier
+    /// refuses a text. In both cases, a prefix of the pairs is set.
     fn inject_context(
         &self,
         context: &Context,
@@ -47,7 +47,7 @@ pub trait TextMapPropagator: Drop {
     ///
     /// # Errors
     ///
-    /// Those of `inject_context`.
+    /// See `inject_context`.
     final fn inject(
         &self,
         stack: &ContextStack,
@@ -59,11 +59,11 @@ pub trait TextMapPropagator: Drop {
         self.inject_context(stack.current(), injector)
     }
 
-    /// Returns a copy of the context with what the carrier holds for this propagator.
+    /// Returns a copy of the context with the values that this propagator reads from the carrier.
     ///
     /// # Errors
     ///
-    /// `Memory` if out of memory; `Refused` only if this propagator may refuse. After either, the
+    /// `Memory` if out of memory. `Refused` only if this propagator may refuse. In both cases, the
     /// context and the carrier are unchanged.
     fn extract_with_context(
         &self,
@@ -74,12 +74,12 @@ pub trait TextMapPropagator: Drop {
         ensures { Extracts (extracted self.now context.now (texts extractor.now))
             (may_refuse self.now) result };
 
-    /// Returns a copy of the stack's current context with what the carrier holds for this
-    /// propagator.
+    /// Returns a copy of the stack's current context with the values that this propagator reads
+    /// from the carrier.
     ///
     /// # Errors
     ///
-    /// Those of `extract_with_context`.
+    /// See `extract_with_context`.
     final fn extract(
         &self,
         alloc: Global,
@@ -92,7 +92,7 @@ pub trait TextMapPropagator: Drop {
         self.extract_with_context(alloc, stack.current(), extractor)
     }
 
-    /// Returns the names of the carrier's fields that this propagator sets and reads, in order.
+    /// Returns the names of the carrier's fields that this propagator reads and sets, in order.
     fn fields(&self) -> FieldIter<'_>
         ensures { result ≡ field_names self.now };
 }

@@ -13,19 +13,15 @@ use std::alloc::{AllocError, Global};
 /// Something that happened at a point in time during a span (the Rust crate's `Event`).
 ///
 /// Contracts see the record of its four parts, the attributes as a list.
-///
-/// ```
-/// let event = Event::with_name(alloc, StringValue::from("e"), NOW);
-/// ```
 #[derive(Debug, Drop)]
 pub struct Event {
-    /// What happened.
+    /// The name of the event.
     pub name: StringValue,
     /// When it happened, in nanoseconds since 1970-01-01T00:00:00Z.
     pub timestamp: u64,
     /// Its attributes, in the given order.
     pub attributes: Vec<KeyValue>,
-    /// How many attributes were dropped, for example because of a limit.
+    /// The number of dropped attributes, for example because of a limit.
     pub dropped_attributes_count: u32,
 }
 

@@ -8,34 +8,35 @@ ghost use Rattle.opentelemetry.specs.Closure.{CallLeaves};
 use otel_context::{Context, ContextStack, Span, SpanCause, SpanRefused, Spans};
 use std::alloc::{AllocError, Global};
 
-/// Why no body ran in a span. Not in the Rust crate.
+/// The error of [`Tracer::in_span`](crate::trace::Tracer::in_span) and its variants. Not in the
+/// Rust crate.
 ///
-/// The stack is unchanged, and the table holds the same spans. No clause says that no body ran, but
-/// code that had called the body couldn't discard its result, since [`SpanBody::Out`] has no `Drop`
-/// bound, and so wouldn't compile.
+/// The stack is unchanged, and the table holds the same spans. No clause says that the body wasn't
+/// run, but its type does: [`SpanBody::Out`] has no `Drop` bound, so code that had run the body
+/// couldn't discard its result and wouldn't compile.
 ///
 /// See `otel_examples::in_span`.
 #[derive(Drop)]
 pub enum StartError<S> {
-    /// Out of memory before there was a span. The table is unchanged.
+    /// Out of memory before the span was built. The table is unchanged.
     Build(AllocError),
-    /// The table's numbers are used up, or memory ran out. The span that was built comes back. In
-    /// the first case the table is unchanged, in the second its next number may be one higher.
+    /// The table has no number left, or out of memory after the span was built. Contains the span.
+    /// In the first case, the table is unchanged. In the second, its next number may be one higher.
     Refused(SpanRefused<S>),
 }
 
 /// Code that runs in a span. Not in the Rust crate, whose `in_span` takes a closure: [`Run`] turns
 /// a closure into a body.
 ///
-/// An implementor names, by the ghost relation `may_leave`, what its call may return and leave for
-/// the stack, the table and the context that it is given. If it can't always be called, `can_call`
-/// says when it can.
+/// Implementors define the ghost relation `may_leave` between the stack, the table and the context
+/// that a body is given, its result, and the stack and the table that it leaves. If a body can't
+/// always be called, `can_call` says when it can.
 ///
 /// See `otel_examples::in_span` for two implementations.
 pub trait SpanBody<S>: Drop {
     ghost use Rattle.opentelemetry.specs.InSpan.{MayLeave};
 
-    /// What the body returns.
+    /// The type of the body's result.
     type Out;
 
     ghost may_leave: { Self → MayLeave S Self.Out };
@@ -49,9 +50,9 @@ pub trait SpanBody<S>: Drop {
         ensures { may_leave self stack.old spans.old context result stack.new spans.new };
 }
 
-/// A closure as a body: `Run(|stack, spans, context| ..)`. Not in the Rust crate.
+/// A body made from a closure: `Run(|stack, spans, context| ..)`. Not in the Rust crate.
 ///
-/// It may leave what the closure's contract allows.
+/// May leave whatever the closure's contract allows.
 ///
 /// ```
 /// Run(|stack: &mut ContextStack, _spans: &mut Spans<NoopSpan>, _context: Context| {
@@ -61,13 +62,13 @@ pub trait SpanBody<S>: Drop {
 #[derive(Drop)]
 pub struct Run<F>(pub F);
 
-/// A closure over any stack and context, which [`Run`] turns into a body. Not in the Rust crate.
+/// A closure on any stack and context, which [`Run`] turns into a body. Not in the Rust crate.
 ///
-/// A caller that runs a closure in a span writes [`Run`], and never names this trait.
+/// Callers use [`Run`] and never name this trait.
 pub trait CallClosure<S, K, C>: Drop {
     ghost use Rattle.otel_context.specs.Spans.{SpansState};
 
-    /// What the closure returns.
+    /// The type of the closure's result.
     type Out;
 
     ghost leaves: { Self → K → SpansState S → C → Self.Out → K → SpansState S → Type 0 };
@@ -109,7 +110,7 @@ where
     }
 }
 
-/// What a body is given besides the stack and the table, and the position at which its context is
+/// The context of a body, the number of its span, and the position at which the context is
 /// attached.
 #[derive(Drop)]
 pub(crate) struct Entered {
@@ -118,8 +119,7 @@ pub(crate) struct Entered {
     pub position: u16,
 }
 
-// Attaches a copy of the context, and returns its position, or 65535 if the greatest position is
-// live.
+// Attaches a copy of the context. Returns its position, or 65535 if the greatest position is live.
 fn attach_copy(stack: &mut ContextStack, context: &Context) -> Result<u16, AllocError>
     ensures attached { IfOk result (λ position.
         AttachesAt position context.now stack.old stack.new) }
@@ -131,7 +131,8 @@ fn attach_copy(stack: &mut ContextStack, context: &Context) -> Result<u16, Alloc
     }
 }
 
-/// Puts the span into the table, and attaches the parent's context with it.
+/// Inserts the span into the table, and attaches a copy of the parent's context in which it is
+/// active.
 pub(crate) fn enter<S: Span>(
     alloc: Global,
     stack: &mut ContextStack,

@@ -14,17 +14,13 @@ use std::alloc::{AllocError, Global};
 /// A link to another span that isn't the parent (the Rust crate's `Link`).
 ///
 /// Contracts see the record of its three parts, the attributes as a list.
-///
-/// ```
-/// let link = Link::with_context(alloc, remote());
-/// ```
 #[derive(Debug, Drop)]
 pub struct Link {
     /// The span context of the other span.
     pub span_context: SpanContext,
     /// Its attributes, in the given order.
     pub attributes: Vec<KeyValue>,
-    /// How many attributes were dropped, for example because of a limit.
+    /// The number of dropped attributes, for example because of a limit.
     pub dropped_attributes_count: u32,
 }
 

@@ -35,7 +35,7 @@ impl TracerProvider for NoopTracerProvider {
 
     ghost may_give = { λ _ _ _. Unit {0} };
 
-    /// Returns a tracer whose spans do nothing, whatever the scope. Takes no memory.
+    /// Returns a tracer whose spans do nothing, whatever the scope. Doesn't allocate.
     fn tracer_with_scope(
         &self,
         _alloc: Global,
@@ -46,7 +46,7 @@ impl TracerProvider for NoopTracerProvider {
         Ok(NoopTracer)
     }
 
-    /// Returns a tracer whose spans do nothing, whatever the name. Takes no memory.
+    /// Returns a tracer whose spans do nothing, whatever the name. Doesn't allocate.
     fn tracer(&self, alloc: Global, name: StringValue) -> Result<NoopTracer, AllocError>
         ensures { IsOk result }
     {
@@ -77,12 +77,12 @@ impl Tracer for NoopTracer {
     ghost may_build = { λ _ _ parent span. span ≡ span_context parent };
 
     /// Returns a span with the parent's span context, valid or not, so that it is still propagated.
-    /// Takes no memory.
+    /// Doesn't allocate.
     ///
     /// # Errors
     ///
-    /// `AllocError` if the reference count of the trace state's pairs is at its limit, so never if
-    /// there are no pairs.
+    /// `AllocError` if the reference count of the trace state's pairs is at its limit, which can't
+    /// happen without pairs.
     fn build_with_context(
         &self,
         _alloc: Global,
@@ -122,7 +122,7 @@ impl Model for NoopSpan {
 }
 
 impl NoopSpan {
-    /// The span of no trace, with the span context [`SpanContext::NONE`].
+    /// A span that belongs to no trace, with the span context [`SpanContext::NONE`].
     pub const DEFAULT: NoopSpan = NoopSpan {
         span_context: SpanContext::NONE,
     };
@@ -151,8 +151,8 @@ impl Clone for NoopSpan {
     ///
     /// # Errors
     ///
-    /// `AllocError` if the reference count of the trace state's pairs is at its limit, so never if
-    /// there are no pairs.
+    /// `AllocError` if the reference count of the trace state's pairs is at its limit, which can't
+    /// happen without pairs.
     fn clone(&self) -> Result<NoopSpan, AllocError> {
         Ok(NoopSpan {
             span_context: self.span_context.clone()?,
@@ -211,7 +211,7 @@ impl Span for NoopSpan {
         Ok(())
     }
 
-    /// Ignores the event. Takes no memory.
+    /// Ignores the event. Doesn't allocate.
     fn add_event(
         &mut self,
         alloc: Global,
@@ -225,7 +225,7 @@ impl Span for NoopSpan {
         self.add_event_with_timestamp(alloc, name, now, attributes)
     }
 
-    /// Ignores the error without printing it. Takes no memory.
+    /// Ignores the error without printing it. Doesn't allocate.
     fn record_error<E: Display>(
         &mut self,
         _alloc: Global,
@@ -239,7 +239,7 @@ impl Span for NoopSpan {
         Ok(())
     }
 
-    /// Ignores the attributes. Takes no memory.
+    /// Ignores the attributes. Doesn't allocate.
     fn set_attributes(&mut self, alloc: Global, attributes: Vec<KeyValue>) -> Result<(), AllocError>
         ensures ok { IsOk result }
         ensures same { self.new ≡ self.old }
@@ -288,8 +288,8 @@ impl NoopTextMapPropagator {
     }
 }
 
-/// Extraction returns a copy of the given context, as the trait says; in the Rust crate it returns
-/// the current one.
+/// Extraction returns a copy of the given context, as the trait specifies. In the Rust crate, it
+/// returns the current context.
 impl TextMapPropagator for NoopTextMapPropagator {
     ghost use Rattle.std.specs.Prelude.{[], false};
 
@@ -301,7 +301,7 @@ impl TextMapPropagator for NoopTextMapPropagator {
 
     ghost may_refuse = { λ _. false };
 
-    /// Sets nothing. Takes no memory.
+    /// Sets nothing. Doesn't allocate.
     fn inject_context(
         &self,
         _context: &Context,

@@ -14,9 +14,10 @@ use otel_base::{KeyValue, StringValue};
 use otel_context::{Context, ContextStack, SpanKind};
 use std::alloc::{AllocError, Global};
 
-/// The parts that a span starts with (the Rust crate's `SpanBuilder`).
+/// The initial parts of a span (the Rust crate's `SpanBuilder`).
 ///
-/// A field that is `None` is left to the tracer. Contracts see the record of the six parts.
+/// Use it to start a span that needs more than a name. A field that is `None` is left to the
+/// tracer. Contracts see the record of the six parts.
 ///
 /// See [`SpanKind`](otel_context::SpanKind).
 #[derive(Debug, Drop)]
@@ -25,11 +26,11 @@ pub struct SpanBuilder {
     pub span_kind: Option<SpanKind>,
     /// The name of the span.
     pub name: StringValue,
-    /// When it starts, in nanoseconds since 1970-01-01T00:00:00Z.
+    /// The start time, in nanoseconds since 1970-01-01T00:00:00Z.
     pub start_time: Option<u64>,
     /// Its attributes, in the given order.
     pub attributes: Option<Vec<KeyValue>>,
-    /// The events that happened before it starts.
+    /// Events that happened before the start.
     pub events: Option<Vec<Event>>,
     /// Its links to other spans.
     pub links: Option<Vec<Link>>,
@@ -50,7 +51,7 @@ impl SpanBuilder {
         }
     }
 
-    /// Sets which side of a call the span describes.
+    /// Sets the kind: which side of a call the span describes.
     pub fn with_kind(self, span_kind: SpanKind) -> SpanBuilder
         ensures { builder_of result ≡ record (builder_of self) { span_kind = Some span_kind } }
     {
@@ -60,7 +61,7 @@ impl SpanBuilder {
         }
     }
 
-    /// Sets when the span starts, in nanoseconds since 1970-01-01T00:00:00Z.
+    /// Sets the start time, in nanoseconds since 1970-01-01T00:00:00Z.
     pub fn with_start_time(self, start_time: u64) -> SpanBuilder
         ensures { builder_of result ≡ record (builder_of self) { start_time = Some start_time } }
     {
@@ -70,7 +71,7 @@ impl SpanBuilder {
         }
     }
 
-    /// Sets the attributes, replacing those that were set before.
+    /// Sets the attributes, replacing any set before.
     pub fn with_attributes(self, attributes: Vec<KeyValue>) -> SpanBuilder
         ensures { builder_of result ≡ record (builder_of self) {
           attributes = Some (attributes_of attributes);
@@ -82,7 +83,7 @@ impl SpanBuilder {
         }
     }
 
-    /// Sets the events, replacing those that were set before.
+    /// Sets the events, replacing any set before.
     pub fn with_events(self, events: Vec<Event>) -> SpanBuilder
         ensures { builder_of result ≡ record (builder_of self) {
           events = Some (map event_of events.items);
@@ -94,8 +95,8 @@ impl SpanBuilder {
         }
     }
 
-    /// Sets the links, replacing those that were set before. Keeps only links with a valid span
-    /// context, in the given order.
+    /// Sets the links, replacing any set before. Keeps only links with a valid span context, in the
+    /// given order.
     pub fn with_links(self, links: Vec<Link>) -> SpanBuilder
         ensures { builder_of result ≡ with_links (builder_of self) (map link_of links.items) }
     {
@@ -105,7 +106,7 @@ impl SpanBuilder {
         }
     }
 
-    /// Starts a span from this builder under the current context.
+    /// Starts a span from this builder, with the current context as its parent.
     ///
     /// # Errors
     ///
@@ -122,7 +123,7 @@ impl SpanBuilder {
         self.start_with_context(alloc, tracer, stack.current())
     }
 
-    /// Starts a span from this builder under a parent context.
+    /// Starts a span from this builder, with the given parent context.
     ///
     /// # Errors
     ///

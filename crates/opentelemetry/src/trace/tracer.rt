@@ -15,12 +15,12 @@ use std::alloc::{AllocError, Global};
 
 /// Starts spans (the Rust crate's `Tracer`).
 ///
-/// An implementor names, by the ghost relation `may_build`, the spans that it may start from a
-/// builder under a parent context. It is a relation and not a function, so that ids may be random.
-/// The other methods are built on `build_with_context`.
+/// Implementors define the ghost relation `may_build`: the spans that may be started from a builder
+/// and a parent context. It is a relation rather than a function, so that ids may be random. The
+/// other methods call `build_with_context`.
 ///
-/// See `otel_examples::in_span` and `otel_examples::service`. `RecordingTracer` of the crate
-/// `otel_recording` is a tracer.
+/// See `otel_examples::in_span` and `otel_examples::service`. For a tracer, see `RecordingTracer`
+/// in the crate `otel_recording`.
 pub trait Tracer {
     ghost use Rattle.otel_context.specs.Context.{ContextRecord};
     ghost use Rattle.opentelemetry.specs.SpanBuilder.{BuilderRecord};
@@ -30,7 +30,7 @@ pub trait Tracer {
 
     ghost may_build: { Self → BuilderRecord → ContextRecord → Self.Span → Type 0 };
 
-    /// Starts a span from a builder under a parent context.
+    /// Starts a span from a builder, with the given parent context.
     ///
     /// # Errors
     ///
@@ -43,7 +43,7 @@ pub trait Tracer {
     ) -> Result<Self::Span, AllocError>
         ensures { IfOk result (may_build self.now (builder_of builder) parent.now) };
 
-    /// Starts a span named `name` under the current context.
+    /// Starts a span named `name`, with the current context as its parent.
     ///
     /// # Errors
     ///
@@ -59,7 +59,7 @@ pub trait Tracer {
         self.start_with_context(alloc, name, stack.current())
     }
 
-    /// Starts a span named `name` under a parent context.
+    /// Starts a span named `name`, with the given parent context.
     ///
     /// # Errors
     ///
@@ -82,7 +82,7 @@ pub trait Tracer {
         SpanBuilder::from_name(name)
     }
 
-    /// Starts a span from a builder under the current context.
+    /// Starts a span from a builder, with the current context as its parent.
     ///
     /// # Errors
     ///
@@ -98,20 +98,20 @@ pub trait Tracer {
         self.build_with_context(alloc, builder, stack.current())
     }
 
-    /// Runs a body in a span started from a builder under a parent context.
+    /// Runs a body in a span started from a builder, with the given parent context.
     ///
-    /// The span goes into the table, the parent's context with it is attached, and the body is
-    /// called once, with the stack, the table and that context. Then what is live at the attached
-    /// position is removed. If the greatest position is live, nothing is attached, and the body
-    /// still runs. Returns the body's result and the span's number; the span stays in the table
+    /// Inserts the span into the table, attaches the parent's context with the span active, and
+    /// calls the body once, with the stack, the table and that context. Then removes whatever is
+    /// attached at that position. If the greatest position is live, attaches nothing, but still
+    /// calls the body. Returns the body's result and the span's number. The span stays in the table
     /// until it is taken. Nothing is allocated after the body.
     ///
     /// # Errors
     ///
-    /// `Build` if out of memory before there is a span; `Refused`, with the span, if the table's
-    /// numbers are used up, or if out of memory after that. The body isn't called, the stack is
-    /// unchanged, and the table has the same spans. If its numbers are used up, the table is
-    /// unchanged; if out of memory, its next number may be one higher.
+    /// `Build` if out of memory before the span is built. `Refused`, with the span, if the table
+    /// has no number left, or if out of memory later. The body isn't called, the stack is
+    /// unchanged, and the table holds the same spans. If no number is left, the table is unchanged.
+    /// If out of memory, its next number may be one higher.
     fn in_span_with_builder_and_context<F: SpanBody<Self::Span>>(
         &self,
         alloc: Global,
@@ -149,12 +149,12 @@ pub trait Tracer {
         Ok((answer, number))
     }
 
-    /// Runs a body in a span named `name` under a parent context, as
+    /// Runs a body in a span named `name`, with the given parent context, as
     /// [`Tracer::in_span_with_builder_and_context`] does.
     ///
     /// # Errors
     ///
-    /// Those of [`Tracer::in_span_with_builder_and_context`].
+    /// See [`Tracer::in_span_with_builder_and_context`].
     fn in_span_with_context<F: SpanBody<Self::Span>>(
         &self,
         alloc: Global,
@@ -178,12 +178,12 @@ pub trait Tracer {
         self.in_span_with_builder_and_context(alloc, stack, spans, builder, parent, f)
     }
 
-    /// Runs a body in a span started from a builder under the current context, as
+    /// Runs a body in a span started from a builder, with the current context as its parent, as
     /// [`Tracer::in_span_with_builder_and_context`] does.
     ///
     /// # Errors
     ///
-    /// Those of [`Tracer::in_span_with_builder_and_context`].
+    /// See [`Tracer::in_span_with_builder_and_context`].
     fn in_span_with_builder<F: SpanBody<Self::Span>>(
         &self,
         alloc: Global,
@@ -210,12 +210,12 @@ pub trait Tracer {
         }
     }
 
-    /// Runs a body in a span named `name` under the current context, as
+    /// Runs a body in a span named `name`, with the current context as its parent, as
     /// [`Tracer::in_span_with_builder_and_context`] does.
     ///
     /// # Errors
     ///
-    /// Those of [`Tracer::in_span_with_builder_and_context`].
+    /// See [`Tracer::in_span_with_builder_and_context`].
     fn in_span<F: SpanBody<Self::Span>>(
         &self,
         alloc: Global,

@@ -7,12 +7,10 @@ use std::alloc::{AllocError, Global};
 
 /// Makes tracers (the Rust crate's `TracerProvider`).
 ///
-/// An implementor names, by the ghost relation `may_give`, the tracers that it may make for a
-/// scope.
+/// Get a tracer from it once per library or module. Implementors define the ghost relation
+/// `may_give`: the tracers that may be returned for a scope.
 ///
-/// ```
-/// let tracer = provider.tracer(alloc, StringValue::from("lib"))?;
-/// ```
+/// For a provider, see `SdkTracerProvider` in the crate `otel_sdk`.
 pub trait TracerProvider {
     ghost use Rattle.otel_base.specs.InstrumentationScope.{Scope};
     ghost use Rattle.opentelemetry.specs.Scope.{scope_of_name};

@@ -1,4 +1,4 @@
-//! The header of a baggage.
+//! The `baggage` header.
 ghost use Rattle.std.specs.Prelude.{◌≡◌};
 ghost use Rattle.std.specs.Fmt.{WritesOnOk};
 ghost use Rattle.percent_encoding.specs.Iter.{encoded_text};

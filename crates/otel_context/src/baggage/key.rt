@@ -1,9 +1,9 @@
-//! Which keys a baggage accepts.
+//! The keys that a baggage accepts.
 ghost use Rattle.std.specs.Prelude.{◌≡◌};
 ghost use Rattle.std.specs.List.{list_all};
 ghost use Rattle.otel_context.specs.BaggageText.{is_delimiter, is_key_byte, is_key};
 
-/// The delimiters of RFC 7230, section 3.2.6, none of which may be in a key.
+/// The delimiters of RFC 7230, section 3.2.6, which a key may not contain.
 const DELIMITERS: &[u8] = b"(),/:;<=>?@[\\]{}\"";
 
 fn is_delimiter(byte: u8) -> bool
@@ -24,8 +24,8 @@ fn are_key_bytes(key: &str) -> bool
     key.as_bytes().iter().all(|byte| is_key_byte(*byte))
 }
 
-/// Returns `true` if a new key may be inserted: one or more visible ASCII characters, and no
-/// delimiter.
+/// Returns `true` if a new key may be inserted: one or more visible ASCII characters, without
+/// delimiters.
 pub(super) fn is_key_valid(key: &str) -> bool
     ensures { result ≡ is_key key.now }
 {

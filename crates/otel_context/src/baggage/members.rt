@@ -1,4 +1,4 @@
-//! The members of a baggage, which are found by a text.
+//! The members of a baggage, found by the text of their key.
 ghost use Rattle.std.specs.Prelude.{◌≡◌, List, [], length, position, slice_get, remove, IfOk};
 ghost use Rattle.std.specs.Prelude.{OnOk, OnErr, None, option_map};
 ghost use Rattle.std.specs.List.{IsDistinct};
@@ -18,14 +18,14 @@ use std::alloc::{AllocError, Global};
 use std::fmt;
 use std::marker::Model;
 
-/// The greatest number of members that a look-up walks. It finds a key among more by its hash.
+/// The maximum number of members for which a look-up walks. Otherwise, it finds a key by its hash.
 const WALKED: usize = 4;
 
-/// Keys, each with a value and metadata, in the order in which they came.
+/// Keys, each with a value and metadata, in insertion order.
 ///
-/// The map's keys are names, each of which is a key that it holds. A look-up asks the map by a name
-/// that borrows a text, which takes no memory: a map of names that live as long as the program
-/// serves as one of names that live as long as that text.
+/// The keys of the map are names, each made from an owned key. A look-up uses a name that borrows a
+/// text, so it doesn't allocate: a map of `'static` names may be used as one of names with the
+/// lifetime of that text.
 #[derive(Drop)]
 pub struct Members {
     map: IndexMap<Name<'static>, (StringValue, BaggageMetadata)>,
@@ -44,7 +44,7 @@ impl Model for Members {
 }
 
 impl Members {
-    /// Returns no members. Takes no memory.
+    /// Returns an empty map. Doesn't allocate.
     pub fn new(alloc: Global) -> Members
         ensures { result ≡ [] }
     {
@@ -53,7 +53,7 @@ impl Members {
         }
     }
 
-    /// Returns how many there are.
+    /// Returns the number of members.
     pub fn len(&self) -> usize
         ensures { result ≡ length self.now }
     {
@@ -67,7 +67,7 @@ impl Members {
         index_of(&self.map, key)
     }
 
-    /// Returns the value and the metadata at the index, if there are so many.
+    /// Returns the value and the metadata at the index, or `None` if the index is out of range.
     pub fn pair_at(&self, index: usize) -> Option<&(StringValue, BaggageMetadata)>
         ensures { option_copied result ≡ option_map (λ e. e.1) (slice_get self.now index) }
     {
@@ -75,12 +75,12 @@ impl Members {
         Some(pair)
     }
 
-    /// Sets the value and the metadata of the key, and returns the old ones. A key that is present
-    /// keeps its place, and a new one goes last.
+    /// Sets the value and the metadata of the key. Returns the old ones. A present key keeps its
+    /// place, and a new one goes last.
     ///
     /// # Errors
     ///
-    /// Returns an error if memory runs out, which is possible only for a new key. Nothing changes.
+    /// `AllocError` if out of memory, which can only happen for a new key. Nothing changes.
     pub fn insert(
         &mut self,
         key: Key,
@@ -96,7 +96,7 @@ impl Members {
         Ok(old)
     }
 
-    /// Removes the member at the index, and returns it. Those after it move down.
+    /// Removes the member at the index, and returns it. Later members move down.
     pub fn remove_at(&mut self, index: usize) -> Option<(Key, (StringValue, BaggageMetadata))>
         ensures entry { result ≡ slice_get self.old index }
         ensures entries { self.new ≡ remove self.old index }
@@ -134,7 +134,7 @@ fn index_of<'a>(
     }
 }
 
-/// Returns the index of the key, if present, by its hash. Out of line, so that a walk stays short.
+/// Returns the index of the key, if present, by its hash. Not inlined, so that a walk stays short.
 #[inline(never)]
 fn find<'a>(
     map: &'a IndexMap<Name<'a>, (StringValue, BaggageMetadata)>,
@@ -145,7 +145,7 @@ fn find<'a>(
     map.get_index_of(&Name::Asked(key))
 }
 
-/// Returns the index of the key, if present, by comparing key after key.
+/// Returns the index of the key, if present, by comparing keys one by one.
 fn walk(map: &IndexMap<Name<'_>, (StringValue, BaggageMetadata)>, key: &str) -> Option<usize>
     ensures { result ≡ position (λ n. bytes_eq key.now (text_of n)) (keys_of map.now.entries) }
 {
@@ -158,7 +158,7 @@ impl fmt::Debug for Members {
     }
 }
 
-/// An iterator over [`Members`]. A contract sees it as the list of those that are left.
+/// An iterator over [`Members`]. Contracts see it as the list of the remaining members.
 #[derive(Debug, Drop)]
 pub struct Entries<'a> {
     entries: map::Iter<'a, Name<'static>, (StringValue, BaggageMetadata)>,
@@ -177,7 +177,7 @@ impl<'a> Model for Entries<'a> {
 }
 
 impl<'a> Entries<'a> {
-    /// Returns how many are left.
+    /// Returns the number of remaining members.
     pub fn len(&self) -> usize
         ensures { result ≡ length self.now }
     {

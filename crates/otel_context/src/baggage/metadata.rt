@@ -14,14 +14,9 @@ use std::marker::Model;
 
 /// The properties of a value in a [`Baggage`](super::Baggage).
 ///
-/// The text is kept as it is, without the white space at its ends; the properties in it aren't
-/// parsed. W3C baggage writes them as names or pairs separated by semicolons, as in
-/// `ttl=30;private`. Texts are compared and ordered by their bytes. The default is the empty text,
-/// which means no properties.
-///
-/// ```
-/// let metadata = BaggageMetadata::new(alloc, " ttl=30 ")?;
-/// ```
+/// The text is stored without the white space at its ends. Its properties aren't parsed. W3C
+/// baggage writes them as names or pairs separated by semicolons, as in `ttl=30;private`. Texts are
+/// compared and ordered by their bytes. The default is the empty text, which means no properties.
 #[derive(PartialEq, Eq, PartialOrd, Debug, Drop)]
 pub struct BaggageMetadata {
     text: StringValue,
@@ -41,12 +36,12 @@ impl Model for BaggageMetadata {
 }
 
 impl BaggageMetadata {
-    /// Returns the text without the Unicode white space at its ends, as metadata (`From<&str>` of
+    /// Returns the text as metadata, without the Unicode white space at its ends (`From<&str>` of
     /// the Rust crate).
     ///
     /// # Errors
     ///
-    /// Returns an error if memory runs out.
+    /// `AllocError` if out of memory.
     pub fn new(alloc: Global, text: &str) -> Result<BaggageMetadata, AllocError>
         ensures { IfOk result (λ m. m ≡ trim text.now) }
     {
@@ -68,7 +63,7 @@ impl BaggageMetadata {
 impl Default for BaggageMetadata {
     ghost is_default = { λ m. m ≡ [] };
 
-    /// Returns the empty text. It takes no memory.
+    /// Returns the empty text. Doesn't allocate.
     fn default() -> BaggageMetadata {
         BaggageMetadata {
             text: StringValue::from(""),
@@ -83,7 +78,7 @@ impl Clone for BaggageMetadata {
     ///
     /// # Errors
     ///
-    /// Returns an error if memory runs out. The original is then unchanged.
+    /// `AllocError` if out of memory. The original is unchanged.
     fn clone(&self) -> Result<BaggageMetadata, AllocError> {
         Ok(BaggageMetadata {
             text: self.text.clone()?,
@@ -94,20 +89,16 @@ impl Clone for BaggageMetadata {
 impl fmt::Display for BaggageMetadata {
     ghost output = { λ m. Some m };
 
-    /// Writes the plain text: a width, a fill and a precision are left out.
+    /// Writes the plain text. Ignores width, fill and precision.
     fn fmt<W: fmt::Write>(&self, f: &mut fmt::Formatter<W>) -> fmt::Result {
         fmt::Display::fmt(&self.text, f)
     }
 }
 
-/// A key with its value and its metadata: a member of a baggage, for
-/// [`Baggage::from_key_values_with_metadata`](super::Baggage).
+/// A member of a baggage: a key with its value and its metadata.
 ///
-/// The key isn't checked until it is inserted into a baggage.
-///
-/// ```
-/// let member = KeyValueMetadata::new(Key::from("k"), StringValue::from("v"), metadata);
-/// ```
+/// Pass it to [`Baggage::from_key_values_with_metadata`](super::Baggage). The key isn't checked
+/// until it is inserted into a baggage.
 #[derive(PartialEq, Debug, Drop)]
 pub struct KeyValueMetadata {
     pub(super) key: Key,
@@ -126,7 +117,7 @@ impl Model for KeyValueMetadata {
 }
 
 impl KeyValueMetadata {
-    /// Returns a member made of the three parts.
+    /// Returns a member with these three parts.
     pub fn new(key: Key, value: StringValue, metadata: BaggageMetadata) -> KeyValueMetadata
         ensures { result ≡ member_of key value metadata }
     {
@@ -140,12 +131,12 @@ impl KeyValueMetadata {
     /// Returns a member with the attribute's key, the printed text of its value, and no metadata
     /// (`From<KeyValue>` of the Rust crate).
     ///
-    /// A value that is a text is moved, and takes no memory.
+    /// A text value is moved without allocating.
     ///
     /// # Errors
     ///
-    /// Returns an error if the value isn't a text and memory for its printed text runs out. The
-    /// attribute is then dropped.
+    /// `AllocError` if out of memory, which can only happen if the value isn't a text. The
+    /// attribute is dropped.
     pub fn from_key_value(
         alloc: Global,
         attribute: KeyValue,
@@ -169,7 +160,7 @@ impl Clone for KeyValueMetadata {
     ///
     /// # Errors
     ///
-    /// Returns an error if memory runs out. The original is then unchanged.
+    /// `AllocError` if out of memory. The original is unchanged.
     fn clone(&self) -> Result<KeyValueMetadata, AllocError> {
         Ok(KeyValueMetadata {
             key: self.key.clone()?,

@@ -28,7 +28,7 @@ pub(super) fn weight_of(key: &str, pair: &(StringValue, BaggageMetadata)) -> usi
     key.len() + pair.0.as_str().len() + pair.1.as_str().len()
 }
 
-/// Returns the bytes of the others plus those of a member, or `None` if they are more than 8192.
+/// Returns `others` plus the number of bytes of a member, or `None` if the sum is more than 8192.
 fn weight_with(others: usize, key: &str, value: &str, metadata: &str) -> Option<usize>
     ensures { let total = others + (length key.now + (length value.now + length metadata.now)) in
         result ≡ (if nat_le total max_len_of_all_pairs then Some total else None) }
@@ -41,8 +41,8 @@ fn weight_with(others: usize, key: &str, value: &str, metadata: &str) -> Option<
     Some(MAX_LEN_OF_ALL_PAIRS - left)
 }
 
-/// Returns `true` if a member with this new key may be added: it is valid, and there are fewer than
-/// 64 members.
+/// Returns `true` if a member with this new key may be added: the key is valid, and there are fewer
+/// than 64 members.
 fn takes_new_key(held: &Members, key: &str) -> bool
     ensures { let few = nat_lt (length held.now) max_key_value_pairs in
         result ≡ (is_key key.now && few) }
@@ -50,8 +50,9 @@ fn takes_new_key(held: &Members, key: &str) -> bool
     is_key_valid(key) && held.len() < MAX_KEY_VALUE_PAIRS
 }
 
-/// Returns the bytes of the members with other keys, or `None` if this key isn't accepted. `pair`
-/// is what the key has. A key that is present isn't checked again.
+/// Returns the number of bytes of the members with other keys, or `None` if this key isn't
+/// accepted. `pair` is the present value and metadata of the key. A present key isn't checked
+/// again.
 fn weight_of_others(
     held: &Members,
     total: usize,
@@ -76,8 +77,8 @@ fn weight_of_others(
     }
 }
 
-/// Returns the bytes of all members after inserting this one, or `None` if it isn't accepted.
-/// `pair` is what the key has.
+/// Returns the number of bytes of all members after inserting this one, or `None` if it isn't
+/// accepted. `pair` is the present value and metadata of the key.
 pub(super) fn weight_after(
     held: &Members,
     total: usize,

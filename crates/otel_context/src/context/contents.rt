@@ -1,4 +1,4 @@
-//! The contents of a context, which contexts share.
+//! The contents of a context, which may be shared.
 ghost use Rattle.std.specs.Prelude.{◌≡◌, ◌↔◌, IsTrue, IfOk, Some, option_map};
 ghost use Rattle.otel_base.specs.View.{tree};
 ghost use Rattle.otel_context.specs.Context.{empty_context, get, with_value, with_baggage};
@@ -20,15 +20,15 @@ use std::rc::Rc;
 #[derive(Drop)]
 struct ActiveSpan {
     context: SpanContext,
-    // The number of a local span in its span table.
+    // The number of a local span in its span table, or `None` for a remote span.
     number: Option<u64>,
 }
 
 /// The contents of a context: named entries, a baggage, the active span, and whether telemetry is
 /// suppressed.
 ///
-/// They are immutable. Each `with_` method returns new ones that differ in one part and share the
-/// others, or an error if memory runs out.
+/// Immutable. Each `with_` method returns new contents that differ in one part and share the
+/// others, or an error if out of memory.
 #[derive(Drop)]
 pub struct Contents {
     entries: Entries,
@@ -56,7 +56,8 @@ impl Model for Contents {
 }
 
 impl Contents {
-    /// Returns no entry, no baggage, no span, and telemetry that isn't suppressed. Takes no memory.
+    /// Returns no entry, no baggage, no span, and telemetry that isn't suppressed. Doesn't
+    /// allocate.
     pub fn new(alloc: Global) -> Contents
         ensures { result ≡ empty_context }
     {
@@ -75,7 +76,7 @@ impl Contents {
         self.entries.get(key)
     }
 
-    /// Returns contents with the entry set, replacing an entry named `key`.
+    /// Returns contents with the entry set, replacing any entry named `key`.
     pub fn with_value(
         &self,
         alloc: Global,
@@ -121,14 +122,14 @@ impl Contents {
         Ok(Rc::new(alloc, contents)?)
     }
 
-    /// Returns `true` if nothing but a baggage is in the contents.
+    /// Returns `true` if the contents hold nothing but a baggage.
     pub fn has_only_baggage(&self) -> bool
         ensures { IsTrue result ↔ (with_cleared_baggage self.now ≡ empty_context) }
     {
         self.entries.is_empty() && self.span.is_none() && !self.suppressed
     }
 
-    /// Returns `true` if nothing is in the contents.
+    /// Returns `true` if the contents hold nothing.
     pub fn is_empty(&self) -> bool
         ensures { IsTrue result ↔ (self.now ≡ empty_context) }
     {
@@ -153,7 +154,7 @@ impl Contents {
         }
     }
 
-    /// Returns the number of the active span in its span table. A remote span has none.
+    /// Returns the number of the active span in its span table, or `None` for a remote span.
     pub fn span_number(&self) -> Option<u64>
         ensures { result ≡ span_number self.now }
     {

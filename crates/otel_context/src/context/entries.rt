@@ -10,8 +10,8 @@ use std::alloc::{AllocError, Global};
 use std::marker::Model;
 use std::rc::Rc;
 
-/// The greatest number of entries that `get` walks. A larger map is searched by binary search,
-/// which compares fewer names.
+/// The maximum number of entries that `get` walks. A larger map is searched by binary search, which
+/// compares fewer names.
 const WALKED: usize = 8;
 
 #[derive(Drop)]
@@ -22,7 +22,7 @@ struct Entry {
 
 /// A map from names to values, with distinct names.
 ///
-/// It is immutable. A map that differs in one entry shares the others.
+/// Immutable. A map that differs in one entry shares the others.
 #[derive(Drop)]
 pub struct Entries {
     // In ascending order of the bytes of their keys.
@@ -44,7 +44,7 @@ impl Model for Entries {
 }
 
 impl Entries {
-    /// Returns the empty map, which takes no memory.
+    /// Returns the empty map. Doesn't allocate.
     pub fn new(alloc: Global) -> Entries
         ensures { result ≡ map.empty }
     {
@@ -66,16 +66,18 @@ impl Entries {
         }
     }
 
-    /// Returns `true` if there is no entry.
+    /// Returns `true` if the map has no entries.
     pub fn is_empty(&self) -> bool
         ensures { IsTrue result ↔ (self.now ≡ map.empty) }
     {
         self.items.is_empty()
     }
 
-    /// Returns a map with the entry set, replacing an entry named `key`.
+    /// Returns a map with the entry set, replacing any entry named `key`.
     ///
-    /// Returns an error if memory runs out.
+    /// # Errors
+    ///
+    /// `AllocError` if out of memory.
     pub fn with(&self, alloc: Global, key: Key, value: AnyValue) -> Result<Entries, AllocError>
         ensures { IfOk result (λ es. es ≡ map.insert self.now key (tree value)) }
     {
@@ -95,7 +97,7 @@ impl Clone for Entries {
     }
 }
 
-/// Returns these entries with that one added, replacing an entry with the same name.
+/// Returns these entries with another one added, replacing any entry with the same name.
 fn with_entry(
     alloc: Global,
     items: &[Rc<Entry>],
@@ -117,7 +119,7 @@ fn with_entry(
     Ok(made)
 }
 
-/// Returns the value named `key`, comparing it with each name in turn, by length first.
+/// Returns the value named `key`. Compares it with each name in turn, by length first.
 fn walk<'a>(items: &'a [Rc<Entry>], key: &str) -> Option<&'a AnyValue>
     ensures { option_map (λ v. tree v.now) result ≡ map.get (entries_seen items.now) key.now }
 {
@@ -129,7 +131,8 @@ fn walk<'a>(items: &'a [Rc<Entry>], key: &str) -> Option<&'a AnyValue>
     None
 }
 
-/// Returns the index of the entry named `key`, or where it would go, by binary search.
+/// Returns the index of the entry named `key`, or the index at which to insert it, by binary
+/// search.
 fn search(items: &[Rc<Entry>], key: &str) -> Result<usize, usize>
     ensures bound { IsSearchInRange result (length items.now) }
     ensures position { IsBinarySearchResult (by_key key.now) items.now result }

@@ -8,17 +8,18 @@ ghost use Rattle.otel_context.specs.Stack.{current};
 use super::{Span, SpanRef, SpanRefused, Spans};
 use crate::stack::{ContextGuard, ContextStack};
 
-/// Puts a span into the table and attaches the current context with that span, and returns the
-/// guard of its position and the number of the span.
+/// Inserts a span into the table and attaches the current context with that span active. Returns
+/// the guard of the position and the number of the span.
 ///
-/// At position 65534 the span still goes into the table, but nothing is attached, and `is_attached`
-/// of the guard is false. The guard is spent as one of [`ContextStack::attach`].
+/// If the newest position is 65534, the span is still inserted, but nothing is attached, and
+/// `is_attached` of the guard is `false`. Spend the guard like one of [`ContextStack::attach`].
 ///
 /// # Errors
 ///
 /// `NumbersUsedUp` if the table's next number is 18446744073709551615, and otherwise `Memory` if
-/// out of memory. The span comes back, the stack is unchanged, and the table holds the same spans.
-/// After `NumbersUsedUp` the table is unchanged; after `Memory` its next number may be one higher.
+/// out of memory. The error returns the span, the stack is unchanged, and the table holds the same
+/// spans. After `NumbersUsedUp`, the table is unchanged. After `Memory`, its next number may be one
+/// higher.
 pub fn mark_span_as_active<S: Span>(
     stack: &mut ContextStack,
     spans: &mut Spans<S>,
@@ -50,12 +51,12 @@ pub fn mark_span_as_active<S: Span>(
     }
 }
 
-/// Calls `f` once on a reference to the current context's span, and returns what it returns.
+/// Calls `f` once with a reference to the current context's span, and returns its result.
 ///
-/// The calls of [`SpanRef`] say what `f` does to the span. No other span of the table changes.
+/// The calls of [`SpanRef`] say how `f` changes the span. No other span of the table changes.
 ///
-/// `f` puts no other reference in the place of the one that it is lent. The prover sees that of a
-/// closure whose body is calls of the reference, as here:
+/// `f` must not replace the reference with another one. The prover sees this for a closure whose
+/// body only calls methods of the reference:
 ///
 /// ```
 /// get_active_span(&stack, &mut spans, |span| span.end(NOW));

@@ -10,18 +10,18 @@ use std::alloc::{AllocError, Global};
 use std::fmt::Display;
 use std::snapshot::Snapshot;
 
-/// The span of a context: its span context, and the span itself if the table has it.
+/// A reference to the span of a context: its span context, and the span itself if the table has it.
 ///
 /// Each call acts only on the span with the context's number. If the context has no number, as for
 /// a remote span, or the span was removed from the table, a call does nothing, returns `Ok`, and
-/// takes no memory.
+/// doesn't allocate.
 ///
-/// See `otel_examples::in_span`, where an attribute is set on the span of a context.
+/// See `otel_examples::in_span`, which sets an attribute on the span of a context.
 pub struct SpanRef<'a, S> {
     pub(crate) context: &'a SpanContext,
     pub(crate) number: Option<u64>,
     pub(crate) spans: &'a mut Spans<S>,
-    // The table at the start of the borrow. Takes no bytes.
+    // The table at the start of the borrow. Has size zero.
     pub(crate) first: Snapshot<Spans<S>>,
     ghost others: { OthersStay number first.value spans.now } by { OthersStay-prop S.code number first.value spans.now },
 }
@@ -46,14 +46,14 @@ impl<'a, S: Span> SpanRef<'a, S> {
     ghost use Rattle.otel_context.specs.SpanRef.{table_after};
     ghost use Rattle.otel_context.specs.SpanRef.{Becomes, IsSameReference};
 
-    /// Returns the context's span context, even if the table doesn't have the span.
+    /// Returns the span context, even if the table doesn't have the span.
     pub fn span_context(&self) -> &SpanContext
         ensures { result.now ≡ span_context self.now }
     {
         self.context
     }
 
-    /// Returns whether the span records. Without a span it doesn't.
+    /// Returns `true` if the span records, and `false` if there is no span.
     pub fn is_recording(&self) -> bool
         ensures { result ≡ is_recording S.records self.now }
     {
@@ -67,7 +67,7 @@ impl<'a, S: Span> SpanRef<'a, S> {
     ///
     /// # Errors
     ///
-    /// Returns an error if memory runs out. The span is then unchanged.
+    /// `AllocError` if out of memory. The span is unchanged.
     pub fn add_event_with_timestamp(
         &mut self,
         alloc: Global,
@@ -88,11 +88,11 @@ impl<'a, S: Span> SpanRef<'a, S> {
         }
     }
 
-    /// Adds an event that happens now, at the time passed in.
+    /// Adds an event that happens now, at the given time.
     ///
     /// # Errors
     ///
-    /// Returns an error if memory runs out. The span is then unchanged.
+    /// `AllocError` if out of memory. The span is unchanged.
     pub fn add_event(
         &mut self,
         alloc: Global,
@@ -113,13 +113,13 @@ impl<'a, S: Span> SpanRef<'a, S> {
         }
     }
 
-    /// Adds an event `exception` with the error's text. Does nothing if the span doesn't record:
-    /// the error isn't printed then.
+    /// Adds an event `exception` with the error's text. Does nothing, not even print the error, if
+    /// the span doesn't record.
     ///
     /// # Errors
     ///
-    /// `AllocError` if out of memory, or if the error's `fmt` fails. The span, which records, is
-    /// unchanged.
+    /// `AllocError` if out of memory or if the error's `fmt` fails, which can only happen if the
+    /// span records. The span is unchanged.
     pub fn record_error<E: Display>(
         &mut self,
         alloc: Global,
@@ -146,7 +146,7 @@ impl<'a, S: Span> SpanRef<'a, S> {
     ///
     /// # Errors
     ///
-    /// Returns an error if memory runs out. The span is then unchanged.
+    /// `AllocError` if out of memory. The span is unchanged.
     pub fn set_attribute(&mut self, alloc: Global, attribute: KeyValue) -> Result<(), AllocError>
         ensures same { IsSameReference self.old self.new }
         ensures ok { OnOk result (table_of self.new ≡ table_after (λ s.
@@ -161,12 +161,12 @@ impl<'a, S: Span> SpanRef<'a, S> {
         }
     }
 
-    /// Asks once whether the span records, and if so sets each attribute, in order.
+    /// Sets each attribute, in order, if the span records. Checks once whether it does.
     ///
     /// # Errors
     ///
-    /// `AllocError` if out of memory. The span records, and the attributes before the one that
-    /// failed are set.
+    /// `AllocError` if out of memory, which can only happen if the span records. The attributes
+    /// before the failed one are set.
     pub fn set_attributes(
         &mut self,
         alloc: Global,
@@ -194,7 +194,7 @@ impl<'a, S: Span> SpanRef<'a, S> {
     ///
     /// # Errors
     ///
-    /// Returns an error if memory runs out. The span is then unchanged.
+    /// `AllocError` if out of memory. The span is unchanged.
     pub fn add_link(
         &mut self,
         alloc: Global,
@@ -250,7 +250,7 @@ impl<'a, S: Span> SpanRef<'a, S> {
         }
     }
 
-    /// Ends the span now, at the time passed in.
+    /// Ends the span now, at the given time.
     pub fn end(&mut self, now: u64)
         ensures same { IsSameReference self.old self.new }
         ensures table { table_of self.new ≡ table_after (λ s. S.after_end s now) self.old }

@@ -1,4 +1,4 @@
-//! The table of the spans that contexts refer to by number.
+//! The table of spans, to which contexts refer by number.
 ghost use Rattle.std.specs.Prelude.{◌≡◌, ◌↔◌, IsTrue, IsErr, OnOk, OnErr, IfOk, IfErr, None};
 ghost use Rattle.std.specs.Prelude.{option_copied, alloc_error};
 ghost use Rattle.std.specs.Option.{option_copied_mut};
@@ -8,32 +8,32 @@ use std::alloc::{AllocError, Global};
 use std::collections::HashMap;
 use std::marker::Model;
 
-/// Why a table refused a span. Not in the Rust crate.
+/// The reason why a table refused a span. Not in the Rust crate.
 ///
 /// See [`SpanRefused`].
 #[derive(Debug, Drop)]
 pub enum SpanCause {
-    /// Every number from 0 to 18446744073709551614 was given out or skipped.
+    /// Every number from 0 to 18446744073709551614 has been used or skipped.
     NumbersUsedUp,
-    /// Memory ran out.
+    /// Out of memory.
     Memory(AllocError),
 }
 
-/// A span that was refused, and why. Not in the Rust crate.
+/// A refused span, and the reason. Not in the Rust crate.
 ///
-/// See `otel_examples::service`, where the span goes back to the caller.
+/// See `otel_examples::service`, which returns the span to the caller.
 #[derive(Drop)]
 pub struct SpanRefused<S> {
     /// The span that was passed in.
     pub span: S,
-    /// Why it was refused.
+    /// The reason for the refusal.
     pub cause: SpanCause,
 }
 
 impl<S> SpanRefused<S> {
     ghost use Rattle.otel_context.specs.declared.span.spans.SpanCause.TheVariants as Cause;
 
-    // Returns the refusal for numbers that are used up.
+    // Returns the refusal by a table whose numbers are used up.
     pub(crate) fn numbers_used_up(span: S) -> SpanRefused<S>
         ensures { result ≡ record { span = span; cause = Cause.NumbersUsedUp } }
     {
@@ -43,7 +43,7 @@ impl<S> SpanRefused<S> {
         }
     }
 
-    // Returns the refusal for memory that ran out.
+    // Returns the refusal by a table that is out of memory.
     pub(crate) fn no_memory(span: S) -> SpanRefused<S>
         ensures { result ≡ record { span = span; cause = Cause.Memory alloc_error } }
     {
@@ -54,15 +54,11 @@ impl<S> SpanRefused<S> {
     }
 }
 
-/// The spans that contexts refer to by number. Not in the Rust crate, whose contexts share their
+/// The spans to which contexts refer by number. Not in the Rust crate, whose contexts share their
 /// spans behind a lock.
 ///
-/// Each span inserted gets the next number, and no number is given out twice, even after its span
-/// was taken. Contracts see a finite map from numbers to spans, and the next number.
-///
-/// ```
-/// let mut spans = Spans::new(alloc);
-/// ```
+/// Each inserted span gets the next number. No number is used twice, even after its span was taken.
+/// Contracts see a finite map from numbers to spans, and the next number.
 ///
 /// See `otel_examples::service`.
 #[derive(Drop)]
@@ -92,14 +88,14 @@ impl<S: Drop> Spans<S> {
     ghost use Rattle.otel_context.specs.Spans.{IsNumbered, used_up, refusal};
     ghost use Rattle.otel_context.specs.SpansLent.{LendsSpan, LendsFound};
 
-    /// Returns an empty table, whose first number is 0. Takes no memory.
+    /// Returns an empty table whose first number is 0. Doesn't allocate.
     pub fn new(alloc: Global) -> Spans<S>
         ensures { result ≡ starting_at 0 }
     {
         Spans::starting_at(alloc, 0)
     }
 
-    /// Returns an empty table, whose first number is `first`. Takes no memory.
+    /// Returns an empty table whose first number is `first`. Doesn't allocate.
     pub fn starting_at(alloc: Global, first: u64) -> Spans<S>
         ensures { result ≡ starting_at first }
     {
@@ -109,13 +105,14 @@ impl<S: Drop> Spans<S> {
         }
     }
 
-    /// Puts a span under the next number, and returns that number. Takes about the same time at any
-    /// size of the table, as `get`, `get_mut` and `take` do, but for an insert that makes room.
+    /// Inserts a span under the next number. Returns that number. `insert`, `get`, `get_mut` and
+    /// `take` take about the same time for any size of the table, except for an insert that grows
+    /// it.
     ///
     /// # Errors
     ///
     /// `NumbersUsedUp` if the next number is 18446744073709551615, and otherwise `Memory` if out of
-    /// memory. The table is unchanged, and the span comes back.
+    /// memory. The table is unchanged. The error returns the span.
     pub fn insert(&mut self, span: S) -> Result<u64, SpanRefused<S>>
         ensures numbered { IsNumbered self.old }
         ensures number { IfOk result (λ number. number ≡ self.old.next_number) }
@@ -148,7 +145,8 @@ impl<S: Drop> Spans<S> {
         self.table.get(&number)
     }
 
-    /// Returns the span with the given number, mutably. Every other span is unchanged.
+    /// Returns a mutable reference to the span with the given number. Every other span is
+    /// unchanged.
     pub fn get_mut(&mut self, number: u64) -> Option<&mut S>
         ensures* writes_back { sem 𝓛 (LendsSpan S.row self.entry number result) }
         ensures value { option_copied_mut result ≡ get self.old number }
@@ -156,7 +154,7 @@ impl<S: Drop> Spans<S> {
         self.table.get_mut(&number)
     }
 
-    /// Returns the span with the number of a context, which may have none.
+    /// Returns the span with the number of a context, if the context has a number.
     pub(crate) fn find(&self, number: Option<u64>) -> Option<&S>
         ensures { option_copied result ≡ find self.now number }
     {
@@ -166,7 +164,7 @@ impl<S: Drop> Spans<S> {
         }
     }
 
-    /// Like `find`, mutably.
+    /// Returns a mutable reference, as `find` does.
     pub(crate) fn find_mut(&mut self, number: Option<u64>) -> Option<&mut S>
         ensures* writes_back { sem 𝓛 (LendsFound S.row self.entry number result) }
         ensures value { option_copied_mut result ≡ find self.old number }
@@ -177,10 +175,10 @@ impl<S: Drop> Spans<S> {
         }
     }
 
-    /// Removes the span with the given number, and returns it. The number isn't given out again.
+    /// Removes the span with the given number, and returns it. The number isn't used again.
     ///
-    /// A table with room for many times the spans that are left moves to a smaller one, or stays as
-    /// it is if out of memory.
+    /// A table with room for many times the remaining spans is shrunk, or left as it is if out of
+    /// memory.
     pub fn take(&mut self, number: u64) -> Option<S>
         ensures value { result ≡ get self.old number }
         ensures taken { self.new ≡ take self.old number }
@@ -190,7 +188,7 @@ impl<S: Drop> Spans<S> {
         span
     }
 
-    // Gives memory back if the table has room for many times its spans.
+    // Shrinks the table if it has room for many times its spans.
     fn give_back(&mut self)
         ensures { self.new ≡ self.old }
     {
@@ -214,8 +212,8 @@ impl<S: Drop> Spans<S> {
         self.len() == 0
     }
 
-    /// Returns the number of the next span that is put in, or 18446744073709551615 once the numbers
-    /// are used up. It is greater than the number of each span in the table.
+    /// Returns the number of the next inserted span, or 18446744073709551615 once the numbers are
+    /// used up. It is greater than every number in the table.
     pub fn next_number(&self) -> u64
         ensures numbered { IsNumbered self.now }
         ensures number { result ≡ self.now.next_number }

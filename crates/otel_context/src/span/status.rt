@@ -1,4 +1,4 @@
-//! The status of a span, and which side of a call it describes.
+//! The status and the kind of a span.
 ghost use Rattle.std.specs.Prelude.{◌≡◌, ◌↔◌, IsTrue, Some};
 ghost use Rattle.std.proofs.Common.{rules};
 ghost use Rattle.std.specs.Cmp.Rules.{comparing};
@@ -22,7 +22,7 @@ use std::cmp::Ordering;
 pub enum SpanKind {
     /// A request that waits for its response.
     Client,
-    /// The handling of such a request.
+    /// The handling of a client's request.
     Server,
     /// The start of work that another span continues later.
     Producer,
@@ -46,7 +46,7 @@ pub enum Status {
     Unset,
     /// The operation failed.
     Error {
-        /// What failed.
+        /// The description of the failure.
         description: StringValue,
     },
     /// The operation succeeded, as marked by the application developer.
@@ -89,7 +89,7 @@ impl Clone for Status {
     ///
     /// # Errors
     ///
-    /// Returns an error if memory for the description runs out.
+    /// `AllocError` if out of memory for the description.
     fn clone(&self) -> Result<Status, AllocError> {
         match self {
             Status::Unset => Ok(Status::Unset),

@@ -2,9 +2,10 @@
 ghost use Rattle.std.specs.Prelude.{◌≡◌};
 ghost use Rattle.std.specs.Fn.{FnOnceReturnsAt};
 
-/// A type with a current value, as a `ContextStack` has a current context. Not in the Rust crate.
+/// A type with a current value, such as a `ContextStack` with its current context. Not in the Rust
+/// crate.
 ///
-/// It replaces the method `map_current` of the Rust crate's `Context`: import the trait and call
+/// It replaces the method `map_current` of the Rust crate's `Context`. Import the trait and call
 /// `stack.map_current(|context| ..)`.
 ///
 /// ```

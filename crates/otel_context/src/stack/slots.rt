@@ -1,7 +1,7 @@
 //! The slots of the attached contexts, linked in the order of their positions.
 //!
-//! They are reached only through the calls of `slot_vec`. Each slot that is read is live, but for
-//! the one of the position that a removal names.
+//! They are reached only through the calls of `slot_vec`. Every slot that is read is live, except
+//! the slot of a position to be removed.
 ghost use Rattle.std.specs.Prelude.{◌≡◌, ◌+◌, ◌<◌, ◌≤◌, [], IfOk, OnOk, OnErr};
 ghost use Rattle.otel_context.specs.Stack.{newest_position, current, context_at, attach, detach};
 ghost use Rattle.otel_context.specs.Stack.{last_position};
@@ -14,13 +14,13 @@ use crate::context::{Context, into_contents, of_contents, replace_contents};
 use std::alloc::{AllocError, Global};
 use std::marker::Model;
 
-/// The slots, starting with that of the base at position 0, and the current context beside them.
+/// The slots, starting with the base at position 0, and the current context.
 ///
 /// A live slot has the positions of its live neighbors.
 #[derive(Drop)]
 pub struct Slots {
     slots: SlotVec,
-    // The context of the newest live position, or the empty one.
+    // The context of the newest live position, or the empty context.
     current: Context,
 }
 
@@ -45,7 +45,7 @@ impl Model for Slots {
 }
 
 impl Slots {
-    /// Returns only the base, with room for that many attachments.
+    /// Returns only the base, with room for `capacity` attachments.
     pub fn with_capacity(alloc: Global, capacity: usize) -> Result<Slots, AllocError>
         requires { capacity < last_position }
         ensures slots { IfOk result (λ s. s.slots ≡ []) }
@@ -66,14 +66,14 @@ impl Slots {
         self.slots.older(0)
     }
 
-    /// Returns the context of the newest live position, or the empty one.
+    /// Returns the context of the newest live position, or the empty context.
     pub fn current(&self) -> &Context
         ensures { result.now ≡ current (live_of self.now) }
     {
         &self.current
     }
 
-    /// Makes the position above the newest live, and returns it. Adds a slot if it has none yet.
+    /// Makes the position above the newest one live, and returns it. Adds a slot if it has none.
     pub fn push(&mut self, context: Context) -> Result<u16, AllocError>
         requires { newest_position (live_of self.old) < last_position }
         ensures position { IfOk result (λ position.

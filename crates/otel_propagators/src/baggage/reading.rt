@@ -17,8 +17,9 @@ use percent_encoding::percent_decode;
 use std::alloc::{AllocError, Global};
 use std::str;
 
-/// The longest value, in bytes as it is written, that is decoded into a short room. To clear a room
-/// for the longest value that a baggage accepts takes longer than to read a short header.
+/// The maximum length in bytes, as written, of a value that is decoded into a short buffer.
+/// Clearing a buffer for the longest value that a baggage accepts takes longer than reading a short
+/// header.
 const SHORT_LEN: usize = 1024;
 
 /// Splits a piece at its first `;`. Without one, the second part is empty.
@@ -40,8 +41,8 @@ fn split_value(member: &str) -> Option<(&str, &str)>
     Some((key, value))
 }
 
-/// Returns the key, the value as it is written, and the metadata of a piece, if it has a `=` before
-/// its first `;`.
+/// Returns the key, the value as written, and the metadata of a piece, if it has a `=` before its
+/// first `;`.
 fn split_piece(piece: &str) -> Option<(&str, &str, &str)>
     ensures { ArePartsOf piece.now result }
 {
@@ -50,7 +51,7 @@ fn split_piece(piece: &str) -> Option<(&str, &str, &str)>
     Some((cut_blanks(key), cut_blanks(value), metadata.trim()))
 }
 
-/// Returns `true` if the value has no `%`, so that it stands for itself.
+/// Returns `true` if the value contains no `%`, so that decoding doesn't change it.
 fn is_plain(value: &str) -> bool
     ensures sign { result ≡ not (list_any is_percent value.now) }
     ensures itself { IsTrue result
@@ -59,8 +60,8 @@ fn is_plain(value: &str) -> bool
     !value.as_bytes().contains(&b'%')
 }
 
-/// Decodes the value into the front of the room, and returns the number of bytes, or `None` if the
-/// room is too small.
+/// Decodes the value into the front of `room`. Returns the number of bytes, or `None` if `room` is
+/// too small.
 fn fill(value: &str, room: &mut [u8]) -> Option<usize>
     ensures { IsFilledWith value.now room.new result }
 {
@@ -75,7 +76,7 @@ fn fill(value: &str, room: &mut [u8]) -> Option<usize>
     Some(len)
 }
 
-/// Decodes the value, and returns it if it is UTF-8 and the room is large enough.
+/// Decodes the value. Returns it if it is UTF-8 and `room` is large enough.
 fn decode<'a>(value: &str, room: &'a mut [u8]) -> Option<&'a str>
     ensures { option_copied result ≡ decoded_value (length room.old) value.now }
 {
@@ -105,7 +106,7 @@ fn insert_member(
 }
 
 /// Inserts the member with this key, value and metadata, if there is a value and the member is
-/// accepted. Only then is memory allocated: what decides it has no allocator.
+/// accepted. Allocates only then: the code that decides has no allocator.
 fn insert_value(
     alloc: Global,
     baggage: &mut Baggage,
@@ -126,7 +127,7 @@ fn insert_value(
     insert_member(alloc, baggage, key, value, metadata)
 }
 
-/// Decodes the value into a short room, and inserts the member with it, if it is accepted.
+/// Decodes the value into a short buffer, and inserts the member with it, if it is accepted.
 #[inline(never)]
 fn insert_short(
     alloc: Global,
@@ -143,8 +144,8 @@ fn insert_short(
     insert_value(alloc, baggage, key, decode(value, &mut room), metadata)
 }
 
-/// Decodes the value into room for the longest value that a baggage accepts, and inserts the member
-/// with it, if it is accepted. Not inlined, since a function clears the room when it is entered.
+/// Decodes the value into a buffer for the longest value that a baggage accepts, and inserts the
+/// member with it, if it is accepted. Not inlined, since a function clears the buffer on entry.
 #[inline(never)]
 fn insert_long(
     alloc: Global,
@@ -161,8 +162,8 @@ fn insert_long(
     insert_value(alloc, baggage, key, decode(value, &mut room), metadata)
 }
 
-/// Inserts the member that the piece stands for, if there is one and it is accepted. A value that
-/// has no `%` is copied once, into the member.
+/// Inserts the member of the piece, if it has one and it is accepted. A value without `%` is copied
+/// once, into the member.
 fn insert_piece(alloc: Global, baggage: &mut Baggage, piece: &str) -> Result<(), AllocError>
     ensures { OnOk result (baggage.new ≡ with_piece baggage.old piece.now) }
 {
@@ -178,8 +179,8 @@ fn insert_piece(alloc: Global, baggage: &mut Baggage, piece: &str) -> Result<(),
     }
 }
 
-/// The baggage that the text is read as: the members of its pieces, in order, from the empty
-/// baggage on.
+/// Returns the baggage read from the text: the members of its pieces, inserted in order into an
+/// empty baggage.
 pub(super) fn read_baggage(alloc: Global, text: &str) -> Result<Baggage, AllocError>
     ensures { IfOk result (λ baggage. baggage ≡ read_baggage text.now) }
 {

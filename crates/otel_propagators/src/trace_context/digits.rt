@@ -5,7 +5,7 @@ ghost use Rattle.otel_propagators.specs.Digits.{IsDigitOf, IsNumberOf, IsNumberB
 
 use std::alloc::{AllocError, Global};
 
-/// Returns the value of a digit.
+/// Returns the value of a digit, or `None` for any other byte.
 fn digit_value(byte: u8) -> Option<u8>
     ensures { IsDigitOf byte result }
 {
@@ -29,7 +29,7 @@ fn read_number(bytes: &[u8]) -> Option<u128>
     Some(number)
 }
 
-/// Reads a number of `count` digits at the front. Returns it with the bytes after it.
+/// Reads a number of `count` digits at the front. Returns it and the bytes after it.
 pub(crate) fn number_before(bytes: &[u8], count: usize) -> Option<(u128, &[u8])>
     requires { count ≤ 32 }
     ensures { IsNumberBefore count bytes.now result }

@@ -1,4 +1,4 @@
-//! Writes and reads the value of the header `traceparent`.
+//! Reads and writes the value of the header `traceparent`.
 ghost use Rattle.std.specs.Prelude.{◌≡◌, ◌∷◌, [], IfOk, string_bytes};
 ghost use Rattle.otel_propagators.specs.TraceParent.{parent_text, parent_of};
 ghost use Rattle.otel_propagators.specs.TraceContext.{parent, remote};
@@ -10,7 +10,7 @@ use otel_ids::cut_blanks;
 use std::alloc::{AllocError, Global};
 use std::marker::Model;
 
-/// What a `traceparent` holds: two ids, neither of which is 0, and flags.
+/// The contents of a `traceparent`: two ids, both nonzero, and flags.
 #[derive(Clone, Copy)]
 pub(crate) struct Parent {
     trace_id: TraceId,
@@ -37,8 +37,7 @@ impl Model for Parent {
 }
 
 impl Parent {
-    /// Returns the span context with these ids and flags and the trace state, as one that came from
-    /// another process.
+    /// Returns the span context with these ids, flags and trace state, marked as remote.
     pub(crate) fn remote(self, trace_state: TraceState) -> SpanContext
         ensures { result ≡ remote self trace_state }
     {
@@ -56,14 +55,14 @@ pub(crate) fn write(alloc: Global, span_context: &SpanContext) -> Result<String,
     format!(in alloc; "00-{trace_id}-{span_id}-{flags}")
 }
 
-/// Returns the bytes after `front`, if they begin with it.
+/// Returns the bytes after `front`, if `bytes` starts with it.
 fn after<'a>(bytes: &'a [u8], front: &[u8]) -> Option<&'a [u8]>
     ensures { IsAfter front.now bytes.now result }
 {
     bytes.strip_prefix(front)
 }
 
-/// Returns the bytes after the version, of which only `00` is read.
+/// Returns the bytes after the version. Only the version `00` is read.
 fn after_version(bytes: &[u8]) -> Option<&[u8]>
     ensures { IsAfter (48 ∷ 48 ∷ 45 ∷ []) bytes.now result }
 {
@@ -86,7 +85,7 @@ fn numbers(bytes: &[u8]) -> Option<(u128, u128, u128)>
     Some((trace_id, span_id, flags))
 }
 
-/// Returns the ids and flags of these numbers, if neither id is 0.
+/// Returns the ids and flags of these numbers, if both ids are nonzero.
 fn parent_from(trace_id: u128, span_id: u64, flags: u8) -> Option<Parent>
     ensures { IsParentFrom trace_id span_id flags result }
 {
@@ -100,7 +99,7 @@ fn parent_from(trace_id: u128, span_id: u64, flags: u8) -> Option<Parent>
     })
 }
 
-/// Reads the value of a `traceparent`, between blanks.
+/// Reads the value of a `traceparent`, ignoring blanks at its ends.
 pub(crate) fn read(text: &str) -> Option<Parent>
     ensures { result ≡ parent_of text.now }
 {

@@ -9,7 +9,7 @@ use std::cell::Cell;
 use std::random::RandomSource;
 use thiserror::Error;
 
-/// Why there is no new id.
+/// The reason why no new id was made.
 #[derive(Clone, Copy, Debug, PartialEq, Eq, Error)]
 pub enum IdError {
     /// Every number drawn was 0, which isn't a valid id, or the numbers are used up.
@@ -20,9 +20,9 @@ pub enum IdError {
     Source,
 }
 
-/// Makes the ids of spans and traces (the Rust crate's `IdGenerator`). An id is valid, never 0.
+/// Makes the ids of spans and traces (the Rust crate's `IdGenerator`). An id is never 0.
 ///
-/// A generator names, by the ghost member `random`, whether its trace ids are random.
+/// Implementors define the ghost function `random`: whether the trace ids are random.
 ///
 /// See [`RandomIdGenerator`] and [`CountedIdGenerator`].
 pub trait IdGenerator: Drop {
@@ -34,7 +34,7 @@ pub trait IdGenerator: Drop {
     ///
     /// # Errors
     ///
-    /// `Zero` if no valid id was drawn, `Source` if there are no random numbers.
+    /// `Zero` if no valid id was drawn. `Source` if the source of random numbers failed.
     fn new_trace_id(&self) -> Result<TraceId, IdError>
         ensures { IfOk result (λ id. id ≢ 0) };
 
@@ -42,26 +42,26 @@ pub trait IdGenerator: Drop {
     ///
     /// # Errors
     ///
-    /// `Zero` if no valid id was drawn, `Source` if there are no random numbers.
+    /// `Zero` if no valid id was drawn. `Source` if the source of random numbers failed.
     fn new_span_id(&self) -> Result<SpanId, IdError>
         ensures { IfOk result (λ id. id ≢ 0) };
 
-    /// Returns whether the trace ids are random (W3C trace-context-2, "Random Trace ID Flag").
+    /// Returns `true` if the trace ids are random (W3C trace-context-2, "Random Trace ID Flag").
     fn is_random(&self) -> bool
         ensures { result ≡ random self.now };
 }
 
 /// Draws ids from a source of random numbers, such as the system's (the Rust crate's
-/// `RandomIdGenerator`). An id of 0 is drawn again, at most 8 draws in all.
+/// `RandomIdGenerator`). An id of 0 is drawn again, with at most 8 draws in all.
 ///
-/// `RandomIdGenerator::new(rt)` draws from the system's source.
+/// Use it in production: `RandomIdGenerator::new(rt)` draws from the system's source.
 #[derive(Drop)]
 pub struct RandomIdGenerator<R> {
     source: R,
 }
 
 impl<R: RandomSource + Drop> RandomIdGenerator<R> {
-    /// Returns a generator that draws from the source.
+    /// Returns a generator that draws from this source.
     pub fn new(source: R) -> RandomIdGenerator<R> {
         RandomIdGenerator { source }
     }
@@ -85,12 +85,8 @@ impl<R: RandomSource + Drop> IdGenerator for RandomIdGenerator<R> {
     }
 }
 
-/// Counts ids up from 1, trace ids and span ids separately, for tests. Not in the Rust crate's
-/// public items.
-///
-/// ```
-/// let ids = CountedIdGenerator::new();
-/// ```
+/// Counts ids up from 1, trace ids and span ids separately. Use it in tests. Not public in the Rust
+/// crate.
 #[derive(Drop)]
 pub struct CountedIdGenerator {
     traces: Cell<u64>,
@@ -107,7 +103,7 @@ impl CountedIdGenerator {
     }
 }
 
-/// Counts up, and returns the new count.
+/// Increments the count. Returns the new count.
 ///
 /// # Errors
 ///

@@ -169,9 +169,8 @@ pub fn run<P: Pipeline, E: SpanExporter>(
     config: BatchConfig,
     events: Vec<SpanEvent>,
 ) -> Result<RunReport<E>, AllocError>
-    ensures { IfOk result (λ report. HasRun E.accepted E.shuts_down
-        (P.may_start tracer.now) exporter config events.items report.outcomes.items
-        report.live report.stack.live report.processor) }
+    ensures { IfOk result (λ r. HasRun E.accepted E.shuts_down (P.may_start tracer.now) exporter
+        config events.items r.outcomes.items r.live r.stack.live r.processor) }
 {
     let mut outcomes = Vec::with_capacity(alloc, events.len())?;
     let mut stack = ContextStack::new(alloc)?;

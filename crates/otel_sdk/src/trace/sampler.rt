@@ -1,4 +1,4 @@
-//! Samplers, which decide at a span's start whether it records and whether it is exported.
+//! Samplers, which decide at a span's start whether it is recorded and exported.
 ghost use Rattle.std.specs.Prelude.{◌≡◌, ◌<◌, [], IfOk, map, string_bytes, to_bits};
 ghost use Rattle.std.specs.Float.{binary64};
 ghost use Rattle.otel_base.specs.View.{attribute_of};
@@ -16,14 +16,14 @@ use opentelemetry::{Context, KeyValue};
 use std::alloc::{AllocError, Global};
 use std::fmt::HasDigits;
 
-/// What becomes of a span (the Rust crate's `SamplingDecision`).
+/// The decision about a span (the Rust crate's `SamplingDecision`).
 #[derive(Clone, Copy, Debug, PartialEq, Eq)]
 pub enum SamplingDecision {
-    /// The span doesn't record, and isn't exported.
+    /// The span isn't recorded and isn't exported.
     Drop,
-    /// The span records, and isn't exported.
+    /// The span is recorded, but not exported.
     RecordOnly,
-    /// The span records and is exported: its flag `sampled` is set.
+    /// The span is recorded and exported: its flag `sampled` is set.
     RecordAndSample,
 }
 
@@ -32,18 +32,19 @@ pub enum SamplingDecision {
 /// Contracts see the record of its three parts, the attributes as a list.
 #[derive(Debug, Drop)]
 pub struct SamplingResult {
-    /// What becomes of the span.
+    /// The decision about the span.
     pub decision: SamplingDecision,
-    /// Attributes that are set on the span, after those of its builder.
+    /// Attributes to set on the span, after the builder's.
     pub attributes: Vec<KeyValue>,
     /// The trace state of the span.
     pub trace_state: TraceState,
 }
 
-/// Decides what becomes of a span that is about to start (the Rust crate's `ShouldSample`).
+/// Decides whether a span that is about to start is recorded and exported (the Rust crate's
+/// `ShouldSample`).
 ///
-/// A sampler names, by ghost members, its answer as a function of what it is asked, `answer`, and
-/// the texts that may describe it, `may_describe`.
+/// Implementors define two ghost functions: the answer to a question (`answer`), and the texts that
+/// may describe the sampler (`may_describe`).
 ///
 /// See [`Sampler`] and [`crate::trace::ParentBased`].
 pub trait ShouldSample: Drop {
@@ -54,8 +55,8 @@ pub trait ShouldSample: Drop {
 
     ghost may_describe: { Self → List ℕ → Type 0 };
 
-    /// Returns what becomes of a span of that trace, under that parent context, with the name,
-    /// kind, attributes and links that its builder gives.
+    /// Returns the decision about a span with this trace id and parent context, and with the name,
+    /// kind, attributes and links from its builder.
     ///
     /// # Errors
     ///
@@ -82,25 +83,21 @@ pub trait ShouldSample: Drop {
         ensures { IfOk result (λ text. may_describe self.now (string_bytes text)) };
 }
 
-/// The samplers that look at nothing but the trace id (variants of the Rust crate's `Sampler`).
-/// None of them looks at the parent: [`ParentBased`] does.
-///
-/// ```
-/// let sampler = ParentBased::new(Sampler::TraceIdRatioBased(0.5));
-/// ```
+/// Samplers whose decision depends only on the trace id (variants of the Rust crate's `Sampler`).
+/// To follow the parent's decision, wrap one in [`ParentBased`].
 #[derive(Clone, Copy, Debug, PartialEq)]
 pub enum Sampler {
-    /// Samples each span.
+    /// Samples every span.
     AlwaysOn,
     /// Samples no span.
     AlwaysOff,
     /// Samples this fraction of all traces, by their ids: none if it is 0, negative or NaN, and all
-    /// from 1 on. A trace that is sampled at one ratio is sampled at each greater one.
+    /// if it is 1 or more. A trace that is sampled at one ratio is sampled at every greater ratio.
     TraceIdRatioBased(f64),
 }
 
 impl Sampler {
-    /// Returns what becomes of a span of that trace.
+    /// Returns the decision about a span of this trace.
     fn decide(&self, trace_id: TraceId) -> SamplingDecision
         ensures { result ≡ decision_of self.now trace_id }
     {
@@ -126,7 +123,7 @@ fn half(trace_id: TraceId) -> u64
     low >> 1
 }
 
-/// Returns the trace state of the parent, or the empty one if an id of the parent is 0.
+/// Returns the trace state of the parent, or an empty one if an id of the parent is 0.
 ///
 /// # Errors
 ///
@@ -170,8 +167,8 @@ impl ShouldSample for Sampler {
         })
     }
 
-    /// Returns `AlwaysOnSampler`, `AlwaysOffSampler`, or `TraceIdRatioBased{0.5}` with the ratio
-    /// that counts, from 0 to 1.
+    /// Returns `AlwaysOnSampler`, `AlwaysOffSampler`, or, for example, `TraceIdRatioBased{0.5}`
+    /// with the effective ratio, from 0 to 1.
     ///
     /// # Errors
     ///

@@ -6,6 +6,7 @@ ghost use Rattle.otel_base.specs.View.{attribute_of};
 ghost use Rattle.opentelemetry.specs.View.{builder_of, event_of, link_of};
 ghost use Rattle.otel_sdk.specs.Sampler.{result_of};
 ghost use Rattle.otel_sdk.specs.Tracer as spec;
+ghost use Rattle.otel_sdk_base.specs.Attributes.{attributes_of};
 
 use crate::trace::{IdError, IdGenerator, SamplingDecision, SamplingResult, ShouldSample};
 use opentelemetry::trace::{
@@ -190,7 +191,7 @@ pub(crate) fn given_data(
     start_time: u64,
 ) -> Result<SpanData, AllocError>
     ensures { IfOk result (λ d. d ≡ spec.given_data (rc_value scope) (builder_of builder)
-        (option_copied parent.entry) span_context (map attribute_of sampled.items) start_time) }
+        (option_copied parent.entry) span_context (attributes_of sampled) start_time) }
 {
     let mut attributes = listed_attributes(alloc, builder.attributes);
     attributes.append(&mut sampled)?;

@@ -1,9 +1,9 @@
 //! The tracer of the SDK.
-ghost use Rattle.std.specs.Prelude.{◌≡◌, IfOk, map, option_copied};
+ghost use Rattle.std.specs.Prelude.{◌≡◌, IfOk, option_copied};
 ghost use Rattle.std.specs.Option.{unwrap_or};
-ghost use Rattle.otel_base.specs.View.{attribute_of};
 ghost use Rattle.opentelemetry.specs.View.{builder_of};
 ghost use Rattle.otel_sdk.specs.Tracer as spec;
+ghost use Rattle.otel_sdk_base.specs.Attributes.{attributes_of};
 
 use crate::trace::provider::TracerProviderInner;
 use crate::trace::start::{Ids, ask, given_data, new_ids, parent_of, records, span_context_of};
@@ -147,7 +147,7 @@ impl<S: ShouldSample, G: IdGenerator, C: Clock> TracerPipeline<S, G, C> {
     ) -> Result<SdkSpan, AllocError>
         ensures { IfOk result (λ span. spec.Records self.now.limits self.now.scope
             (builder_of builder) (option_copied parent.entry) span_context
-            (map attribute_of sampled.items) span) }
+            (attributes_of sampled) span) }
     {
         let start_time = self.start_time(builder.start_time);
         let scope = self.scope.clone()?;
@@ -175,9 +175,8 @@ impl<S: ShouldSample, G: IdGenerator, C: Clock> TracerPipeline<S, G, C> {
         parent_context: &Context,
         ids: Ids,
     ) -> Result<SdkSpan, AllocError>
-        ensures { IfOk result (λ span. spec.StartsWith (S.answer self.now.sampler)
-            (G.random self.now.id_generator) self.now.limits self.now.scope (builder_of builder)
-            parent_context.now ids.trace_id ids.span_id span) }
+        ensures { IfOk result (λ span. spec.IsStarted S.answer G.random self.now
+            (builder_of builder) parent_context.now ids.trace_id ids.span_id span) }
     {
         let parent = parent_of(parent_context);
         let answer = ask(

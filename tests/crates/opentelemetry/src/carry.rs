@@ -25,7 +25,8 @@ fn current_of(report: &RunReport) -> i64 {
     }
 }
 
-/// Each letter is an attach of a context named by it, and each digit the detach of that number.
+/// Each letter attaches a context with that name, and each digit detaches the attach with that
+/// number.
 fn run_steps(alloc: Global, steps: &str) -> Result<RunReport, AllocError> {
     let mut events = Vec::new(alloc);
     for step in steps.as_bytes() {
@@ -40,7 +41,7 @@ fn run_steps(alloc: Global, steps: &str) -> Result<RunReport, AllocError> {
     run(alloc, events, &composite, &mut carrier)
 }
 
-/// Whether the outcomes are `Attached` at the positions that these digits are.
+/// Whether the outcomes are `Attached` at the positions in these digits.
 fn are_attached(outcomes: &[AttachOutcome], positions: &str) -> bool {
     let mut position = positions.as_bytes().iter();
     for outcome in outcomes {
@@ -53,7 +54,8 @@ fn are_attached(outcomes: &[AttachOutcome], positions: &str) -> bool {
     position.next().is_none()
 }
 
-/// The steps, the positions that the attaches get, the name of the current context then, and the newest position.
+/// The steps, the positions of the attaches, the name of the current context afterwards, and the
+/// newest position.
 const RUNS: &[(&str, &str, u8, u16)] = &[
     ("abc1", "123", b'c', 3),
     ("abc12", "123", b'a', 1),
@@ -68,7 +70,8 @@ const RUNS: &[(&str, &str, u8, u16)] = &[
     ("a9", "1", b'a', 1),
 ];
 
-/// Asserts that an injection without members was `Ok`, the name of the report's current context, and the newest position.
+/// Asserts that an injection without members was `Ok`, the name of the report's current context,
+/// and the newest position.
 fn assert_stands(rt: &impl Abort, report: &RunReport, current: u8, newest: u16) {
     assert_eq!(rt; report.injected, Ok(()));
     assert_eq!(rt; current_of(report), current as i64);
@@ -88,8 +91,8 @@ fn worked_runs_have_these_outcomes(rt: HostRuntime) -> Result<(), Fail> {
     Ok(())
 }
 
-/// Attaches up to the limit and one more; then the detaches of the numbers below `detached`, and one
-/// more attach where that is asked for.
+/// Attaches up to the limit and one more, then detaches the numbers below `detached`, and attaches
+/// one more if requested.
 fn run_to_the_limit(
     alloc: Global,
     detached: usize,
@@ -113,7 +116,7 @@ fn run_to_the_limit(
     run(alloc, events, &composite, &mut carrier)
 }
 
-/// How many of the first outcomes are `Attached` at the positions from 1 on.
+/// The number of leading outcomes that are `Attached` at the positions from 1 on.
 fn attached_in_order(outcomes: &[AttachOutcome]) -> u16 {
     let mut position: u16 = 0;
     for outcome in outcomes {
@@ -125,8 +128,8 @@ fn attached_in_order(outcomes: &[AttachOutcome]) -> u16 {
     position
 }
 
-/// Asserts that all positions were taken, that the next attach was refused, and what an attach after
-/// the detaches came to.
+/// Asserts that all positions were taken, that the next attach was refused, and the outcome of an
+/// attach after the detaches.
 fn assert_limit(rt: &impl Abort, outcomes: &[AttachOutcome], again: Option<AttachOutcome>) {
     assert_eq!(rt; outcomes.len(), if again.is_some() { 65536 } else { 65535 });
     assert_eq!(rt; attached_in_order(outcomes), 65534);
@@ -134,8 +137,8 @@ fn assert_limit(rt: &impl Abort, outcomes: &[AttachOutcome], again: Option<Attac
     assert_eq!(rt; outcomes.get(65535).copied(), again);
 }
 
-/// How many are detached, what one more attach then comes to, where there is one, and what stands
-/// in the end: with all detached the base does.
+/// The number of detaches, the outcome of one more attach, if there is one, and the current context
+/// at the end: the base if all are detached.
 const LIMITS: &[(usize, Option<AttachOutcome>, u8, u16)] = &[
     (0, None, b'l', 65534),
     (0, Some(AttachOutcome::Full), b'l', 65534),
@@ -154,7 +157,7 @@ fn positions_run_out_and_come_back(rt: HostRuntime) -> Result<(), Fail> {
     Ok(())
 }
 
-/// Runs without events over a carrier that holds `Kept`, and asserts what was injected.
+/// Runs without events on a carrier that contains `Kept`, and asserts the injected texts.
 fn assert_run(
     rt: &impl Abort,
     alloc: Global,

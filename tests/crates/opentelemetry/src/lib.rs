@@ -1,4 +1,5 @@
-//! What no clause says: worked runs, odd carriers, odd members, texts, and each call once.
+//! Behavior that no clause states: worked runs, odd carriers, odd members, texts, and each call
+//! once.
 #![tactic(auto)]
 
 // Depends on: otel_recording test_support

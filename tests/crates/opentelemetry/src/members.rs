@@ -113,7 +113,7 @@ impl TextMapPropagator for RefusingMember {
     }
 }
 
-/// Extracts a copy of one entry under another name, where it is a text.
+/// Extracts a copy of one entry under another name, if it is a text.
 #[derive(Drop)]
 pub struct EntryCopier {
     pub from: &'static str,
@@ -159,7 +159,7 @@ impl TextMapPropagator for EntryCopier {
     }
 }
 
-/// A carrier that refuses one text, after so many others. Its `reserve` does nothing.
+/// A carrier that refuses one text, after a number of others. Its `reserve` does nothing.
 #[derive(Drop)]
 pub struct CarrierRefusingOne {
     pub texts: HashMap<String, String>,
@@ -224,7 +224,7 @@ pub fn stamps_of(alloc: Global, pairs: &[(&str, &str)]) -> Result<Stamps, AllocE
     })
 }
 
-/// A carrier that refuses the text after so many.
+/// A carrier that refuses the text after this many.
 pub fn carrier_refusing_after(alloc: Global, before: usize) -> CarrierRefusingOne {
     CarrierRefusingOne {
         texts: HashMap::new(alloc),
@@ -245,7 +245,7 @@ pub fn set_all(
     Ok(())
 }
 
-/// Asserts what a carrier holds under each of these keys, or that it is `none`.
+/// Asserts the value of each of these keys in the carrier; `none` means no value.
 pub fn assert_held(rt: &impl Abort, texts: &HashMap<String, String>, pairs: &[(&str, &str)]) {
     for (key, value) in pairs {
         assert_eq!(rt; held(texts, key), *value, "{key}");

@@ -1,4 +1,4 @@
-//! Each item under the path that the Rust crate has it at, or that the documents name.
+//! Each item at its path in the Rust crate, or at the path that the documents name.
 use std::test::Fail;
 
 mod root {

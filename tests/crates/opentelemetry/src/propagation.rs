@@ -1,4 +1,4 @@
-//! Carriers: maps of texts, and what the calls with a body of their own do.
+//! Carriers: maps of texts, and the provided calls.
 mod composite;
 mod error;
 mod text_map_propagator;
@@ -11,7 +11,7 @@ use std::collections::HashMap;
 use std::test::Fail;
 use test_support::map_of;
 
-/// What is set in turn, and what is held then under these keys as they stand.
+/// The texts that are set in turn, and the texts that the map then contains under these keys.
 const SET: &[(&str, &str)] = &[
     ("Foo", "1"),
     ("foo", "2"),
@@ -81,7 +81,7 @@ fn keys_rise_by_their_bytes(rt: HostRuntime) -> Result<(), Fail> {
     Ok(())
 }
 
-/// What is set in turn, and what `get` then finds: a key is lowered in ASCII alone.
+/// The texts that are set in turn, and the results of `get`: a key is lowered in ASCII only.
 const GOTTEN: &[(&str, Option<&str>)] = &[
     ("\u{c9}", Some("1")),
     ("\u{e9}", Some("2")),
@@ -112,7 +112,7 @@ fn odd_keys_are_found_as_they_stand(rt: HostRuntime) -> Result<(), Fail> {
     Ok(())
 }
 
-/// A carrier of two values under each key.
+/// A carrier with two values per key.
 #[derive(Drop)]
 struct Doubled {
     texts: HashMap<String, String>,
@@ -153,7 +153,7 @@ fn a_carrier_gives_all_its_values(rt: HostRuntime) -> Result<(), Fail> {
     Ok(())
 }
 
-/// A carrier that asks for more memory than there is in `reserve`, which fails.
+/// A carrier whose `reserve` requests more memory than there is, and fails.
 #[derive(Drop)]
 struct GreedyCarrier {
     texts: HashMap<String, String>,
@@ -192,7 +192,7 @@ fn room_that_cannot_be_had_is_no_fault(rt: HostRuntime) -> Result<(), Fail> {
     }
     assert_eq!(rt; greedy.failed, 3);
     assert_eq!(rt; map.len(), 0);
-    // One that reserves nothing.
+    // A carrier that reserves nothing.
     let mut plain = carrier_refusing_after(alloc, 2);
     plain.reserve(10);
     assert!(rt;

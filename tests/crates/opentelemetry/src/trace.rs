@@ -1,4 +1,4 @@
-//! Spans in work, and what they are built of.
+//! Spans and their parts.
 mod event;
 mod in_span;
 mod link;

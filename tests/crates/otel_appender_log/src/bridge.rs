@@ -1,4 +1,4 @@
-//! Records that go through the sink.
+//! Records sent through the sink.
 use log::{Level, Log, Logged, Metadata, debug, error, info, trace, warn};
 use opentelemetry::logs::{AnyValue, Severity};
 use opentelemetry::trace::{SpanContext, SpanId, TraceFlags, TraceId, TraceState};
@@ -13,7 +13,7 @@ use std::test::Fail;
 
 type Bridge = OpenTelemetryLogBridge<RecordingLogger>;
 
-/// Returns a bridge to a logger that wants records of at least this severity.
+/// Returns a bridge to a logger that accepts records with at least this severity.
 fn bridge(alloc: Global, least: Severity) -> Result<Bridge, AllocError> {
     let scope = InstrumentationScope::builder(StringValue::from("app")).build(alloc)?;
     Ok(OpenTelemetryLogBridge::new(alloc, RecordingLogger::new(alloc, scope, least)))
@@ -31,7 +31,7 @@ fn context(alloc: Global, trace: u128, span: u64) -> Result<Context, AllocError>
     Context::new().with_remote_span_context(alloc, span_context)
 }
 
-/// Returns the only record that the bridge handed on.
+/// Returns the only record that the bridge emitted.
 fn only_record(rt: &impl Abort, bridge: Bridge) -> RecordingLogRecord {
     assert_eq!(rt; bridge.dropped_records(), 0);
     let mut emitted = bridge.into_logger().into_emitted();
@@ -151,7 +151,7 @@ fn the_fields_of_spans_are_left_out(rt: HostRuntime) -> Result<(), Fail> {
     Ok(())
 }
 
-/// Returns a place in the file, at the line, in the module `cart::price`.
+/// Returns a location in the file, at the line, in the module `cart::price`.
 fn place(file: Option<&str>, line: Option<u32>) -> SourceLocation<'_> {
     SourceLocation {
         file,

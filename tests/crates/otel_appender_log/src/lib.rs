@@ -1,4 +1,4 @@
-//! What no clause says of the sink for the crate `log`.
+//! Behavior of the sink for the crate `log` that no clause states.
 #![tactic(auto)]
 
 // Depends on: test_support otel_recording

@@ -1,4 +1,4 @@
-//! What the program writes, and its status, for inputs and outputs in memory.
+//! The output and the status of the program, for inputs and outputs in memory.
 mod carry;
 mod events;
 mod extraction;
@@ -13,10 +13,10 @@ use std::alloc::{AllocError, Global};
 use std::io::{BufWriter, Read, Write};
 use std::process::Abort;
 
-/// What is written where no context is attached.
+/// The output if no context is attached.
 const BASE: &str = "current: base\nbaggage=\nextracted: none\n";
 
-/// Carries out the input with the program's composite, on an output without a buffer.
+/// Runs the input with the program's composite, on an unbuffered output.
 fn unbuffered<R: Read + Drop, W: Write>(
     alloc: Global,
     input: R,
@@ -30,7 +30,7 @@ fn unbuffered<R: Read + Drop, W: Write>(
     Ok(crate::carry::carry(alloc, input, output, &composite))
 }
 
-/// The same with a buffer, as the program has one.
+/// The same with a buffer, as in the program.
 fn status_of<R: Read + Drop, W: Write + Drop>(
     alloc: Global,
     input: R,
@@ -40,7 +40,7 @@ fn status_of<R: Read + Drop, W: Write + Drop>(
     unbuffered(alloc, input, &mut output)
 }
 
-/// Checks what the program writes for this input, and its status.
+/// Checks the output of the program for this input, and its status.
 fn sees(
     rt: &impl Abort,
     alloc: Global,
@@ -73,7 +73,7 @@ const INPUTS: &[&str] = &[
     "detach x\n",
 ];
 
-/// What the whole input makes of the output, and the status.
+/// The output and the status for the whole input.
 fn plainly(alloc: Global, input: &[u8]) -> Result<(Vec<u8>, u8), AllocError> {
     let mut output = Vec::new(alloc);
     let status = status_of(alloc, input, &mut output)?;

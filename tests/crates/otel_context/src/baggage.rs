@@ -11,7 +11,7 @@ use std::process::Abort;
 use std::test::Fail;
 use test_support::{Member, baggage_of};
 
-/// What the baggage prints.
+/// The printed baggage.
 fn printed(alloc: Global, baggage: &Baggage) -> Result<String, AllocError> {
     format!(in alloc; "{baggage}")
 }
@@ -63,7 +63,7 @@ fn look_ups_give_the_pair(rt: HostRuntime) -> Result<(), Fail> {
     Ok(())
 }
 
-/// Six members, so many that a look-up goes by hash. `tenant` is the beginning of `tenants`.
+/// Six members, enough for a look-up by hash. `tenant` is a prefix of `tenants`.
 const SIX: &[Member] = &[
     ("tenant", "acme", "m"),
     ("tenants", "2", ""),
@@ -73,7 +73,7 @@ const SIX: &[Member] = &[
     ("plan", "free", "o"),
 ];
 
-/// Names that none of [`SIX`] has: beginnings of theirs, longer ones, another case.
+/// Names of no member of [`SIX`]: prefixes, longer names, another case.
 const ABSENT: &[&str] = &[
     "", "t", "tenan", "use", "user-", "regions", "user-ids", "Plan", "x",
 ];
@@ -177,7 +177,7 @@ fn the_last_member_of_a_key_is_held(rt: HostRuntime) -> Result<(), Fail> {
     Ok(())
 }
 
-/// The member of `a`, `1` and that metadata.
+/// The member with `a`, `1` and this metadata.
 fn member(alloc: Global, metadata: &str) -> Result<KeyValueMetadata, AllocError> {
     let metadata = BaggageMetadata::new(alloc, metadata)?;
     Ok(KeyValueMetadata::new(Key::from("a"), StringValue::from("1"), metadata))

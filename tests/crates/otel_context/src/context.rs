@@ -1,4 +1,4 @@
-//! What the calls of a context give.
+//! The results of the calls of a context.
 use otel_base::{AnyValue, Key, StringValue};
 use otel_context::{Baggage, Context};
 use otel_ids::SpanId;
@@ -7,7 +7,7 @@ use std::process::Abort;
 use std::test::Fail;
 use test_support::{name_of, named, remote_span_context, text_of};
 
-/// A baggage of that one pair.
+/// A baggage with this one pair.
 pub fn one_pair(
     alloc: Global,
     key: &'static str,
@@ -18,7 +18,7 @@ pub fn one_pair(
     Ok(baggage)
 }
 
-/// The value of the key in the context's baggage, or nothing.
+/// The value of the key in the context's baggage, if any.
 pub fn held_in<'a>(context: &'a Context, key: &str) -> &'a str {
     match context.baggage() {
         Some(baggage) => baggage.get(key).map_or("", |value| value.as_str()),
@@ -26,8 +26,7 @@ pub fn held_in<'a>(context: &'a Context, key: &str) -> &'a str {
     }
 }
 
-/// Asserts what stands in the four parts: the entry `name`, the baggage's `k`, the span's number,
-/// suppression.
+/// Asserts the four parts: the entry `name`, the baggage's `k`, the span's number, and suppression.
 fn assert_parts(rt: &impl Abort, context: &Context, parts: (&str, &str, u64, bool)) {
     let (name, value, span, suppressed) = parts;
     assert_eq!(rt; name_of(context), name);
@@ -70,7 +69,7 @@ fn suppression_stays_with_entry_and_baggage(rt: HostRuntime) -> Result<(), Fail>
     Ok(())
 }
 
-/// A map of one text.
+/// A map with one text.
 fn map_of_one(alloc: Global) -> Result<AnyValue, AllocError> {
     let mut pairs = Vec::new(alloc);
     pairs.push((Key::from("in"), AnyValue::from("x")))?;
@@ -87,12 +86,12 @@ fn entries_are_any_value_trees_under_any_text(rt: HostRuntime) -> Result<(), Fai
     Ok(())
 }
 
-/// Names in no order, some of them beginnings of others.
+/// Names in no order, some of them prefixes of others.
 const NAMES: &[&str] = &[
     "m", "c", "x", "a", "mm", "z", "b", "ma", "y", "n", "", "d", "M", "zz", "ab", "l",
 ];
 
-/// The entry with that name if it is a whole number, else -1.
+/// The entry with this name if it is a whole number, and otherwise -1.
 fn number_at(context: &Context, name: &str) -> i64 {
     match context.get(name) {
         Some(AnyValue::Int(number)) => *number,

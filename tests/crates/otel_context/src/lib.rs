@@ -1,4 +1,5 @@
-//! What no clause says: worked rows, limits, printed texts, and each public call with ample memory.
+//! Behavior that no clause states: worked rows, limits, printed texts, and each public call with
+//! ample memory.
 #![tactic(auto)]
 
 // Depends on: otel_recording test_support

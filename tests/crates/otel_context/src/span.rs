@@ -1,4 +1,4 @@
-//! What the calls that are made of others pass to a span.
+//! The effects of a span's provided calls.
 use otel_base::{Key, KeyValue, StringValue, Value};
 use otel_context::Span;
 use otel_recording::{Effect, RecordingSpan};
@@ -8,7 +8,7 @@ use std::process::Abort;
 use std::test::Fail;
 use test_support::span;
 
-/// An error that prints its text so often.
+/// An error that prints its text this many times.
 #[derive(Drop)]
 struct Boom {
     times: usize,
@@ -40,7 +40,8 @@ fn whole(key: &'static str, value: i64) -> KeyValue {
     KeyValue::new(Key::from(key), Value::from(value))
 }
 
-/// Asserts that the one effect is an event `exception` at that moment, whose message has that length.
+/// Asserts that the only effect is an event `exception` at that time, whose message has this
+/// length.
 fn assert_exception(rt: &impl Abort, span: &RecordingSpan, moment: u64, length: usize) {
     let [Effect::Event(name, timestamp, attributes)] = span.effects() else {
         panic!(rt; "not one event")

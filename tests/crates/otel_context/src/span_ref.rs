@@ -1,4 +1,4 @@
-//! What references to spans say and take.
+//! The results and effects of references to spans.
 use crate::span::Silent;
 use otel_base::{Key, KeyValue, StringValue, Value};
 use otel_context::{Context, Span, Spans, Status};
@@ -10,7 +10,7 @@ use std::process::Abort;
 use std::test::Fail;
 use test_support::{span, span_context};
 
-/// The context with that span, which goes into the table.
+/// The context with this span, which is inserted into the table.
 fn made(rt: &impl Abort, alloc: Global, spans: &mut Spans<RecordingSpan>, id: u64) -> Context {
     match Context::new().with_span(alloc, spans, span(alloc, id)) {
         Ok(context) => context,
@@ -92,7 +92,7 @@ fn a_context_finds_the_span_of_its_number_in_each_table(rt: HostRuntime) -> Resu
     context.span(&mut second).end(8);
     assert_eq!(rt; first.get(0).and_then(|span| span.ended()), None);
     assert_eq!(rt; second.get(0).and_then(|span| span.ended()), Some(8));
-    // The reference has the context's span context, whatever that of the span is.
+    // The reference has the context's span context, even if the span has another one.
     assert_eq!(rt;
         context.span(&mut second).span_context().span_id(),
         SpanId::from(5)

@@ -1,4 +1,4 @@
-//! What a span table gives.
+//! The results of a span table's calls.
 use otel_context::{
     Context, ContextStack, Span, SpanCause, SpanRefused, Spans, mark_span_as_active,
 };
@@ -9,7 +9,7 @@ use std::process::Abort;
 use std::test::Fail;
 use test_support::{LAST_NUMBER, NUMBERS, filled, name_of, span, span_context};
 
-/// Puts a span in, and returns its number.
+/// Inserts a span. Returns its number.
 fn inserted(rt: &impl Abort, spans: &mut Spans<RecordingSpan>, span: RecordingSpan) -> u64 {
     match spans.insert(span) {
         Ok(number) => number,
@@ -20,7 +20,7 @@ fn inserted(rt: &impl Abort, spans: &mut Spans<RecordingSpan>, span: RecordingSp
     }
 }
 
-/// The span id of the span under the number, or 0.
+/// The span id of the span with the number, or 0.
 fn id_at(spans: &Spans<RecordingSpan>, number: u64) -> SpanId {
     spans
         .get(number)
@@ -88,7 +88,7 @@ fn of_a_thousand_spans_every_second_is_taken(rt: HostRuntime) -> Result<(), Fail
     Ok(())
 }
 
-/// The calls that put a span into a table.
+/// The calls that insert a span into a table.
 #[derive(Clone, Copy, Debug)]
 enum Numbered {
     Insert,
@@ -104,7 +104,7 @@ const NUMBERED: &[Numbered] = &[
     Numbered::Mark,
 ];
 
-/// Whether the numbers are used up, and the span id of the span that came back.
+/// Whether the numbers are used up, and the span id of the returned span.
 fn back(refused: &SpanRefused<RecordingSpan>) -> Option<SpanId> {
     if matches!(&refused.cause, SpanCause::NumbersUsedUp) {
         Some(refused.span.span_context().span_id())
@@ -113,7 +113,7 @@ fn back(refused: &SpanRefused<RecordingSpan>) -> Option<SpanId> {
     }
 }
 
-/// The number that the span gets, or what came back.
+/// The number that the span gets, or the returned error.
 fn number_of(
     alloc: Global,
     way: Numbered,
@@ -165,8 +165,8 @@ fn a_span_gets_the_last_number(rt: HostRuntime) -> Result<(), Fail> {
     Ok(())
 }
 
-/// A table holds spans under each of the last three numbers, and refuses the next one, also once
-/// one was taken out.
+/// A table holds spans with the last three numbers, and refuses the next one, even after one was
+/// taken.
 #[test]
 fn a_number_is_not_given_again_where_all_are_used_up(rt: HostRuntime) -> Result<(), Fail> {
     let mut spans = Spans::starting_at(rt.alloc(), LAST_NUMBER - 2);

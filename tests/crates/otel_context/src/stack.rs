@@ -1,4 +1,4 @@
-//! What a stack gives, by positions and by guards.
+//! The results of a stack's calls, by positions and by guards.
 mod guards;
 mod limits;
 
@@ -10,8 +10,8 @@ use std::process::Abort;
 use std::test::Fail;
 use test_support::{name_of, named, text_of};
 
-/// An attach of a context with that name and the position that it gets, or a removal and the name
-/// that it gives.
+/// An attach of a context with this name and the position that it gets, or a removal and the name
+/// of the removed context.
 #[derive(Clone, Copy)]
 enum Step {
     Attach(&'static str, u16),
@@ -24,7 +24,7 @@ use Step::{Attach, Remove};
 type Row = (Step, &'static str, u16);
 
 /// Removals below the newest, then of the newest over an emptied slot, then an attach at a position
-/// given anew.
+/// that is used again.
 const OUT_OF_ORDER: &[Row] = &[
     (Attach("a", 1), "a", 1),
     (Attach("b", 2), "b", 2),
@@ -35,7 +35,7 @@ const OUT_OF_ORDER: &[Row] = &[
     (Remove(3, ""), "d", 2),
 ];
 
-/// Nothing is live, then one is.
+/// Nothing is live, then one position is.
 const EMPTY_AT_FIRST: &[Row] = &[(Remove(1, ""), "base", 0), (Attach("a", 1), "a", 1)];
 
 const LOWER_FIRST: &[Row] = &[
@@ -46,7 +46,7 @@ const LOWER_FIRST: &[Row] = &[
     (Remove(2, "b"), "base", 0),
 ];
 
-/// Positions where nothing is ever live.
+/// Positions at which nothing is ever live.
 const STRANGE_POSITIONS: &[Row] = &[
     (Attach("a", 1), "a", 1),
     (Remove(0, ""), "a", 1),
@@ -76,12 +76,12 @@ const TABLES: &[&[Row]] = &[
     THREE_EMPTIED,
 ];
 
-/// A stack that is asked by positions, or by guards.
+/// A stack that is used by positions, or by guards.
 #[derive(Drop)]
 struct Asked {
     stack: ContextStack,
     by_guards: bool,
-    /// A second stack, which gives guards of any position, and takes those that aren't needed.
+    /// A second stack, which makes guards of any position, and takes the unneeded ones.
     elsewhere: ContextStack,
 }
 
@@ -94,7 +94,7 @@ impl Asked {
         })
     }
 
-    /// Attaches by `ContextStack::push`, or by `ContextStack::attach` with the guard's position.
+    /// Attaches with `ContextStack::push`, or with `ContextStack::attach` and the guard's position.
     fn attach(&mut self, context: Context) -> Result<u16, AllocError> {
         if self.by_guards {
             let guard = self.stack.attach(context)?;
@@ -106,7 +106,7 @@ impl Asked {
         }
     }
 
-    /// Removes by `ContextStack::pop_id`, or by `ContextStack::detach` with a guard of that
+    /// Removes with `ContextStack::pop_id`, or with `ContextStack::detach` and a guard of that
     /// position. No guard has position 0.
     fn remove(&mut self, position: u16) -> Result<Option<Context>, AllocError> {
         if self.by_guards && position > 0 {
@@ -117,7 +117,7 @@ impl Asked {
         }
     }
 
-    /// A guard of that position: the second stack gives it where the position below is its newest.
+    /// A guard of this position: the second stack returns it when the position below is its newest.
     fn guard_at(&mut self, position: u16) -> Result<ContextGuard, AllocError> {
         for above in (position..=self.elsewhere.newest_position()).rev() {
             drop(self.elsewhere.pop_id(above));
@@ -129,7 +129,7 @@ impl Asked {
     }
 }
 
-/// The name of the context that a removal gives, or nothing.
+/// The name of the context that a removal returns, or nothing.
 fn name_given(given: &Option<Context>) -> &str {
     match given {
         Some(context) => name_of(context),
@@ -137,7 +137,7 @@ fn name_given(given: &Option<Context>) -> &str {
     }
 }
 
-/// Plays one step, and asserts what it returned.
+/// Runs one step, and asserts its result.
 fn play(rt: &impl Abort, alloc: Global, asked: &mut Asked, step: Step) -> Result<(), Fail> {
     match step {
         Attach(name, position) => {
@@ -159,7 +159,7 @@ fn assert_stands(rt: &impl Abort, stack: &ContextStack, current: &str, newest: u
     assert_eq!(rt; stack.newest_position(), newest);
 }
 
-/// Plays the rows in turn, and asserts what stands after each.
+/// Runs the rows in turn, and asserts the state after each.
 fn play_rows(rt: &impl Abort, alloc: Global, asked: &mut Asked, rows: &[Row]) -> Result<(), Fail> {
     for row in rows {
         let (step, current, newest) = *row;
@@ -183,17 +183,17 @@ fn worked_rows(rt: HostRuntime) -> Result<(), Fail> {
     Ok(())
 }
 
-/// What is attached where every position is taken gets none.
+/// An attach to a full stack gets no position.
 const AT_THE_LIMIT: &[Row] = &[(Attach("refused", 65535), "a", 65534)];
 
-/// All below the newest were removed: no position is free until the newest goes too.
+/// All positions below the newest were removed: none is free until the newest is removed too.
 const ABOVE_EMPTIED_SLOTS: &[Row] = &[
     (Attach("refused", 65535), "a", 65534),
     (Remove(65534, "a"), "base", 0),
     (Attach("again", 1), "again", 1),
 ];
 
-/// Attaches as often as there are positions.
+/// Attaches as many times as there are positions.
 fn fill(rt: &impl Abort, alloc: Global, asked: &mut Asked) -> Result<(), Fail> {
     let context = named(alloc, "a")?;
     for position in 1..65535 {
@@ -253,15 +253,15 @@ fn the_guard_of_a_refused_attach_isnt_attached(rt: HostRuntime) -> Result<(), Fa
     Ok(())
 }
 
-/// Whether `a` of the current context is this text, and `b` is 42 where it is said to be there, and
-/// only there.
+/// Whether `a` of the current context is this text, and `b` is 42 if and only if it should be
+/// present.
 fn has_entries(stack: &ContextStack, a: &str, has_b: bool) -> bool {
     let context = stack.current();
     let b = context.get("b");
     text_of(context, "a") == a && matches!(b, Some(AnyValue::Int(42))) == has_b
 }
 
-/// Attaches a context with `a`, and one made from it that has `b` too.
+/// Attaches a context with `a`, and one derived from it that also has `b`.
 fn attach_derived(alloc: Global, asked: &mut Asked) -> Result<(), AllocError> {
     let first = Context::new().with_value(alloc, Key::from("a"), AnyValue::from("1"))?;
     asked.attach(first)?;
@@ -272,7 +272,7 @@ fn attach_derived(alloc: Global, asked: &mut Asked) -> Result<(), AllocError> {
     Ok(())
 }
 
-/// Removes the two, the first one first, and asserts what the current context has each time.
+/// Removes the two, the first one first, and asserts the entries of the current context each time.
 fn remove_derived(rt: &impl Abort, asked: &mut Asked) -> Result<(), AllocError> {
     assert!(rt; has_entries(&asked.stack, "1", true));
     assert!(rt; asked.remove(1)?.is_some());
@@ -297,7 +297,7 @@ fn a_context_keeps_the_entries_of_the_one_that_it_was_made_from(
     play_derived(&rt, rt.alloc(), true)
 }
 
-/// Attaches to `one`, and gives the guard to `other`, where `a` is live at its position.
+/// Attaches to `one`, and passes the guard to `other`, which has `a` at its position.
 fn spend_elsewhere(
     rt: &impl Abort,
     one: &mut ContextStack,

@@ -1,4 +1,4 @@
-//! How statuses compare.
+//! Comparisons of statuses.
 use otel_base::StringValue;
 use otel_context::Status;
 use std::test::Fail;

@@ -12,7 +12,7 @@ use std::alloc::Global;
 use std::hash::RandomState;
 use std::test::Fail;
 
-/// Adds what both propagators read of the headers received to those to send.
+/// Adds the values read from the received headers by both propagators to the headers to send.
 fn forward(
     alloc: Global,
     received: &HeaderMap,

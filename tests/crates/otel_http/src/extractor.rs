@@ -1,11 +1,11 @@
-//! What an extractor reads of headers.
+//! The texts that an extractor reads from headers.
 use http_header::{HeaderMap, HeaderName, HeaderValue};
 use opentelemetry::propagation::Extractor;
 use otel_http::HeaderExtractor;
 use std::alloc::Global;
 use std::test::Fail;
 
-/// Headers of these lines.
+/// Headers with these lines.
 pub fn headers(alloc: Global, lines: &[(&str, &[u8])]) -> Result<HeaderMap, Fail> {
     let mut map = HeaderMap::new(alloc);
     for (name, value) in lines {

@@ -1,4 +1,4 @@
-//! What an injector sets in headers, and what it refuses.
+//! The texts that an injector sets in headers or refuses.
 use crate::extractor::headers;
 use http_header::HeaderMap;
 use opentelemetry::propagation::{Injector, PropagationError};
@@ -6,7 +6,7 @@ use otel_http::HeaderInjector;
 use std::alloc::{AllocError, Global};
 use std::test::Fail;
 
-/// Sets one text, and tells the answer and the headers after it.
+/// Sets one text. Returns the result and the headers afterwards.
 fn set(
     alloc: Global,
     headers: HeaderMap,

@@ -1,4 +1,5 @@
-//! What no clause says of the carriers over HTTP headers: that calls succeed, and worked cases.
+//! Behavior of the carriers over HTTP headers that no clause states: that calls succeed, and worked
+//! cases.
 // Depends on: otel_propagators bytes http1 http1_typed httparse
 #![tactic(auto)]
 

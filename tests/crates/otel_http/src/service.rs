@@ -1,4 +1,4 @@
-//! A request that comes in and one that goes out.
+//! A received request and a sent one.
 use crate::extractor::headers;
 use http_header::HeaderMap;
 use opentelemetry::Context;
@@ -9,7 +9,7 @@ use otel_propagators::TraceContextPropagator;
 use std::alloc::Global;
 use std::test::Fail;
 
-/// Returns the headers to send on for the headers received.
+/// Returns the headers to send for the received headers.
 pub fn forward<P: TextMapPropagator>(
     alloc: Global,
     propagator: &P,

@@ -4,10 +4,11 @@ use opentelemetry::trace::{
 };
 use opentelemetry::{Array, InstrumentationScope, Key, KeyValue, StringValue, Value};
 use otel_sdk::resource::Resource;
-use otel_sdk::trace::{SpanData, SpanEvents, SpanLinks};
+use otel_sdk::trace::SpanData;
 use std::alloc::{AllocError, Global};
 use std::rc::Rc;
 use std::test::Fail;
+use test_support::span_data;
 
 const TRACE: u128 = 0x4bf92f3577b34da6a3ce929d0e0e4736;
 
@@ -25,33 +26,11 @@ pub fn root(
     number: u64,
     scope: Rc<InstrumentationScope>,
 ) -> Result<SpanData, AllocError> {
-    Ok(SpanData {
-        span_context: SpanContext::new(
-            TraceId::from(7),
-            SpanId::from(number),
-            TraceFlags::new(3),
-            false,
-            TraceState::NONE,
-        ),
-        parent_span_id: SpanId::INVALID,
-        parent_span_is_remote: false,
-        span_kind: SpanKind::Internal,
-        name: StringValue::from("work"),
-        start_time: 0,
-        end_time: u64::MAX,
-        attributes: Vec::new(alloc),
-        dropped_attributes_count: 0,
-        events: SpanEvents {
-            events: Vec::new(alloc),
-            dropped_count: 0,
-        },
-        links: SpanLinks {
-            links: Vec::new(alloc),
-            dropped_count: 0,
-        },
-        status: Status::Unset,
-        instrumentation_scope: scope,
-    })
+    let mut root = span_data(alloc, number, 3)?;
+    root.start_time = 0;
+    root.end_time = u64::MAX;
+    root.instrumentation_scope = scope;
+    Ok(root)
 }
 
 /// The attribute.

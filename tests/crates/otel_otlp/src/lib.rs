@@ -1,6 +1,6 @@
 //! What no clause says of the lines of JSON: their text, byte by byte, and what a writer that fails
 //! leaves.
-// Depends on: otel_sdk
+// Depends on: otel_sdk test_support
 #![tactic(auto)]
 
 mod batches;

@@ -1,4 +1,4 @@
-//! The propagator of `baggage`: what is set, what is extracted.
+//! The propagator of `baggage`: the header that it sets, and the baggage that it extracts.
 mod sizes;
 
 use opentelemetry::logs::AnyValue;
@@ -25,7 +25,7 @@ pub fn injected(alloc: Global, context: &Context) -> Result<String, AllocError> 
     carrier.remove("baggage").ok_or(AllocError)
 }
 
-/// What is extracted into the context of a carrier with this header.
+/// The context extracted from a carrier with this header.
 pub fn extracted(alloc: Global, context: &Context, header: &str) -> Result<Context, AllocError> {
     let carrier = map_of(alloc, &[("baggage", header)])?;
     let propagator = BaggagePropagator::new(alloc)?;
@@ -34,7 +34,7 @@ pub fn extracted(alloc: Global, context: &Context, header: &str) -> Result<Conte
         .map_err(memory_of)
 }
 
-/// Whether the context has a baggage of these members, in this order.
+/// Whether the context has a baggage with these members, in this order.
 pub fn holds(context: &Context, members: &[Member]) -> bool {
     let Some(baggage) = context.baggage() else {
         return false;
@@ -51,7 +51,7 @@ pub fn holds(context: &Context, members: &[Member]) -> bool {
     expected.next().is_none()
 }
 
-/// Headers, and the members that they are read as.
+/// Headers, and the members read from them.
 const READINGS: &[(&str, &[Member])] = &[
     ("", &[]),
     (" \t ", &[]),
@@ -63,16 +63,16 @@ const READINGS: &[(&str, &[Member])] = &[
     ("a=1,b=2,a=3", &[("a", "3", ""), ("b", "2", "")]),
     ("a=1;p,a=2", &[("a", "2", "")]),
     ("a=1;x,b=2", &[("a", "1", "x"), ("b", "2", "")]),
-    // Properties are kept as they are, but for white space at both ends, Unicode's too.
+    // Properties are stored as they are, except white space at both ends, including Unicode's.
     ("a=1;p;q=2;r = 3", &[("a", "1", "p;q=2;r = 3")]),
     ("a=1; \t p=1 ; q\t", &[("a", "1", "p=1 ; q")]),
     ("a=1;\u{2003}p%20\u{a0}", &[("a", "1", "p%20")]),
     ("a=1;", &[("a", "1", "")]),
     ("a=1;;", &[("a", "1", ";")]),
-    // A `=` after the first `;` is none.
+    // A `=` after the first `;` doesn't count.
     ("a;b=1", &[]),
     ("a;b=1,c=2", &[("c", "2", "")]),
-    // The first `=` divides.
+    // The first `=` splits.
     ("a=b=c", &[("a", "b=c", "")]),
     ("a==", &[("a", "=", "")]),
     ("a=", &[("a", "", "")]),
@@ -93,13 +93,13 @@ const READINGS: &[(&str, &[Member])] = &[
     ("a=%c3%A9", &[("a", "\u{e9}", "")]),
     ("a=%00", &[("a", "\0", "")]),
     ("a=\u{e9}", &[("a", "\u{e9}", "")]),
-    // Values that aren't UTF-8 when they are decoded.
+    // Values that aren't UTF-8 when decoded.
     (
         "a=%ff,b=%C3,c=%ed%a0%80,d=%f0%9f%98%80",
         &[("d", "\u{1f600}", "")],
     ),
     ("a=1,a=%ff", &[("a", "1", "")]),
-    // A key isn't decoded, and one that isn't a token is refused; what follows is read.
+    // A key isn't decoded, and a key that isn't a token is refused. The rest is read.
     ("%61=1", &[("%61", "1", "")]),
     ("=1,b=2", &[("b", "2", "")]),
     (
@@ -132,7 +132,7 @@ fn what_was_read_is_written_and_read_again(rt: HostRuntime) -> Result<(), Fail> 
     Ok(())
 }
 
-/// Members, and the header that they are written as (W3C baggage, `baggage-string`).
+/// Members, and the header written for them (W3C baggage, `baggage-string`).
 const WRITINGS: &[(&[Member], &str)] = &[
     (&[], ""),
     (&[("a", "1", "")], "a=1"),
@@ -219,7 +219,7 @@ fn without_the_header_the_given_context_comes_back(rt: HostRuntime) -> Result<()
     let alloc = rt.alloc();
     let given = given(alloc)?;
     let propagator = BaggagePropagator::new(alloc)?;
-    // A map of texts holds its keys as they stand, and `Baggage` isn't the lower case.
+    // A map of texts has its keys as they are, and `Baggage` isn't in lower case.
     for key in ["Baggage", "baggages", "tracestate"] {
         let carrier = map_of(alloc, &[(key, "a=1")])?;
         let context = propagator

@@ -1,4 +1,4 @@
-//! What no clause says: the headers' worked rows, and each call once.
+//! Behavior that no clause states: the headers' worked rows, and each call once.
 #![tactic(auto)]
 
 // Depends on: test_support

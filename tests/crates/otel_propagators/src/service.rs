@@ -1,4 +1,4 @@
-//! The service that README.md shows, on a request of the W3C's example.
+//! The service shown in README.md, with a request of the W3C's example.
 use opentelemetry::context::ContextStack;
 use opentelemetry::propagation::{Extractor, PropagationError, TextMapPropagator};
 use otel_propagators::TraceContextPropagator;
@@ -6,7 +6,7 @@ use std::alloc::Global;
 use std::collections::HashMap;
 use std::test::Fail;
 
-/// Returns the headers to send on for the headers received.
+/// Returns the headers to send for the received headers.
 pub fn serve(
     alloc: Global,
     received: &dyn Extractor,

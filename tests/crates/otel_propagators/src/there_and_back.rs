@@ -1,4 +1,4 @@
-//! Both headers there and back: what is extracted is injected again as the same headers, by both
+//! Both headers there and back: an extracted context is injected as the same headers, by both
 //! propagators in turn, by a composite of both and by a join, in each order.
 use opentelemetry::baggage::{Baggage, BaggageMetadata};
 use opentelemetry::propagation::{PropagationError, TextMapCompositePropagator, TextMapPropagator};
@@ -19,7 +19,7 @@ struct Row {
     headers: &'static [(&'static str, &'static str)],
 }
 
-/// The examples of the W3C documents, and both ends of what an id and a flag may be.
+/// The examples of the W3C documents, and the least and greatest ids and flags.
 const ROWS: &[Row] = &[
     Row {
         ids: (1, 1, 1),
@@ -74,7 +74,7 @@ const ROWS: &[Row] = &[
             ),
         ],
     },
-    // An id is 0: no header says anything of the span.
+    // An id is 0: no header contains the span.
     Row {
         ids: (1, 0, 1),
         state: &[("a", "1")],
@@ -108,7 +108,7 @@ fn context_of(alloc: Global, row: &Row) -> Result<Context, AllocError> {
         .with_baggage(alloc, baggage)
 }
 
-/// How both propagators are put to work.
+/// How both propagators are used.
 #[derive(Clone, Copy, Debug)]
 enum Way {
     InTurn,
@@ -120,7 +120,7 @@ const WAYS: [Way; 3] = [Way::InTurn, Way::Composite, Way::Join];
 
 type Members = Vec<Box<dyn TextMapPropagator>>;
 
-/// Both propagators, that of `baggage` first or last.
+/// Both propagators, the one of `baggage` first or last.
 fn members(alloc: Global, baggage_first: bool) -> Result<Members, AllocError> {
     let trace: Box<dyn TextMapPropagator> = Box::new(alloc, TraceContextPropagator::new(alloc)?)?;
     let baggage: Box<dyn TextMapPropagator> = Box::new(alloc, BaggagePropagator::new(alloc)?)?;
@@ -131,7 +131,7 @@ fn members(alloc: Global, baggage_first: bool) -> Result<Members, AllocError> {
     })
 }
 
-/// The composites that do in turn what the way asks for.
+/// The composites used in turn in this way.
 fn composites(
     alloc: Global,
     way: Way,
@@ -258,8 +258,8 @@ fn what_is_extracted_is_injected_again_as_the_same_headers(rt: HostRuntime) -> R
     Ok(())
 }
 
-/// Blanks at the end of a trace state's value are cut by reading (RFC 7230, section 3.2.3), so they
-/// don't come back, and the second header is shorter than the first.
+/// Reading trims blanks at the end of a trace state's value (RFC 7230, section 3.2.3), so they are
+/// lost, and the second header is shorter than the first.
 #[test]
 fn blanks_at_the_end_of_a_trace_state_value_are_cut(rt: HostRuntime) -> Result<(), Fail> {
     let alloc = rt.alloc();
@@ -277,7 +277,7 @@ fn blanks_at_the_end_of_a_trace_state_value_are_cut(rt: HostRuntime) -> Result<(
     Ok(())
 }
 
-/// A comma in metadata begins a member of its own: the premise of the law is needed.
+/// A comma in metadata starts another member: the condition of the law is needed.
 #[test]
 fn a_comma_in_metadata_begins_another_member(rt: HostRuntime) -> Result<(), Fail> {
     let alloc = rt.alloc();
@@ -298,8 +298,8 @@ fn a_comma_in_metadata_begins_another_member(rt: HostRuntime) -> Result<(), Fail
     assert_comes_back(&rt, alloc, &back, &expected)
 }
 
-/// Without a valid span nothing is set for it, so an older `traceparent` of the carrier stays, and
-/// its span comes back.
+/// Without a valid span, nothing is set for it, so an older `traceparent` of the carrier stays, and
+/// its span is extracted.
 #[test]
 fn an_older_traceparent_stays_without_a_valid_span(rt: HostRuntime) -> Result<(), Fail> {
     let alloc = rt.alloc();

@@ -1,4 +1,5 @@
-//! The propagator of `traceparent` and `tracestate`: what is set, what is extracted.
+//! The propagator of `traceparent` and `tracestate`: the headers that it sets, and the contexts
+//! that it extracts.
 mod traceparent;
 
 use opentelemetry::logs::AnyValue;
@@ -15,7 +16,7 @@ use test_support::{held, map_of};
 /// Trace id 1, span id 1, and the flag `sampled`.
 pub const TRACEPARENT: &str = "00-00000000000000000000000000000001-0000000000000001-01";
 
-/// A context with an entry and a span context of ids 7 and 7 with a trace state.
+/// A context with an entry and a span context with ids 7 and 7 and a trace state.
 fn given(alloc: Global) -> Result<Context, AllocError> {
     let Ok(state) = TraceState::from_str(alloc, "old=1") else {
         return Err(AllocError);
@@ -47,7 +48,7 @@ fn remote(alloc: Global, ids: (u128, u64, u8), state: &str) -> Result<SpanContex
     ))
 }
 
-/// What is extracted of the texts into the given context.
+/// The result of extracting the texts into the given context.
 fn extract(
     alloc: Global,
     context: &Context,
@@ -62,8 +63,8 @@ fn extract(
     }
 }
 
-/// Asserts that the texts give the given context with the remote span context of these ids and
-/// flags and that trace state, and else the given context.
+/// Asserts that extracting the texts returns the given context with the remote span context with
+/// these ids and flags and that trace state or, if there are none, the given context.
 pub fn assert_extracted(
     rt: &impl Abort,
     alloc: Global,
@@ -87,7 +88,7 @@ pub fn assert_extracted(
     Ok(())
 }
 
-/// Asserts what a `traceparent` alone gives.
+/// Asserts the result for only a `traceparent`.
 pub fn assert_read(
     rt: &impl Abort,
     alloc: Global,
@@ -98,7 +99,7 @@ pub fn assert_read(
     assert_extracted(rt, alloc, &[("traceparent", traceparent)], expected)
 }
 
-/// The values of `traceparent` and `tracestate` that a span context is injected as.
+/// The values of `traceparent` and `tracestate` injected for a span context.
 fn inject(alloc: Global, span_context: SpanContext) -> Result<HashMap<String, String>, AllocError> {
     let propagator = TraceContextPropagator::new(alloc)?;
     let context = Context::new().with_remote_span_context(alloc, span_context)?;
@@ -144,7 +145,7 @@ fn a_valid_span_context_is_set(rt: HostRuntime) -> Result<(), Fail> {
     Ok(())
 }
 
-/// What is injected is extracted again.
+/// An injected context is extracted again.
 #[test]
 fn all_256_flags_go_there_and_back(rt: HostRuntime) -> Result<(), Fail> {
     let alloc = rt.alloc();
@@ -162,7 +163,7 @@ fn all_256_flags_go_there_and_back(rt: HostRuntime) -> Result<(), Fail> {
     Ok(())
 }
 
-/// What arrived is sent on as it came.
+/// A received context is sent on unchanged.
 #[test]
 fn headers_stay_on_their_way(rt: HostRuntime) -> Result<(), Fail> {
     let alloc = rt.alloc();
@@ -180,8 +181,8 @@ fn headers_stay_on_their_way(rt: HostRuntime) -> Result<(), Fail> {
     Ok(())
 }
 
-/// Values of `tracestate` beside a good `traceparent`, and the trace state that is extracted: those
-/// with a fault of each kind give the empty one, and the span context stays.
+/// Values of `tracestate` with a good `traceparent`, and the extracted trace state: a fault of any
+/// kind gives the empty one, and the span context stays.
 const TRACESTATES: &[(&str, &str)] = &[
     ("v=1", "v=1"),
     (" a=1 ,\tb=2", "a=1,b=2"),

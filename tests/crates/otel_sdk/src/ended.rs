@@ -1,5 +1,5 @@
 //! How ended spans get from a table to an exporter: worked runs.
-use crate::processor::{Planned, report, span};
+use crate::processor::{Planned, report};
 use opentelemetry::trace::{Span, SpanContext, Spans};
 use otel_sdk::trace::{
     BatchConfigBuilder, BatchSpanProcessor, InMemorySpanExporter, SdkSpan, SimpleSpanProcessor,
@@ -7,10 +7,15 @@ use otel_sdk::trace::{
 };
 use std::alloc::Global;
 use std::test::Fail;
+use test_support::span_data;
 
 /// A span that records, with this number for its span id.
 fn recording(alloc: Global, number: u64, flags: u8) -> Result<SdkSpan, Fail> {
-    Ok(SdkSpan::new(alloc, span(alloc, number, flags)?, SpanLimits::default())?)
+    Ok(SdkSpan::new(
+        alloc,
+        span_data(alloc, number, flags)?,
+        SpanLimits::default(),
+    )?)
 }
 
 /// Ends the span with the number, and lists the number if the span hadn't ended.

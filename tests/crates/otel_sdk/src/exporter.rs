@@ -1,9 +1,9 @@
 //! What an exporter keeps in memory, and what errors print.
-use crate::processor::span;
 use opentelemetry::trace::SpanId;
 use otel_sdk::error::OTelSdkError;
 use otel_sdk::trace::{InMemorySpanExporter, SpanExporter};
 use std::test::Fail;
+use test_support::span_data;
 
 #[test]
 fn accepted_spans_are_kept_in_order(rt: HostRuntime) -> Result<(), Fail> {
@@ -11,10 +11,10 @@ fn accepted_spans_are_kept_in_order(rt: HostRuntime) -> Result<(), Fail> {
     let mut exporter = InMemorySpanExporter::new(alloc);
     assert!(rt;
         exporter
-            .export(&[span(alloc, 1, 1)?, span(alloc, 2, 1)?])
+            .export(&[span_data(alloc, 1, 1)?, span_data(alloc, 2, 1)?])
             .is_ok()
     );
-    assert!(rt; exporter.export(&[span(alloc, 3, 1)?]).is_ok());
+    assert!(rt; exporter.export(&[span_data(alloc, 3, 1)?]).is_ok());
     assert!(rt; exporter.force_flush().is_ok());
     let spans = exporter.get_finished_spans()?;
     assert_eq!(rt; spans.len(), 3);
@@ -32,10 +32,10 @@ fn accepted_spans_are_kept_in_order(rt: HostRuntime) -> Result<(), Fail> {
 fn a_shutdown_exporter_refuses(rt: HostRuntime) -> Result<(), Fail> {
     let alloc = rt.alloc();
     let mut exporter = InMemorySpanExporter::new(alloc);
-    assert!(rt; exporter.export(&[span(alloc, 1, 1)?]).is_ok());
+    assert!(rt; exporter.export(&[span_data(alloc, 1, 1)?]).is_ok());
     assert!(rt; exporter.shutdown().is_ok());
     assert!(rt; exporter.get_finished_spans()?.is_empty());
-    let answer = exporter.export(&[span(alloc, 2, 1)?]);
+    let answer = exporter.export(&[span_data(alloc, 2, 1)?]);
     assert!(rt; matches!(answer, Err(OTelSdkError::AlreadyShutdown)));
     assert!(rt; exporter.get_finished_spans()?.is_empty());
     Ok(())

@@ -1,4 +1,4 @@
-//! Which ids are drawn from a source of random numbers, and how ids are counted.
+//! The ids drawn from a source of random numbers, and counted ids.
 use opentelemetry::trace::{SpanId, TraceId};
 use otel_sdk::trace::{CountedIdGenerator, IdError, IdGenerator, RandomIdGenerator};
 use std::cell::Cell;
@@ -7,7 +7,7 @@ use std::io;
 use std::random::RandomSource;
 use std::test::Fail;
 
-/// Gives zeros, then numbers that end in 5; or fails at a draw.
+/// Returns zeros, then numbers that end in 5; or fails at a draw.
 #[derive(Drop)]
 struct Scripted {
     zeros: u32,
@@ -42,7 +42,7 @@ fn generator_of(zeros: u32, fails_at: u32) -> RandomIdGenerator<Scripted> {
     })
 }
 
-/// How many draws give 0, which draw fails, and what the generator gives.
+/// The number of draws that return 0, the draw that fails, and the result of the generator.
 const DRAWS: &[(u32, u32, Result<u64, IdError>)] = &[
     (0, 0, Ok(5)),
     (2, 0, Ok(5)),

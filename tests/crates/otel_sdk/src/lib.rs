@@ -2,6 +2,8 @@
 //! succeed, texts as printed, and worked cases.
 #![tactic(auto)]
 
+// Depends on: test_support
+
 mod ended;
 mod exporter;
 mod id_generator;

@@ -1,48 +1,13 @@
 //! What processors hand to an exporter: worked runs.
-use opentelemetry::trace::{
-    SpanContext, SpanId, SpanKind, Status, TraceFlags, TraceId, TraceState,
-};
-use opentelemetry::{InstrumentationScope, StringValue};
+use opentelemetry::trace::SpanId;
 use otel_sdk::error::{OTelSdkError, OTelSdkResult};
 use otel_sdk::trace::{
     BatchConfigBuilder, BatchSpanProcessor, InMemorySpanExporter, SimpleSpanProcessor, SpanData,
-    SpanEvents, SpanExporter, SpanLinks, SpanProcessor,
+    SpanExporter, SpanProcessor,
 };
 use std::alloc::{AllocError, Global};
-use std::rc::Rc;
 use std::test::Fail;
-
-/// A span that ended, with this number for its span id.
-pub fn span(alloc: Global, number: u64, flags: u8) -> Result<SpanData, AllocError> {
-    let scope = InstrumentationScope::builder(StringValue::from("tests")).build(alloc)?;
-    Ok(SpanData {
-        span_context: SpanContext::new(
-            TraceId::from(7),
-            SpanId::from(number),
-            TraceFlags::new(flags),
-            false,
-            TraceState::NONE,
-        ),
-        parent_span_id: SpanId::INVALID,
-        parent_span_is_remote: false,
-        span_kind: SpanKind::Internal,
-        name: StringValue::from("work"),
-        start_time: 1,
-        end_time: 2,
-        attributes: Vec::new(alloc),
-        dropped_attributes_count: 0,
-        events: SpanEvents {
-            events: Vec::new(alloc),
-            dropped_count: 0,
-        },
-        links: SpanLinks {
-            links: Vec::new(alloc),
-            dropped_count: 0,
-        },
-        status: Status::Unset,
-        instrumentation_scope: Rc::new(alloc, scope)?,
-    })
-}
+use test_support::span_data;
 
 /// An exporter with a plan: at `+` it accepts a batch, and else refuses it. It writes down each
 /// batch as the spans' numbers in brackets, with a `!` if it refuses it.
@@ -123,7 +88,7 @@ fn played<P: SpanProcessor>(
             [b's'] => processor.shutdown().err(),
             [kind, number] => {
                 let flags = if *kind == b'e' { 3 } else { 2 };
-                let span = span(alloc, (*number - b'0') as u64, flags)?;
+                let span = span_data(alloc, (*number - b'0') as u64, flags)?;
                 processor.on_end(span).err().map(|refused| refused.error)
             }
             _ => None,
@@ -250,7 +215,7 @@ fn a_queue_has_room_for_2048_spans(rt: HostRuntime) -> Result<(), Fail> {
     let exporter = InMemorySpanExporter::new(alloc);
     let mut processor = BatchSpanProcessor::new(alloc, exporter, Default::default());
     for number in 0..2050 {
-        assert!(rt; processor.on_end(span(alloc, number, 1)?).is_ok());
+        assert!(rt; processor.on_end(span_data(alloc, number, 1)?).is_ok());
     }
     assert_eq!(rt; processor.queued_spans(), 2048);
     assert_eq!(rt; processor.dropped_spans(), 2);
@@ -260,7 +225,7 @@ fn a_queue_has_room_for_2048_spans(rt: HostRuntime) -> Result<(), Fail> {
         .build();
     let mut processor = BatchSpanProcessor::new(alloc, exporter, config);
     for number in 0..2050 {
-        assert!(rt; processor.on_end(span(alloc, number, 1)?).is_ok());
+        assert!(rt; processor.on_end(span_data(alloc, number, 1)?).is_ok());
     }
     assert_eq!(rt; processor.queued_spans(), 2050);
     Ok(())
@@ -272,7 +237,7 @@ fn a_span_that_is_not_taken_comes_back(rt: HostRuntime) -> Result<(), Fail> {
     let exporter = InMemorySpanExporter::new(alloc);
     let mut processor = BatchSpanProcessor::new(alloc, exporter, Default::default());
     assert!(rt; processor.shutdown().is_ok());
-    let Err(refused) = processor.on_end(span(alloc, 5, 1)?) else {
+    let Err(refused) = processor.on_end(span_data(alloc, 5, 1)?) else {
         return Err(Fail::from("taken"));
     };
     let back = refused.span.ok_or("no span comes back")?;

@@ -1,4 +1,4 @@
-//! Which traces a ratio samples, and how it is printed.
+//! The traces that a ratio samples, and its printed text.
 use opentelemetry::Context;
 use opentelemetry::trace::{SpanKind, TraceId};
 use otel_sdk::trace::{Sampler, SamplingDecision, ShouldSample};
@@ -8,7 +8,7 @@ use std::test::Fail;
 /// The high half of the trace ids, which doesn't count.
 const HIGH: u128 = 0xffff_ffff_ffff_ffff_0000_0000_0000_0000;
 
-/// Whether a ratio samples the trace of this low half, without a parent.
+/// Whether a ratio samples the trace with this low half, without a parent.
 fn samples(alloc: Global, ratio: f64, low: u64) -> Result<bool, AllocError> {
     let sampler = Sampler::TraceIdRatioBased(ratio);
     let trace_id = TraceId::from(HIGH + low as u128);
@@ -18,7 +18,7 @@ fn samples(alloc: Global, ratio: f64, low: u64) -> Result<bool, AllocError> {
     Ok(answer.decision == SamplingDecision::RecordAndSample)
 }
 
-/// 2 ^ -63, 2 ^ -64, the least double above 0, infinity and NaN.
+/// 2 ^ -63, 2 ^ -64, the smallest double above 0, infinity and NaN.
 const LEAST: f64 = 1.0842021724855044e-19;
 
 const TOO_SMALL: f64 = 5.421010862427522e-20;
@@ -55,7 +55,7 @@ fn a_ratio_samples_the_traces_below_its_bound(rt: HostRuntime) -> Result<(), Fai
     Ok(())
 }
 
-/// Rising ratios of which each samples the trace whose id gives 9223372036854775.
+/// Increasing ratios, each of which samples the trace with the number 9223372036854775.
 const GREATER: &[f64] = &[0.001, 0.1, 0.5, 1.0];
 
 #[test]

@@ -13,6 +13,7 @@ use otel_sdk::trace::{
 };
 use std::alloc::Global;
 use std::test::Fail;
+use test_support::span_data;
 
 /// A context with a remote parent of the trace 7 with these flags.
 fn under(alloc: Global, flags: u8) -> Result<Context, Fail> {
@@ -280,7 +281,7 @@ fn a_span_under_the_current_context_is_a_child_of_its_span(rt: HostRuntime) -> R
 #[test]
 fn a_live_span_is_changed_until_its_end(rt: HostRuntime) -> Result<(), Fail> {
     let alloc = rt.alloc();
-    let data = crate::processor::span(alloc, 5, 1)?;
+    let data = span_data(alloc, 5, 1)?;
     let span = SdkSpan::new(alloc, data, SpanLimits::default())?;
     let mut live = LiveSpans::new(alloc);
     let Ok(number) = live.start(span) else {

@@ -1,4 +1,4 @@
-//! What samplers answer under each kind of parent, and how they are described.
+//! The answers of samplers under each kind of parent, and their descriptions.
 use opentelemetry::Context;
 use opentelemetry::trace::{SpanContext, SpanId, SpanKind, TraceFlags, TraceId, TraceState};
 use otel_sdk::trace::{ParentBased, Sampler, SamplingDecision, SamplingResult, ShouldSample};
@@ -19,7 +19,8 @@ const LOCAL_SAMPLED: Parent = (1, 0x01, false);
 
 const LOCAL: Parent = (1, 0x00, false);
 
-/// The answer of a sampler under a parent with the trace state `a=1,b=2`, of the trace of that id.
+/// The answer of a sampler under a parent with the trace state `a=1,b=2`, for the trace with this
+/// id.
 fn asked<S: ShouldSample>(
     alloc: Global,
     sampler: &S,
@@ -48,8 +49,8 @@ fn samples<S: ShouldSample>(alloc: Global, sampler: &S, parent: Parent) -> Resul
     Ok(answer.decision == SamplingDecision::RecordAndSample)
 }
 
-/// The parents, and whether `ParentBased` samples a span under them where its root sampler is
-/// `AlwaysOff` and where it is `AlwaysOn`.
+/// The parents, and whether `ParentBased` samples a span under them if its root sampler is
+/// `AlwaysOff`, and if it is `AlwaysOn`.
 const PARENTS: &[(Parent, bool, bool)] = &[
     (NONE, false, true),
     (REMOTE_SAMPLED, true, true),

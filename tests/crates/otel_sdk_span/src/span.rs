@@ -1,12 +1,12 @@
 //! That spans keep what their limits let them, with worked cases.
 use opentelemetry::trace::{
-    Event, Link, Span, SpanContext, SpanId, SpanKind, Status, TraceFlags, TraceId, TraceState,
+    Event, Link, Span, SpanContext, SpanId, Status, TraceFlags, TraceId, TraceState,
 };
-use opentelemetry::{Array, InstrumentationScope, Key, KeyValue, StringValue, Value};
-use otel_sdk_span::{SdkSpan, SpanData, SpanEvents, SpanLimits, SpanLinks};
+use opentelemetry::{Array, Key, KeyValue, StringValue, Value};
+use otel_sdk_span::{SdkSpan, SpanData, SpanLimits};
 use std::alloc::{AllocError, Global};
-use std::rc::Rc;
 use std::test::Fail;
+use test_support::span_data;
 
 fn attribute(key: &'static str, value: i64) -> KeyValue {
     KeyValue::new(Key::from(key), Value::from(value))
@@ -32,28 +32,12 @@ fn context(span_id: u64) -> SpanContext {
 
 /// What a span starts with that has these attributes, and no event and no link.
 fn given(alloc: Global, held: &[(&'static str, i64)]) -> Result<SpanData, AllocError> {
-    let scope = InstrumentationScope::builder(StringValue::from("lib")).build(alloc)?;
-    Ok(SpanData {
-        span_context: context(9),
-        parent_span_id: SpanId::INVALID,
-        parent_span_is_remote: false,
-        span_kind: SpanKind::Internal,
-        name: StringValue::from("work"),
-        start_time: 50,
-        end_time: 50,
-        attributes: attributes(alloc, held)?,
-        dropped_attributes_count: 0,
-        events: SpanEvents {
-            events: Vec::new(alloc),
-            dropped_count: 0,
-        },
-        links: SpanLinks {
-            links: Vec::new(alloc),
-            dropped_count: 0,
-        },
-        status: Status::Unset,
-        instrumentation_scope: Rc::new(alloc, scope)?,
-    })
+    let mut given = span_data(alloc, 9, 1)?;
+    given.span_context = context(9);
+    given.start_time = 50;
+    given.end_time = 50;
+    given.attributes = attributes(alloc, held)?;
+    Ok(given)
 }
 
 fn span(

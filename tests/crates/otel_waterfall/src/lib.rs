@@ -1,7 +1,7 @@
 //! What no clause says of pictures of spans: the order of the rows, whole pictures, and writers that fail.
 #![tactic(auto)]
 
-// Depends on: otel_sdk
+// Depends on: otel_sdk test_support
 // Tests also: otel_drawing
 
 mod durations;

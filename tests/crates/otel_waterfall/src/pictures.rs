@@ -1,13 +1,11 @@
 //! Pictures of batches.
-use opentelemetry::trace::{
-    Event, SpanContext, SpanId, SpanKind, Status, TraceFlags, TraceId, TraceState,
-};
-use opentelemetry::{InstrumentationScope, StringValue};
-use otel_sdk::trace::{SpanData, SpanEvents, SpanExporter, SpanLinks};
+use opentelemetry::StringValue;
+use opentelemetry::trace::{Event, SpanContext, SpanId, Status, TraceFlags, TraceId, TraceState};
+use otel_sdk::trace::{SpanData, SpanExporter};
 use otel_waterfall::WaterfallExporter;
 use std::alloc::{AllocError, Global};
-use std::rc::Rc;
 use std::test::Fail;
+use test_support::span_data;
 
 /// A span of the trace, with its id, its parent's, its name, start and end.
 pub fn span(
@@ -18,34 +16,19 @@ pub fn span(
     start: u64,
     end: u64,
 ) -> Result<SpanData, AllocError> {
-    let scope = InstrumentationScope::builder(StringValue::from("tests")).build(alloc)?;
-    Ok(SpanData {
-        span_context: SpanContext::new(
-            TraceId::from(trace),
-            SpanId::from(ids.0),
-            TraceFlags::new(3),
-            false,
-            TraceState::NONE,
-        ),
-        parent_span_id: SpanId::from(ids.1),
-        parent_span_is_remote: false,
-        span_kind: SpanKind::Internal,
-        name: StringValue::from(name),
-        start_time: start,
-        end_time: end,
-        attributes: Vec::new(alloc),
-        dropped_attributes_count: 0,
-        events: SpanEvents {
-            events: Vec::new(alloc),
-            dropped_count: 0,
-        },
-        links: SpanLinks {
-            links: Vec::new(alloc),
-            dropped_count: 0,
-        },
-        status: Status::Unset,
-        instrumentation_scope: Rc::new(alloc, scope)?,
-    })
+    let mut span = span_data(alloc, ids.0, 3)?;
+    span.span_context = SpanContext::new(
+        TraceId::from(trace),
+        SpanId::from(ids.0),
+        TraceFlags::new(3),
+        false,
+        TraceState::NONE,
+    );
+    span.parent_span_id = SpanId::from(ids.1);
+    span.name = StringValue::from(name);
+    span.start_time = start;
+    span.end_time = end;
+    Ok(span)
 }
 
 const TRACE: u128 = 0x4bf92f3577b34da6a3ce929d0e0e4736;

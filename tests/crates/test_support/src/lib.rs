@@ -1,15 +1,17 @@
 //! What the tests of several crates share: contexts with a name, full stacks, spans that record,
-//! baggages and maps of texts.
+//! ended spans of the SDK, baggages and maps of texts.
 #![tactic(auto)]
 
-// Depends on: otel_ids otel_base otel_context opentelemetry otel_recording
+// Depends on: otel_ids otel_base otel_context opentelemetry otel_recording otel_sdk_base otel_sdk_span
 
 mod carriers;
 mod contexts;
+mod sdk;
 mod spans;
 
 pub use carriers::{held, map_of};
 pub use contexts::{
     Member, POSITIONS, assert_attached, baggage_of, filled, name_of, named, text_of,
 };
+pub use sdk::span_data;
 pub use spans::{LAST_NUMBER, NUMBERS, remote_span_context, span, span_context, tracer};

@@ -1,12 +1,12 @@
-//! Attaches to stacks, and the room that they take.
+//! Attaches to stacks, and their room.
 use crate::lines::Lines;
 use otel_context::{Context, ContextGuard, ContextStack};
 use std::alloc::{AllocError, Global};
 
-/// How many attachments a new stack has room for.
+/// The number of attachments for which a new stack has room.
 const INITIAL_ROOM: u16 = 8;
 
-/// So many attachments that a stack has to take room for them.
+/// A number of attachments for which a stack has to allocate.
 const MANY: u16 = 100;
 
 pub fn play<R: Print>(alloc: Global, lines: &Lines<'_, R>) {
@@ -20,7 +20,7 @@ pub fn play<R: Print>(alloc: Global, lines: &Lines<'_, R>) {
     }
 }
 
-/// What is asked of a new stack.
+/// A call on a new stack.
 #[derive(Clone, Copy)]
 enum Call {
     FirstRoom,
@@ -31,7 +31,7 @@ enum Call {
     Enter,
 }
 
-/// The scenarios, each of which begins with a new stack and a suppressed context.
+/// The scenarios, each of which starts with a new stack and a suppressed context.
 const CALLS: [(&str, Call); 6] = [
     ("stack-first-room", Call::FirstRoom),
     ("stack-push", Call::Push),
@@ -45,7 +45,7 @@ fn suppressed(alloc: Global) -> Result<Context, AllocError> {
     Context::new().with_telemetry_suppressed(alloc)
 }
 
-/// Makes that call of a new stack, where contexts of its own are needed, with a suppressed one.
+/// Makes this call on a new stack, with a suppressed context if the call needs one.
 fn with_suppressed<R: Print>(
     alloc: Global,
     lines: &Lines<'_, R>,
@@ -89,14 +89,14 @@ fn new<R: Print>(alloc: Global, lines: &Lines<'_, R>) {
     }
 }
 
-/// After a stack is made eight attaches take no memory.
+/// After a stack is made, eight attaches don't allocate.
 fn first_room<R: Print>(lines: &Lines<'_, R>, stack: &mut ContextStack) {
     for _ in 0..INITIAL_ROOM {
         lines.free_of("ContextStack::push", stack.push(Context::new()));
     }
 }
 
-/// What differs from the current context: the suppressed one, or the empty one.
+/// A context that differs from the current one: the suppressed one, or the empty one.
 fn other(stack: &ContextStack, suppressed: &Context) -> Result<Context, AllocError> {
     if stack.is_current_telemetry_suppressed() {
         Ok(Context::new())
@@ -105,7 +105,8 @@ fn other(stack: &ContextStack, suppressed: &Context) -> Result<Context, AllocErr
     }
 }
 
-/// Whether that position is the newest, and its context, which is current, is suppressed or isn't.
+/// Whether this position is the newest, and whether its context, which is current, is suppressed as
+/// expected.
 fn stands(stack: &ContextStack, newest: u16, is_suppressed: bool) -> bool {
     stack.newest_position() == newest && stack.is_current_telemetry_suppressed() == is_suppressed
 }
@@ -115,8 +116,8 @@ fn push_other(stack: &mut ContextStack, suppressed: &Context) -> Result<u16, All
     stack.push(context)
 }
 
-/// Pushes contexts, every other one suppressed, until a push fails or so many are attached.
-/// Returns how many are, and what the last push returned.
+/// Pushes contexts, every other one suppressed, until a push fails or `count` are attached. Returns
+/// the number of attached contexts, and the result of the last push.
 fn filled(stack: &mut ContextStack, suppressed: &Context) -> (u16, Result<u16, AllocError>) {
     for count in 0..MANY {
         match push_other(stack, suppressed) {
@@ -127,8 +128,8 @@ fn filled(stack: &mut ContextStack, suppressed: &Context) -> (u16, Result<u16, A
     (MANY, Ok(MANY))
 }
 
-/// Takes off all attachments, the newest first. Returns whether there were so many, every
-/// other one suppressed.
+/// Removes all attachments, the newest first. Returns whether there were `count`, every other one
+/// suppressed.
 fn unwound(stack: &mut ContextStack, count: u16) -> bool {
     for taken in 0..count {
         let position = count - taken;
@@ -139,15 +140,14 @@ fn unwound(stack: &mut ContextStack, count: u16) -> bool {
     stands(stack, 0, false)
 }
 
-/// Pushes until the stack has no room left and can't get any: what was attached before is all there
-/// then.
+/// Pushes until the stack has no room left and can't get any. The earlier attachments must remain.
 fn push<R: Print>(lines: &Lines<'_, R>, stack: &mut ContextStack, suppressed: &Context) {
     let (count, last) = filled(stack, suppressed);
     lines.answer_of(last);
     lines.due(unwound(stack, count));
 }
 
-/// Takes off so many attachments, the oldest first.
+/// Removes this many attachments, the oldest first.
 fn emptied(stack: &mut ContextStack, count: u16) -> bool {
     for below in 0..count {
         if stack.pop_id(below + 1).is_none() {
@@ -157,7 +157,8 @@ fn emptied(stack: &mut ContextStack, count: u16) -> bool {
     stands(stack, 0, false)
 }
 
-/// A stack keeps the room that it took: filled, emptied and filled again it takes no memory again.
+/// A stack keeps the room that it allocated: if it is filled, emptied and filled again, it doesn't
+/// allocate again.
 fn push_again<R: Print>(
     lines: &Lines<'_, R>,
     stack: &mut ContextStack,
@@ -172,12 +173,12 @@ fn push_again<R: Print>(
     Ok(())
 }
 
-/// How a context is attached.
+/// A way to attach a context.
 #[derive(Drop)]
 enum Way<'a> {
-    /// The empty one, or where that is current this one, which is suppressed.
+    /// The empty one or, if that is current, this one, which is suppressed.
     Given(&'a Context),
-    /// By a scope in which telemetry is suppressed.
+    /// With a scope in which telemetry is suppressed.
     Suppressed,
 }
 
@@ -201,9 +202,9 @@ impl Way<'_> {
     }
 }
 
-/// Attaches that many contexts one within another, until an attach fails, and detaches them from
-/// the inside out. Returns the newest position, or the error, and whether the stack was as it
-/// should be after each call.
+/// Attaches this many contexts one within another, until an attach fails, and detaches them from
+/// the inside out. Returns the newest position, or the error, and whether the stack was as expected
+/// after each call.
 fn nested(stack: &mut ContextStack, way: &Way<'_>, depth: u16) -> (Result<u16, AllocError>, bool) {
     let newest = stack.newest_position();
     if depth == 0 {
@@ -229,7 +230,8 @@ fn attach<R: Print>(lines: &Lines<'_, R>, stack: &mut ContextStack, way: &Way<'_
     lines.due(is_due);
 }
 
-/// Attaches and detaches many contexts, and does so again: as many attaches take no memory again.
+/// Attaches and detaches many contexts, twice: the second time, the same number of attaches doesn't
+/// allocate.
 fn attach_again<R: Print>(
     lines: &Lines<'_, R>,
     stack: &mut ContextStack,

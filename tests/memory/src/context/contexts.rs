@@ -15,7 +15,7 @@ pub fn play<R: Print>(alloc: Global, lines: &Lines<'_, R>) {
     }
 }
 
-/// What is asked of a context.
+/// A call on a context.
 #[derive(Clone, Copy)]
 enum Call {
     WithValue,
@@ -27,7 +27,7 @@ enum Call {
     Looks,
 }
 
-/// The scenarios, each of which begins with a context that has every part.
+/// The scenarios, each of which starts with a context that has every part.
 const CALLS: [(&str, Call); 7] = [
     ("context-with-value", Call::WithValue),
     ("context-with-baggage", Call::WithBaggage),
@@ -44,7 +44,7 @@ const CALLS: [(&str, Call); 7] = [
     ("context-looks", Call::Looks),
 ];
 
-/// A baggage of that one pair.
+/// A baggage with this one pair.
 pub fn baggage(
     alloc: Global,
     key: &'static str,
@@ -61,7 +61,7 @@ pub fn remote(id: u64, state: TraceState) -> SpanContext {
     SpanContext::new(trace_id, SpanId::from(id), TraceFlags::SAMPLED, true, state)
 }
 
-/// A remote span context with the number as both ids, and a trace state that takes memory.
+/// A remote span context with the number as both ids, and a trace state that allocates.
 fn span_context(alloc: Global, id: u64) -> Result<SpanContext, AllocError> {
     let Ok(state) = TraceState::from_str(alloc, "v=1") else {
         return Err(AllocError);
@@ -88,7 +88,7 @@ pub fn full(alloc: Global) -> Result<Context, AllocError> {
     context.with_value(alloc, Key::from("a"), AnyValue::Int(1))
 }
 
-/// Makes that call of a context that has every part.
+/// Makes this call on a context that has every part.
 fn of_full<R: Print>(alloc: Global, lines: &Lines<'_, R>, call: Call) -> Result<(), AllocError> {
     let context = full(alloc)?;
     called(alloc, lines, &context, call)
@@ -165,7 +165,7 @@ fn with_remote_span_context<R: Print>(
     Ok(())
 }
 
-/// Clones of a context and of a span context take no memory.
+/// Clones of a context and of a span context don't allocate.
 fn copy<R: Print>(lines: &Lines<'_, R>, context: &Context) {
     free_shown(lines, "Context::clone", context.clone());
     cloned(lines, context.span_context());

@@ -17,7 +17,7 @@ pub fn play<R: Print>(alloc: Global, lines: &Lines<'_, R>) {
 /// The last position of a stack.
 const LAST: u16 = 65534;
 
-/// What is asked of a stack.
+/// A call on a stack.
 #[derive(Clone, Copy)]
 enum Call {
     CurrentWithValue,
@@ -27,7 +27,7 @@ enum Call {
     Full,
 }
 
-/// The scenarios, each of which begins with a stack whose one attachment has every part.
+/// The scenarios, each of which starts with a stack whose one attachment has every part.
 const CALLS: [(&str, Call); 5] = [
     ("stack-current-with-value", Call::CurrentWithValue),
     ("stack-current-with-baggage", Call::CurrentWithBaggage),
@@ -43,7 +43,7 @@ pub fn stack_of_full(alloc: Global) -> Result<ContextStack, AllocError> {
     Ok(stack)
 }
 
-/// Makes that call of such a stack.
+/// Makes this call on such a stack.
 fn of_full<R: Print>(alloc: Global, lines: &Lines<'_, R>, call: Call) -> Result<(), AllocError> {
     let mut stack = stack_of_full(alloc)?;
     called(alloc, lines, &mut stack, call)
@@ -105,7 +105,7 @@ fn looks<R: Print>(lines: &Lines<'_, R>, stack: &mut ContextStack) {
     lines.free("ContextStack::map_current", &has_span(stack));
 }
 
-/// A guard removes what is live at its position in the stack that it is given to.
+/// A guard removes the attachment at its position in the stack to which it is passed.
 fn guard_of_another<R: Print>(
     alloc: Global,
     lines: &Lines<'_, R>,
@@ -116,7 +116,7 @@ fn guard_of_another<R: Print>(
     Ok(())
 }
 
-/// Attaches to the first stack, and gives the guard to the other one.
+/// Attaches to the first stack, and passes the guard to the other one.
 fn given_to<R: Print>(lines: &Lines<'_, R>, stack: &mut ContextStack, other: &mut ContextStack) {
     match stack.attach(Context::new()) {
         Ok(guard) => {

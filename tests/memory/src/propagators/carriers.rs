@@ -4,7 +4,7 @@ use opentelemetry::propagation::{Extractor, Injector, PropagationError};
 use std::alloc::{AllocError, Global};
 use std::collections::HashMap;
 
-/// The key of the text that a carrier begins with.
+/// The key of the text that a carrier has at the start.
 pub const KEPT: &str = "kept";
 
 pub fn play<R: Print>(alloc: Global, lines: &Lines<'_, R>) {
@@ -19,7 +19,7 @@ pub fn play<R: Print>(alloc: Global, lines: &Lines<'_, R>) {
     }
 }
 
-/// A carrier of one text.
+/// A carrier with one text.
 pub fn carrier(alloc: Global) -> Result<HashMap<String, String>, AllocError> {
     let mut carrier: HashMap<String, String> = HashMap::new(alloc);
     let value = String::from_str(alloc, "0")?;
@@ -28,7 +28,7 @@ pub fn carrier(alloc: Global) -> Result<HashMap<String, String>, AllocError> {
     Ok(carrier)
 }
 
-/// Whether the carrier holds this value under the key.
+/// Whether the carrier has this value for the key.
 pub fn holds(carrier: &HashMap<String, String>, key: &str, value: &str) -> bool {
     match carrier.get(key) {
         Some(held) => held.as_str() == value,
@@ -36,12 +36,12 @@ pub fn holds(carrier: &HashMap<String, String>, key: &str, value: &str) -> bool 
     }
 }
 
-/// Whether the first so many of `kept` and `x` are there with their values, and nothing else.
+/// Whether the first `count` of `kept` and `x` are present with their values, and nothing else.
 fn is_beginning(carrier: &HashMap<String, String>, len: usize) -> bool {
     carrier.len() == len && holds(carrier, KEPT, "0") && (len < 2 || holds(carrier, "x", "1"))
 }
 
-/// Whether the carrier holds the texts under a beginning of these keys, and nothing else.
+/// Whether the carrier has texts for a prefix of these keys, and nothing else.
 pub fn holds_beginning(carrier: &HashMap<String, String>, keys: &[&str]) -> bool {
     for place in 0..keys.len() {
         if carrier.get(keys[place]).is_some() != (place < carrier.len()) {
@@ -51,8 +51,8 @@ pub fn holds_beginning(carrier: &HashMap<String, String>, keys: &[&str]) -> bool
     true
 }
 
-/// Prints what an injection returned. The carrier holds a text under each key then, or after an
-/// error under a beginning of them, of which the first is its own.
+/// Prints the result of an injection. The carrier then has a text for each key or, after an error,
+/// for a prefix of them, which starts with its own.
 pub fn injected<R: Print>(
     lines: &Lines<'_, R>,
     answer: Result<(), PropagationError>,
@@ -82,7 +82,7 @@ fn set_in<R: Print>(
     Ok(())
 }
 
-/// A hint takes memory or none: what the carrier holds stays.
+/// A hint may allocate. The texts of the carrier stay.
 fn reserve<R: Print>(alloc: Global, lines: &Lines<'_, R>) -> Result<(), AllocError> {
     let mut carrier = carrier(alloc)?;
     Injector::reserve(&mut carrier, 1000);

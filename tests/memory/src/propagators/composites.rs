@@ -8,10 +8,10 @@ use opentelemetry::trace::TraceState;
 use otel_propagators::{BaggagePropagator, TraceContextPropagator};
 use std::alloc::{AllocError, Global};
 
-/// The keys of a carrier that has a text of its own, and of the texts that both propagators set.
+/// The keys of a carrier with a text of its own, and of the texts that both propagators set.
 const KEYS: [&str; 4] = ["kept", "traceparent", "tracestate", "baggage"];
 
-/// What is asked of a composite or of one propagator.
+/// A call on a composite or on one propagator.
 #[derive(Clone, Copy)]
 enum Call {
     InjectContext,
@@ -20,7 +20,7 @@ enum Call {
     Extract,
 }
 
-/// What is asked of the members of a composite.
+/// A call on the members of a composite.
 #[derive(Clone, Copy)]
 enum Whole {
     New,
@@ -64,7 +64,7 @@ pub fn play<R: Print>(alloc: Global, lines: &Lines<'_, R>) {
     }
 }
 
-/// Prints how many fields the composite has, or the error.
+/// Prints the number of fields of the composite, or the error.
 fn made<R: Print>(lines: &Lines<'_, R>, answer: Result<TextMapCompositePropagator, AllocError>) {
     match answer {
         Ok(composite) => lines.answer(&composite.fields().count()),
@@ -72,8 +72,8 @@ fn made<R: Print>(lines: &Lines<'_, R>, answer: Result<TextMapCompositePropagato
     }
 }
 
-/// Makes the propagators of the W3C headers, and that call of a composite of them. The names of
-/// their fields take memory.
+/// Makes the propagators of the W3C headers, and this call on a composite of them. The names of
+/// their fields are allocated.
 fn of_two<R: Print>(alloc: Global, lines: &Lines<'_, R>, call: Whole) -> Result<(), AllocError> {
     let mut members: Vec<Box<dyn TextMapPropagator>> = Vec::new(alloc);
     members.push(Box::new(alloc, TraceContextPropagator::new(alloc)?)?)?;
@@ -88,7 +88,7 @@ fn of_two<R: Print>(alloc: Global, lines: &Lines<'_, R>, call: Whole) -> Result<
     }
 }
 
-/// Joins a composite without members, which has no room for one, with one of these.
+/// Joins a composite that has no members, and no room for one, with one of these.
 fn join<R: Print>(
     alloc: Global,
     lines: &Lines<'_, R>,
@@ -100,7 +100,7 @@ fn join<R: Print>(
     Ok(())
 }
 
-/// Prints whether the context that an extraction gave has the span of the one that it began with.
+/// Prints whether the extracted context has the span of the given one.
 fn extracted<R: Print>(lines: &Lines<'_, R>, answer: Result<Context, PropagationError>) {
     match answer {
         Ok(context) => lines.answer(&context.has_active_span()),
@@ -187,7 +187,7 @@ fn asked_of_one<R: Print>(
     Ok(())
 }
 
-/// Without members nothing takes memory.
+/// Without members, nothing allocates.
 fn without_members<R: Print>(alloc: Global, lines: &Lines<'_, R>) -> Result<(), AllocError> {
     let mut carrier = carrier(alloc)?;
     let composite = TextMapCompositePropagator::new(alloc, Vec::new(alloc))?;

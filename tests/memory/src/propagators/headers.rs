@@ -12,7 +12,7 @@ use otel_propagators::{BaggagePropagator, TraceContextPropagator};
 use std::alloc::{AllocError, Global};
 use std::collections::HashMap;
 
-/// The fields of a carrier that has a text of its own, and those that the propagators set.
+/// The fields of a carrier with a text of its own, and the fields that the propagators set.
 pub const TRACE_KEYS: [&str; 3] = ["kept", "traceparent", "tracestate"];
 
 const BAGGAGE_KEYS: [&str; 2] = ["kept", "baggage"];
@@ -73,7 +73,7 @@ fn inject<R: Print>(
     Ok(())
 }
 
-/// A context whose remote span has the trace state.
+/// A context whose remote span has this trace state.
 pub fn with_remote_span(alloc: Global, state: TraceState) -> Result<Context, AllocError> {
     Context::new().with_remote_span_context(alloc, remote(1, state))
 }
@@ -100,7 +100,7 @@ fn inject_baggage<R: Print>(alloc: Global, lines: &Lines<'_, R>) -> Result<(), A
     inject(alloc, lines, &propagator, &context, &BAGGAGE_KEYS)
 }
 
-/// A carrier of these texts.
+/// A carrier with these texts.
 fn carrier_of(
     alloc: Global,
     texts: &[(&str, &str)],

@@ -1,4 +1,4 @@
-//! Calls on carriers over the headers of HTTP.
+//! Calls on HTTP headers as carriers.
 use crate::lines::Lines;
 use http_header::{HeaderMap, HeaderName, HeaderValue};
 use opentelemetry::propagation::{Extractor, Injector};
@@ -50,7 +50,7 @@ fn looks<R: Print>(alloc: Global, lines: &Lines<'_, R>) -> Result<(), AllocError
     Ok(())
 }
 
-/// Whether the headers have so many names: both lines of the trace state, then `x-id`.
+/// Whether the headers have this many names: both lines of the trace state, then `x-id`.
 fn is_due(headers: &HeaderMap, names: usize) -> bool {
     let has_id = match headers.get("x-id") {
         Some(id) => id.as_bytes() == b"1".as_slice(),

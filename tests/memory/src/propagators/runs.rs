@@ -1,4 +1,4 @@
-//! Runs of attaches and detaches, and the carriers that they are lent.
+//! Runs of attaches and detaches, and their carriers.
 use crate::context::contexts::remote;
 use crate::lines::Lines;
 use crate::propagators::carriers::{KEPT, carrier, holds, holds_beginning};
@@ -10,13 +10,13 @@ use otel_propagators::{BaggagePropagator, TraceContextPropagator};
 use std::alloc::{AllocError, Global};
 use std::collections::HashMap;
 
-/// The texts that a carrier holds after each pair is set, in this order.
+/// The keys of a carrier's texts after each pair is set, in this order.
 const KEYS: [&str; 4] = [KEPT, "traceparent", "tracestate", "baggage"];
 
-/// A stack has room for so many attachments when it is made.
+/// The number of attachments for which a new stack has room.
 const ROOM: usize = 8;
 
-/// The `traceparent` of each attach of a run, whose number from 1 is both ids of its span.
+/// The `traceparent` of each attach of a run, whose number, from 1, is both ids of its span.
 const PARENTS: [&str; 12] = [
     "00-00000000000000000000000000000001-0000000000000001-01",
     "00-00000000000000000000000000000002-0000000000000002-01",
@@ -41,7 +41,7 @@ pub fn play<R: Print>(alloc: Global, lines: &Lines<'_, R>) {
     }
 }
 
-/// Runs so many attaches and then these detaches, with two members and a carrier of one text.
+/// Runs this many attaches and then these detaches, with two members and a carrier with one text.
 fn ran<R: Print>(
     alloc: Global,
     lines: &Lines<'_, R>,
@@ -67,8 +67,8 @@ fn ran<R: Print>(
     Ok(())
 }
 
-/// Prints what the run returned, whether all attaches found memory, what the injection returned, and
-/// whether all is as it should be: after an error of the run the carrier is as it was before.
+/// Prints the result of the run, whether all attaches succeeded, the result of the injection, and
+/// whether everything is as expected: after an error of the run, the carrier is unchanged.
 fn told<R: Print>(
     lines: &Lines<'_, R>,
     answer: Result<RunReport, AllocError>,
@@ -92,7 +92,7 @@ fn told<R: Print>(
     }
 }
 
-/// The error of an attach that found no memory, if there is one.
+/// The error of an attach that was out of memory, if there is one.
 fn found_memory(outcomes: &[AttachOutcome]) -> Result<(), AllocError> {
     for outcome in outcomes {
         if *outcome == AttachOutcome::NoMemory {
@@ -102,8 +102,8 @@ fn found_memory(outcomes: &[AttachOutcome]) -> Result<(), AllocError> {
     Ok(())
 }
 
-/// The number of the attach whose context has to be current, if the outcomes may be these: each attach
-/// has the next position, or found no memory after the stack was full for the first time.
+/// The number of the attach whose context must be current, if the outcomes are possible: each
+/// attach has the next position, or is out of memory after the stack was full for the first time.
 fn current_of(outcomes: &[AttachOutcome], detaches: &[usize]) -> Option<usize> {
     let mut current = None;
     let mut position = 0;
@@ -120,8 +120,8 @@ fn current_of(outcomes: &[AttachOutcome], detaches: &[usize]) -> Option<usize> {
     current
 }
 
-/// Whether the context of the attach of this number is current and was injected, or after an error a
-/// beginning of its pairs.
+/// Whether the context of the attach with this number is current and was injected or, after an
+/// error, a prefix of its pairs.
 fn is_due(report: &RunReport, number: usize, carrier: &HashMap<String, String>) -> bool {
     let is_as_answered = match report.injected {
         Ok(()) => carrier.len() == KEYS.len(),

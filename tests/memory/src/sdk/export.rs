@@ -1,18 +1,15 @@
 //! Processors and exporters of spans.
 use crate::lines::Lines;
-use opentelemetry::trace::{
-    Span, SpanContext, SpanId, SpanKind, Spans, Status, TraceFlags, TraceId, TraceState,
-};
-use opentelemetry::{InstrumentationScope, StringValue};
+use crate::sdk::spans::given;
+use opentelemetry::trace::{Span, SpanContext, SpanId, Spans, TraceFlags, TraceId, TraceState};
 use otel_sdk::error::OTelSdkResult;
 use otel_sdk::trace::{
     BatchSpanProcessor, EndRefused, InMemorySpanExporter, SdkSpan, SimpleSpanProcessor, SpanData,
-    SpanEvents, SpanExporter, SpanLimits, SpanLinks, SpanProcessor,
+    SpanExporter, SpanLimits, SpanProcessor,
 };
 use otel_waterfall::WaterfallExporter;
 use std::alloc::{AllocError, Global};
 use std::io;
-use std::rc::Rc;
 
 pub fn play<R: Print>(alloc: Global, lines: &Lines<'_, R>) {
     if lines.begin("batch-processor-on-end") {
@@ -58,30 +55,12 @@ pub fn play<R: Print>(alloc: Global, lines: &Lines<'_, R>) {
 
 /// A sampled span that ended.
 pub fn span(alloc: Global) -> Result<SpanData, AllocError> {
-    let scope = InstrumentationScope::builder(StringValue::from("s")).build(alloc)?;
     let (trace_id, span_id) = (TraceId::from(1), SpanId::from(2));
     let state = TraceState::NONE;
-    Ok(SpanData {
-        span_context: SpanContext::new(trace_id, span_id, TraceFlags::SAMPLED, false, state),
-        parent_span_id: SpanId::INVALID,
-        parent_span_is_remote: false,
-        span_kind: SpanKind::Internal,
-        name: StringValue::from("work"),
-        start_time: 1,
-        end_time: 2,
-        attributes: Vec::new(alloc),
-        dropped_attributes_count: 0,
-        events: SpanEvents {
-            events: Vec::new(alloc),
-            dropped_count: 0,
-        },
-        links: SpanLinks {
-            links: Vec::new(alloc),
-            dropped_count: 0,
-        },
-        status: Status::Unset,
-        instrumentation_scope: Rc::new(alloc, scope)?,
-    })
+    let mut span = given(alloc, Vec::new(alloc))?;
+    span.span_context = SpanContext::new(trace_id, span_id, TraceFlags::SAMPLED, false, state);
+    span.end_time = 2;
+    Ok(span)
 }
 
 type Simple = SimpleSpanProcessor<InMemorySpanExporter>;
@@ -91,8 +70,8 @@ fn processor(alloc: Global) -> BatchSpanProcessor<InMemorySpanExporter> {
     BatchSpanProcessor::new(alloc, exporter, Default::default())
 }
 
-/// Prints the answer, and returns how many spans it leaves in the queue, if all accepted ones leave
-/// it: one that comes back isn't there.
+/// Prints the answer. Returns the number of spans left in the queue, if all accepted spans leave
+/// it: a returned span isn't in it.
 fn ended<R: Print>(lines: &Lines<'_, R>, answer: Result<(), EndRefused>, taken: usize) -> usize {
     match answer {
         Ok(()) => {

@@ -75,7 +75,7 @@ fn link(alloc: Global) -> Result<Link, AllocError> {
     Ok(Link::new(other, Vec::new(alloc), 0))
 }
 
-/// A span that failed, with an attribute, an event and a link.
+/// A failed span, with an attribute, an event and a link.
 fn full(alloc: Global) -> Result<SpanData, AllocError> {
     let mut span = span(alloc)?;
     let numbers = Array::from(vec![in alloc; 1]?);
@@ -97,7 +97,7 @@ fn export<R: Print>(alloc: Global, lines: &Lines<'_, R>) -> Result<(), AllocErro
     Ok(())
 }
 
-/// Calls whose writer fails: the text of the error takes memory.
+/// Calls whose writer fails: the text of the error is allocated.
 fn refusals<R: Print>(alloc: Global, lines: &Lines<'_, R>) -> Result<(), AllocError> {
     let batch = [span(alloc)?];
     let mut exporter = OtlpJsonSpanExporter::new(alloc, closed())?;

@@ -42,7 +42,7 @@ fn body(alloc: Global) -> Result<AnyValue, AllocError> {
     AnyValue::map(alloc, pairs)
 }
 
-/// A record of which everything is given.
+/// A record with every part.
 fn full(alloc: Global) -> Result<LogData, AllocError> {
     let mut record = SdkLogRecord::new(alloc);
     record.set_event_name("e");
@@ -70,7 +70,7 @@ fn export<R: Print>(alloc: Global, lines: &Lines<'_, R>) -> Result<(), AllocErro
     Ok(())
 }
 
-/// Calls whose writer fails: the text of the error takes memory.
+/// Calls whose writer fails: the text of the error is allocated.
 fn refusals<R: Print>(alloc: Global, lines: &Lines<'_, R>) -> Result<(), AllocError> {
     let batch = [full(alloc)?];
     let mut exporter = OtlpJsonLogExporter::new(alloc, closed())?;

@@ -124,7 +124,7 @@ fn logger_of_scope<R: Print>(rt: HostRuntime, lines: &Lines<'_, R>) -> Result<()
     Ok(())
 }
 
-/// How many records are queued.
+/// The number of queued records.
 fn queued(provider: &Provider) -> usize {
     match provider.processor() {
         Ok(processor) => processor.queued_records(),

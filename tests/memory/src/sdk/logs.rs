@@ -43,7 +43,7 @@ pub fn play<R: Print>(alloc: Global, lines: &Lines<'_, R>) {
     }
 }
 
-/// An exporter that keeps the sizes of the batches, or refuses them.
+/// An exporter that stores the sizes of the batches, or refuses them.
 #[derive(Drop)]
 struct Sizes {
     sizes: Vec<usize>,

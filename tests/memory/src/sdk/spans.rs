@@ -1,4 +1,4 @@
-//! Spans that keep to limits.
+//! Spans with limits.
 use crate::lines::Lines;
 use opentelemetry::trace::{Span, SpanContext, SpanId, SpanKind, Status};
 use opentelemetry::{InstrumentationScope, Key, KeyValue, StringValue, Value};
@@ -24,7 +24,7 @@ pub fn play<R: Print>(alloc: Global, lines: &Lines<'_, R>) {
     }
 }
 
-/// A text that is longer than a limit of one character.
+/// An attribute whose text is longer than a limit of one character.
 fn attribute() -> KeyValue {
     KeyValue::new(Key::from("k"), Value::from("long"))
 }
@@ -35,8 +35,8 @@ fn attributes(alloc: Global) -> Result<Vec<KeyValue>, AllocError> {
     Ok(attributes)
 }
 
-/// What a span starts with that has these attributes, and no event and no link.
-fn given(alloc: Global, attributes: Vec<KeyValue>) -> Result<SpanData, AllocError> {
+/// The initial data of a span with these attributes, without events and links.
+pub fn given(alloc: Global, attributes: Vec<KeyValue>) -> Result<SpanData, AllocError> {
     let scope = InstrumentationScope::builder(StringValue::from("lib")).build(alloc)?;
     Ok(SpanData {
         span_context: SpanContext::NONE,
@@ -73,7 +73,7 @@ fn span(alloc: Global) -> Result<SdkSpan, AllocError> {
     SdkSpan::new(alloc, given(alloc, Vec::new(alloc))?, limits())
 }
 
-/// How many attributes, events and links the span has.
+/// The number of attributes, events and links of the span.
 fn held(span: &SdkSpan) -> usize {
     match span.data() {
         Some(data) => { data.attributes.len() + data.events.events.len() + data.links.links.len() }

@@ -34,7 +34,7 @@ pub fn play<R: Print>(rt: HostRuntime, lines: &Lines<'_, R>) {
     }
 }
 
-/// A resource of one attribute.
+/// A resource with one attribute.
 fn resource(alloc: Global) -> Result<Resource, AllocError> {
     let attribute = KeyValue::new(Key::from("k"), Value::from("v"));
     Ok(

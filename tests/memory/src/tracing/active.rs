@@ -1,4 +1,4 @@
-//! Calls on a table of spans, and those that make its spans the active ones.
+//! Calls on a table of spans, and calls that make its spans active.
 use crate::context::contexts::remote;
 use crate::lines::Lines;
 use opentelemetry::context::{Context, ContextStack};
@@ -8,10 +8,10 @@ use opentelemetry::trace::{
 };
 use std::alloc::{AllocError, Global};
 
-/// So many spans that a table takes room for them more than once.
+/// A number of spans for which a table allocates more than once.
 const MANY: u64 = 40;
 
-/// How many attachments a stack has, as many as a new one has room for.
+/// The number of attachments of a stack, for which a new one has room.
 pub const ATTACHED: u16 = 8;
 
 pub fn play<R: Print>(alloc: Global, lines: &Lines<'_, R>) {
@@ -28,7 +28,7 @@ pub fn play<R: Print>(alloc: Global, lines: &Lines<'_, R>) {
     }
 }
 
-/// What is asked.
+/// A call.
 #[derive(Clone, Copy)]
 enum Call {
     WithSpan,
@@ -36,7 +36,7 @@ enum Call {
     MarkSpanAsActive,
 }
 
-/// The scenarios, each of which begins with a stack that has to ask for more room at the next
+/// The scenarios, each of which starts with a stack that has to request more room at the next
 /// attach.
 const CALLS: [(&str, Call); 3] = [
     ("context-with-span", Call::WithSpan),
@@ -44,7 +44,7 @@ const CALLS: [(&str, Call); 3] = [
     ("mark-span-as-active", Call::MarkSpanAsActive),
 ];
 
-/// A stack that has to ask for more room at the next attach. The current context has a remote span.
+/// A stack that has to request more room at the next attach. The current context has a remote span.
 pub fn stack(alloc: Global) -> Result<ContextStack, AllocError> {
     let mut stack = ContextStack::new(alloc)?;
     for _ in 1..ATTACHED {
@@ -54,7 +54,7 @@ pub fn stack(alloc: Global) -> Result<ContextStack, AllocError> {
     Ok(stack)
 }
 
-/// The error of a failed request; numbers never run out here.
+/// The error of a failed request. Numbers are never used up here.
 pub fn error_of(cause: SpanCause) -> Result<u64, AllocError> {
     match cause {
         SpanCause::Memory(error) => Err(error),
@@ -62,8 +62,9 @@ pub fn error_of(cause: SpanCause) -> Result<u64, AllocError> {
     }
 }
 
-/// Puts in numbers, as spans, each the number that it gets, until an insert fails or so many are
-/// there. Returns the number that came back, which is how many are there, and the error.
+/// Inserts numbers as spans, each equal to the number that it gets, until an insert fails or
+/// `count` are present. Returns the number in the error, which is the number of present spans, and
+/// the error.
 fn inserted(spans: &mut Spans<u64>) -> (u64, Result<u64, AllocError>) {
     for count in 0..MANY {
         if let Err(refused) = spans.insert(count) {
@@ -107,7 +108,7 @@ fn of_stack<R: Print>(alloc: Global, lines: &Lines<'_, R>, call: Call) -> Result
     Ok(())
 }
 
-/// Makes that call, detaches what it attached, and returns the span's number.
+/// Makes this call, detaches the attached context, and returns the span's number.
 fn put(
     alloc: Global,
     stack: &mut ContextStack,
@@ -134,8 +135,7 @@ fn put(
     }
 }
 
-/// Prints the number, or the error and whether the span that came back is the one that was handed
-/// in.
+/// Prints the number, or the error and whether the span in it is the one that was passed in.
 fn refused<R: Print>(lines: &Lines<'_, R>, answer: Result<u64, SpanRefused<NoopSpan>>) {
     match answer {
         Ok(number) => {

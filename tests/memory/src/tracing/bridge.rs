@@ -1,4 +1,4 @@
-//! Calls of the sink for the crate `log` that take memory.
+//! Calls of the sink for the crate `log` that allocate.
 use crate::lines::Lines;
 use log::kv::ToValue;
 use log::{Level, Log, Metadata, Record};
@@ -26,7 +26,7 @@ pub fn play<R: Print>(alloc: Global, lines: &Lines<'_, R>) {
     }
 }
 
-/// A bridge to a logger that wants errors only.
+/// A bridge to a logger that accepts only errors.
 fn bridge(alloc: Global) -> Result<OpenTelemetryLogBridge<RecordingLogger>, AllocError> {
     let scope = InstrumentationScope::builder(StringValue::from("app")).build(alloc)?;
     let logger = RecordingLogger::new(alloc, scope, Severity::Error);

@@ -8,7 +8,7 @@ use otel_recording::RecordingSpan;
 use std::alloc::{AllocError, Global};
 use std::cell::Cell;
 
-/// What is asked of a tracer.
+/// A call on a tracer.
 #[derive(Clone, Copy)]
 enum Call {
     InSpan,
@@ -17,7 +17,7 @@ enum Call {
     WithBuilderAndContext,
 }
 
-/// The scenarios, each of which begins with a stack that has to ask for more room at the next
+/// The scenarios, each of which starts with a stack that has to request more room at the next
 /// attach.
 const CALLS: [(&str, Call); 4] = [
     ("tracer-in-span", Call::InSpan),
@@ -93,8 +93,8 @@ fn ran(
     }
 }
 
-/// Prints the span's number, or the error and whether the span that came back, if one was built, is
-/// the one that was built.
+/// Prints the span's number, or the error and whether the span in it, if one was built, is the one
+/// that was built.
 fn refused<R: Print>(lines: &Lines<'_, R>, answer: Result<((), u64), StartError<RecordingSpan>>) {
     match answer {
         Ok((_, number)) => {

@@ -1,12 +1,11 @@
-//! Calls on a log record, a logger and a provider that take memory.
+//! Calls on a log record, a logger and a provider that allocate.
 use crate::lines::Lines;
 use opentelemetry::logs::{AnyValue, LogRecord, Logger, LoggerProvider, Severity};
 use opentelemetry::{InstrumentationScope, Key, StringValue};
 use std::alloc::{AllocError, Global};
 use std::marker::Model;
 
-/// A record that keeps the attributes that it is given, those of each call together, and nothing
-/// else.
+/// A record that stores only attributes, together with the other attributes of the same call.
 #[derive(Drop)]
 struct KeepingRecord {
     given: Vec<Vec<(Key, AnyValue)>>,
@@ -17,7 +16,7 @@ impl Model for KeepingRecord {
 
     ghost Value = { ℕ };
 
-    // How often it was given attributes.
+    // The number of calls that gave it attributes.
     ghost view = { λ r. length r.given.items };
 }
 
@@ -80,7 +79,7 @@ impl LogRecord for KeepingRecord {
     ghost may_be_untraced = { λ r trace_id span_id trace_flags. refl };
 }
 
-/// A logger that keeps the name of its scope, and takes memory for each record.
+/// A logger that stores the name of its scope, and allocates for each record.
 #[derive(Drop)]
 struct KeepingLogger {
     name: String,
@@ -105,7 +104,7 @@ impl Logger for KeepingLogger {
     }
 }
 
-/// A provider that takes memory for each logger.
+/// A provider that allocates for each logger.
 #[derive(Drop)]
 struct KeepingProvider;
 
@@ -124,7 +123,7 @@ impl LoggerProvider for KeepingProvider {
     }
 }
 
-/// Which call is made.
+/// A call.
 #[derive(Clone, Copy, PartialEq)]
 enum Call {
     AddAttribute,
@@ -170,7 +169,7 @@ fn make(
     }
 }
 
-/// Prints the answer, and whether the record keeps what it was given, or after an error nothing.
+/// Prints the answer, and whether the record has the given attributes or, after an error, none.
 fn of_record<R: Print>(alloc: Global, lines: &Lines<'_, R>, call: Call) -> Result<(), AllocError> {
     let attributes = attributes(alloc)?;
     let mut record = KeepingRecord {
@@ -194,7 +193,7 @@ fn create<R: Print>(alloc: Global, lines: &Lines<'_, R>) {
     }
 }
 
-/// Prints the name of the logger that a provider gave, or the error.
+/// Prints the name of the logger that a provider returned, or the error.
 fn give<R: Print>(lines: &Lines<'_, R>, given: Result<KeepingLogger, AllocError>) {
     match given {
         Ok(logger) => lines.answer(&logger.name),

@@ -1,4 +1,4 @@
-//! Calls on what does nothing. None of them takes memory.
+//! Calls on types that do nothing. None of them allocates.
 use crate::lines::Lines;
 use crate::tracing::spans::attribute;
 use opentelemetry::context::Context;

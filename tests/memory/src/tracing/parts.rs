@@ -1,4 +1,4 @@
-//! Copies of what spans are made of.
+//! Copies of the parts of spans.
 use crate::lines::Lines;
 use crate::values::scopes::attributes;
 use opentelemetry::StringValue;
@@ -20,7 +20,7 @@ pub fn play<R: Print>(alloc: Global, lines: &Lines<'_, R>) {
     }
 }
 
-/// An owned text, whose clone takes memory.
+/// An owned text, whose clone allocates.
 fn text(alloc: Global) -> Result<StringValue, AllocError> {
     let text = String::from_str(alloc, "t")?;
     Ok(StringValue::from(text))
@@ -54,7 +54,7 @@ fn link_clone<R: Print>(alloc: Global, lines: &Lines<'_, R>) -> Result<(), Alloc
     Ok(())
 }
 
-/// A builder of an owned name, with attributes.
+/// A builder with an owned name and attributes.
 fn builder(alloc: Global) -> Result<SpanBuilder, AllocError> {
     let attributes = attributes(alloc)?;
     Ok(SpanBuilder::from_name(text(alloc)?).with_attributes(attributes))

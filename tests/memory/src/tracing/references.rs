@@ -1,4 +1,4 @@
-//! Calls on the span of a context, which a table has or hasn't.
+//! Calls on the span of a context, which a table may have.
 use crate::lines::Lines;
 use crate::tracing::spans::{Call, attribute, hold_two, shown, span};
 use crate::values::scopes::attributes;
@@ -62,7 +62,7 @@ fn make<S: Span>(
     }
 }
 
-/// Makes that call on the span of the context.
+/// Makes this call on the span of the context.
 fn make_by<S: Span>(
     alloc: Global,
     context: &Context,
@@ -74,7 +74,7 @@ fn make_by<S: Span>(
     make(alloc, &mut span, attributes, call)
 }
 
-/// The context of a span that goes into the table.
+/// The context of a span that is inserted into the table.
 fn held(
     alloc: Global,
     spans: &mut Spans<RecordingSpan>,
@@ -99,7 +99,7 @@ fn of_held<R: Print>(alloc: Global, lines: &Lines<'_, R>, call: Call) -> Result<
     Ok(())
 }
 
-/// Each call on the span of a context that has none.
+/// Each call on the span of a context without a span.
 fn without_span<R: Print>(alloc: Global, lines: &Lines<'_, R>) {
     let mut spans: Spans<RecordingSpan> = Spans::new(alloc);
     let context = Context::new();

@@ -6,7 +6,7 @@ use opentelemetry::{Key, KeyValue, StringValue, Value};
 use otel_recording::RecordingSpan;
 use std::alloc::{AllocError, Global};
 
-/// Which call is made.
+/// A call.
 #[derive(Clone, Copy, PartialEq)]
 pub enum Call {
     AddEvent,
@@ -27,10 +27,10 @@ const CALLS: [(&str, Call); 6] = [
     ("span-set-attributes", Call::SetAttributes),
 ];
 
-/// So many attributes that a span takes room for them more than once.
+/// A number of attributes for which a span allocates more than once.
 const MANY: usize = 3;
 
-/// How many attributes the span has before the call, which leave room for two more.
+/// The number of attributes of the span before the call, which leaves room for two more.
 const BEFORE: usize = 2;
 
 pub fn play<R: Print>(alloc: Global, lines: &Lines<'_, R>) {
@@ -41,12 +41,12 @@ pub fn play<R: Print>(alloc: Global, lines: &Lines<'_, R>) {
     }
 }
 
-/// An attribute that takes no memory.
+/// An attribute that doesn't allocate.
 pub fn attribute() -> KeyValue {
     KeyValue::new(Key::from("k"), Value::Bool(true))
 }
 
-/// A span that keeps nothing yet.
+/// A span without any data.
 pub fn span(alloc: Global) -> RecordingSpan {
     RecordingSpan::new(alloc, SpanContext::NONE, StringValue::from("s"))
 }
@@ -78,7 +78,8 @@ pub fn hold_two(alloc: Global, span: &mut RecordingSpan, call: Call) -> Result<(
     Ok(())
 }
 
-/// Prints the answer, and whether the span keeps this alone, or after an error a beginning.
+/// Prints the answer, and whether the span has exactly this data or, after an error, a prefix of
+/// it.
 pub fn shown<R: Print>(
     lines: &Lines<'_, R>,
     answer: Result<(), AllocError>,

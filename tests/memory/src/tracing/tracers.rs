@@ -7,7 +7,7 @@ use opentelemetry::trace::{SpanBuilder, SpanContext, Tracer};
 use otel_recording::RecordingSpan;
 use std::alloc::{AllocError, Global};
 
-/// A tracer that takes memory for the name of each span.
+/// A tracer that allocates for the name of each span.
 #[derive(Drop)]
 pub struct NamingTracer;
 
@@ -27,7 +27,7 @@ impl Tracer for NamingTracer {
     }
 }
 
-/// What is asked of the tracer, or of a builder.
+/// A call on the tracer, or on a builder.
 #[derive(Clone, Copy)]
 enum Call {
     Start,
@@ -64,7 +64,7 @@ pub fn name() -> StringValue {
     StringValue::from("s")
 }
 
-/// A builder with that name.
+/// A builder with this name.
 pub fn builder() -> SpanBuilder {
     SpanBuilder::from_name(name())
 }

@@ -4,7 +4,7 @@ use otel_base::{Key, KeyValue, StringValue, Value};
 use otel_context::baggage::{Baggage, BaggageMetadata, KeyValueMetadata};
 use std::alloc::{AllocError, Global};
 
-/// So many keys that a baggage takes room for them more than once.
+/// A number of keys for which a baggage allocates more than once.
 const KEYS: [&str; 12] = ["a", "b", "c", "d", "e", "f", "g", "h", "i", "j", "k", "l"];
 
 pub fn play<R: Print>(alloc: Global, lines: &Lines<'_, R>) {
@@ -73,7 +73,7 @@ fn insert_key(held: &mut Baggage, key: &'static str, has_metadata: bool) -> Resu
     Ok(())
 }
 
-/// Inserts the keys in turn until an insert fails. Returns how many are there then, and the
+/// Inserts the keys in turn until an insert fails. Returns the number of present keys, and the
 /// error.
 fn inserted(held: &mut Baggage, has_metadata: bool) -> (usize, Result<usize, AllocError>) {
     for count in 0..KEYS.len() {
@@ -84,7 +84,7 @@ fn inserted(held: &mut Baggage, has_metadata: bool) -> (usize, Result<usize, All
     (KEYS.len(), Ok(KEYS.len()))
 }
 
-/// Whether the first so many of the keys are there, and nothing else.
+/// Whether the first `count` of the keys are present, and nothing else.
 fn is_beginning(held: &Baggage, count: usize) -> bool {
     for place in 0..KEYS.len() {
         if held.get(KEYS[place]).is_some() != (place < count) {
@@ -151,7 +151,7 @@ fn from_key_values_with_metadata<R: Print>(
     Ok(())
 }
 
-/// Inserts the value `w` where that takes no memory, and says whether this was the old value.
+/// Inserts the value `w` without allocating. Prints whether this was the old value.
 fn replaced<R: Print>(lines: &Lines<'_, R>, held: &mut Baggage, key: &'static str, old: &str) {
     match held.insert(Key::from(key), StringValue::from("w")) {
         Ok(gone) => lines.free("Baggage::insert", &(text_of(&gone) == old)),
@@ -159,7 +159,7 @@ fn replaced<R: Print>(lines: &Lines<'_, R>, held: &mut Baggage, key: &'static st
     }
 }
 
-/// Its text, or the empty one.
+/// The value's text, or the empty one.
 fn text_of(value: &Option<StringValue>) -> &str {
     match value {
         Some(value) => value.as_str(),
@@ -167,8 +167,8 @@ fn text_of(value: &Option<StringValue>) -> &str {
     }
 }
 
-/// Inserts that change no more than what is there, a replacement and a key that isn't accepted,
-/// look-ups and a removal.
+/// Inserts that don't allocate, a replacement and a key that isn't accepted, look-ups and a
+/// removal.
 fn in_place<R: Print>(alloc: Global, lines: &Lines<'_, R>) -> Result<(), AllocError> {
     let mut held = Baggage::new(alloc);
     insert_key(&mut held, "k", false)?;

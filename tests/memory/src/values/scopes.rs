@@ -50,7 +50,7 @@ fn copy<R: Print>(alloc: Global, lines: &Lines<'_, R>) -> Result<(), AllocError>
     Ok(())
 }
 
-/// A scope that was given no attributes, or the empty list.
+/// A scope made with no attributes, or with the empty list.
 fn bare(alloc: Global, has_list: bool) -> Result<InstrumentationScope, AllocError> {
     let mut builder = InstrumentationScope::builder(StringValue::from("m"));
     if has_list {
@@ -64,7 +64,7 @@ fn without_attributes<R: Print>(alloc: Global, lines: &Lines<'_, R>) -> Result<(
     beside_empty_list(alloc, lines, &scope)
 }
 
-/// Compares it with a scope that was given the empty list.
+/// Compares it with a scope made with the empty list.
 fn beside_empty_list<R: Print>(
     alloc: Global,
     lines: &Lines<'_, R>,

@@ -58,7 +58,7 @@ fn clone_text<R: Print>(lines: &Lines<'_, R>, text: &StringValue) {
     lines.receiver(text);
 }
 
-/// The clone of an owned text takes memory.
+/// The clone of an owned text allocates.
 fn text_clone<R: Print>(alloc: Global, lines: &Lines<'_, R>) -> Result<(), AllocError> {
     let key = String::from_str(alloc, "k")?;
     let text = String::from_str(alloc, "v")?;
@@ -116,7 +116,7 @@ fn text_of<R: Print>(alloc: Global, lines: &Lines<'_, R>, value: &Value) {
     lines.receiver(value);
 }
 
-/// The list of the texts `a` and `b`.
+/// The list with the texts `a` and `b`.
 fn texts(alloc: Global) -> Result<Array, AllocError> {
     let texts = vec![in alloc; StringValue::from("a"), StringValue::from("b")]?;
     Ok(Array::from(texts))
@@ -161,7 +161,7 @@ fn tree_map<R: Print>(alloc: Global, lines: &Lines<'_, R>) -> Result<(), AllocEr
     Ok(())
 }
 
-/// The list of a number and that map.
+/// The list with a number and this map.
 fn nested(alloc: Global) -> Result<AnyValue, AllocError> {
     let pairs = pairs(alloc)?;
     let map = AnyValue::map(alloc, pairs)?;

@@ -24,7 +24,7 @@ fn play_of_states<R: Print>(alloc: Global, lines: &Lines<'_, R>) {
     }
 }
 
-/// What is asked of a trace state.
+/// A call on a trace state.
 #[derive(Clone, Copy)]
 enum Call {
     Insert,
@@ -34,7 +34,7 @@ enum Call {
     Looks,
 }
 
-/// The scenarios that begin with the trace state of a text.
+/// The scenarios that start with the trace state of a text.
 const CALLS: [(&str, &str, Call); 5] = [
     ("trace-state-insert", "a=1,b=2", Call::Insert),
     ("trace-state-delete", "a=1,b=2", Call::Delete),
@@ -43,7 +43,7 @@ const CALLS: [(&str, &str, Call); 5] = [
     ("trace-state-looks", "a=1,b=2", Call::Looks),
 ];
 
-/// Makes that call of the trace state of the text, which is a good one.
+/// Makes this call on the trace state of the text, which is valid.
 fn of_state<R: Print>(
     alloc: Global,
     lines: &Lines<'_, R>,
@@ -85,7 +85,7 @@ fn is_none(state: &TraceState) -> bool {
     *state == TraceState::NONE
 }
 
-/// Reads a text of blanks alone, which takes no memory.
+/// Reads a text that consists of blanks, which doesn't allocate.
 fn blanks<R: Print>(alloc: Global, lines: &Lines<'_, R>) {
     match TraceState::from_str(alloc, " ,\t, ") {
         Ok(empty) => lines.free("TraceState::from_str", &is_none(&empty)),

@@ -4,7 +4,7 @@ use Rattle.otel_context.specs.Context.{ContextRecord}
 use Rattle.otel_context.specs.Stack.{StackState, Attaches, IsLawful, last_position, no_position, newest_position}
 use Rattle.opentelemetry.proofs.carry.attach.Goals as goal
 
--- what an attach that returns a position says, by whether there was one left
+-- the clauses of an attach that returns a position, by whether one was left
 module _ {E : Type 0} {context : ContextRecord} {old new : StackState} (position : ℕ) (r : Attaches {E = E} context old new (Ok position)) (lawful : IsLawful old) where
   full : position ≡ no_position → newest_position old.live ≡ last_position
   full p =

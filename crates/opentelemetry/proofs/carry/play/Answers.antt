@@ -3,7 +3,7 @@ use Rattle.otel_context.specs.Stack.{new_stack}
 use Rattle.opentelemetry.specs.Progress.{Stands}
 use Rattle.opentelemetry.proofs.carry.play.Goals as goal
 
--- what stands before the first event
+-- `Stands` before the first event
 none : Stands [] [] [] new_stack
 none = record {
   legal = record { one_each = refl; each = λ index context at. absurd (cc) };

@@ -1,4 +1,4 @@
--- The lines so far ask for the events so far, and there are no more attaches than lines.
+-- The lines so far request the events so far, and there are at most as many attaches as lines.
 use Rattle.std.proofs.Common.{◌≡◌, ◌≤◌, length, take}
 use Rattle.opentelemetry.specs.Run.{attaches_of}
 use Rattle.otel_carry.specs.Events.{AskFor, lines_of}

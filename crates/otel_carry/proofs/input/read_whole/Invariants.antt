@@ -1,4 +1,4 @@
--- What was read so far and what is left of the input are together what it had.
+-- The bytes read so far and the remaining bytes of the input together are the whole input.
 use Rattle.std.specs.Io.KnownBytes.{Consumes}
 use Rattle.otel_carry.proofs.input.read_whole.Given as goal
 

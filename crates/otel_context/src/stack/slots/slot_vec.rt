@@ -1,8 +1,8 @@
-//! The vector of the slots of a stack, and the calls that alone reach it.
+//! The vector of the slots of a stack, and the only calls that access it.
 //!
-//! Each call reads or changes only the slots at the positions that it is given, and requires that
-//! they are live, with two exceptions: `ask` returns whether its position is live, and counts that
-//! it was asked; `set_live` writes a slot that isn't live, and returns nothing of what it had.
+//! Each call reads or changes only the slots at the given positions, which must be live. There are
+//! two exceptions: `ask` returns whether its position is live and counts the query; `set_live`
+//! writes a slot that isn't live, and returns nothing of its old contents.
 ghost use Rattle.std.specs.Prelude.{◌≡◌, ◌+◌, ◌<◌, ◌≤◌, ◌∷◌, [], true, false, length, IfOk};
 ghost use Rattle.std.specs.Prelude.{IfSome, IfNone, OnSome, OnOk, OnErr};
 ghost use Rattle.otel_context.specs.Links.{put, set_slot, slot_at, live_at, older_at, newer_at};
@@ -20,8 +20,8 @@ use std::rc::Rc;
 /// The slot of a position.
 #[derive(Drop)]
 struct Slot {
-    // The contents of the context that is live here. Those of the newest stand beside the slots. A
-    // slot that isn't live has none, so it keeps no context alive.
+    // The contents of the context that is live here. For the newest position, they are stored
+    // beside the slots. A slot that isn't live has none, so it keeps no context alive.
     contents: Option<Rc<Contents>>,
     is_live: bool,
     // The next lower live position, or 0. At position 0: the newest.
@@ -43,9 +43,9 @@ pub struct Neighbors {
 #[derive(Drop)]
 pub struct SlotVec {
     slots: Vec<Slot>,
-    // How many emptied slots were stepped over. No call does.
+    // The number of emptied slots that were stepped over. No call steps over one.
     stepped: Counter,
-    // How many times `ask` was called.
+    // The number of calls of `ask`.
     asked: Counter,
 }
 
@@ -66,7 +66,7 @@ impl Model for SlotVec {
 }
 
 impl SlotVec {
-    /// Returns only the base, with room for that many more slots.
+    /// Returns only the base, with room for `capacity` more slots.
     pub fn with_capacity(alloc: Global, capacity: usize) -> Result<SlotVec, AllocError>
         requires { capacity < last_position }
         ensures items { IfOk result (λ s. s.items ≡ base_slot ∷ []) }
@@ -95,7 +95,7 @@ impl SlotVec {
         self.slots[position as usize].older
     }
 
-    /// Makes a position live that isn't, or appends its slot. No live slot is above it.
+    /// Makes a dead position live, or appends its slot. No live slot may be above it.
     pub fn set_live(&mut self, position: u16, older: u16) -> Result<(), AllocError>
         requires within { position ≤ length self.old.items }
         requires dead { live_at self.old.items position ≡ false }
@@ -123,7 +123,7 @@ impl SlotVec {
         Ok(())
     }
 
-    /// Puts contents into the slot of a live position, and sets the next higher live one.
+    /// Sets the contents of a live position's slot, and the next higher live position.
     pub fn cover(&mut self, position: u16, contents: Option<Rc<Contents>>, newer: u16)
         requires { live_at self.old.items position ≡ true }
         ensures { self.new ≡ record self.old {
@@ -135,7 +135,7 @@ impl SlotVec {
         slot.newer = newer;
     }
 
-    /// Sets the next lower live position of a live one.
+    /// Sets the next lower live position of a live position.
     pub fn set_older(&mut self, position: u16, older: u16)
         requires { live_at self.old.items position ≡ true }
         ensures { self.new ≡ record self.old {
@@ -159,7 +159,7 @@ impl SlotVec {
         self.slots[newer as usize].older = older;
     }
 
-    /// Takes the contents out of the slot of a live position.
+    /// Takes the contents out of a live position's slot.
     pub fn uncover(&mut self, position: u16) -> Option<Rc<Contents>>
         requires { live_at self.old.items position ≡ true }
         ensures given { result ≡ contents_at self.old.items position }
@@ -172,8 +172,8 @@ impl SlotVec {
 
     /// Returns the neighbors of a position, or `None` if it isn't live.
     ///
-    /// No other call returns whether a position is live. A removal calls it once, for the position
-    /// that it was given.
+    /// No other call returns whether a position is live. A removal calls this once, for the
+    /// position that it was given.
     pub fn ask(&mut self, position: u16) -> Option<Neighbors>
         requires { position < length self.old.items }
         ensures dead { IfNone result (live_at self.old.items position ≡ false) }

@@ -6,13 +6,13 @@ use crate::trace::id_generator::IdError;
 use opentelemetry::trace::{SpanId, TraceId};
 use std::random::RandomSource;
 
-/// The most draws for one id.
+/// The maximum number of draws for one id.
 const MAX_DRAWS: u32 = 8;
 
-/// A source of ids, of which some may be 0.
+/// A source of ids, some of which may be 0.
 ///
-/// `may_draw` names what a draw may give, and what is then left of the source. A failed draw gives
-/// `None`.
+/// `may_draw` relates a source to the possible results of a draw, and to the source after it. A
+/// failed draw returns `None`.
 pub(crate) trait Draws {
     ghost use Rattle.std.specs.Prelude.{ℕ, Option, Bool};
 
@@ -26,16 +26,16 @@ pub(crate) trait Draws {
     fn draw(&mut self) -> Option<Self::Id>
         ensures { may_draw self.old result self.new };
 
-    /// Returns whether the id is 0.
+    /// Returns `true` if the id is 0.
     fn is_zero(id: Self::Id) -> bool
         ensures { result ≡ nat_eq (number id) 0 };
 }
 
-/// Returns the first id drawn that isn't 0, of at most 8 draws.
+/// Returns the first id drawn that isn't 0, with at most 8 draws.
 ///
 /// # Errors
 ///
-/// `Source` at the first draw that fails, `Zero` after 8 draws of 0.
+/// `Source` at the first draw that fails. `Zero` after 8 draws of 0.
 pub(crate) fn first_valid<D: Draws>(draws: &mut D) -> Result<D::Id, IdError>
     ensures drawn { FirstValid D.may_draw D.number max_draws draws.old result draws.new }
     ensures valid { IfOk result (λ id. D.number id ≢ 0) }

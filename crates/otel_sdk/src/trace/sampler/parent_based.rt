@@ -7,16 +7,13 @@ use opentelemetry::trace::{Link, SpanKind, TraceId};
 use opentelemetry::{Context, KeyValue};
 use std::alloc::{AllocError, Global};
 
-/// Asks one of five samplers: `root` for a span without a valid parent, and one of the others by
-/// whether the parent is remote and whether it is sampled (the Rust crate's
+/// Asks one of five samplers: `root` for a span without a valid parent, and otherwise one of the
+/// others, chosen by whether the parent is remote and whether it is sampled (the Rust crate's
 /// `Sampler::ParentBased`, whose other four are fixed).
 ///
-/// By default the four are `AlwaysOn` for a sampled parent and `AlwaysOff` for any other, so that a
-/// span is sampled if its parent is.
-///
-/// ```
-/// let sampler = ParentBased::new(Sampler::TraceIdRatioBased(0.5));
-/// ```
+/// By default, the other four are `AlwaysOn` for a sampled parent and `AlwaysOff` for any other, so
+/// that a span is sampled if its parent is. For example,
+/// `ParentBased::new(Sampler::TraceIdRatioBased(0.5))` samples half of the traces that start here.
 #[derive(Debug, Drop)]
 pub struct ParentBased<
     Root,
@@ -52,7 +49,7 @@ impl<Root> ParentBased<Root> {
     }
 }
 
-/// Returns the description made of those of the five samplers.
+/// Returns the description made from the descriptions of the five samplers.
 ///
 /// # Errors
 ///
@@ -105,7 +102,7 @@ where
     ///
     /// # Errors
     ///
-    /// Those of that sampler.
+    /// The errors of that sampler.
     fn should_sample(
         &self,
         alloc: Global,
@@ -171,7 +168,7 @@ where
         }
     }
 
-    /// Returns `ParentBased` with the descriptions of the five samplers, as in
+    /// Returns `ParentBased` with the descriptions of the five samplers, for example
     /// `ParentBased{root:AlwaysOnSampler,remoteParentSampled:..}`.
     ///
     /// # Errors

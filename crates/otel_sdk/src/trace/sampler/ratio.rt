@@ -1,4 +1,4 @@
-//! The bound of a ratio: the ratio samples the traces below it.
+//! The bound of a ratio: the ratio samples the traces whose number is below it.
 ghost use Rattle.std.specs.Prelude.{◌≡◌, ◌<◌, ◌*◌, ◌/◌, ◌^◌, IfOk, string_bytes, to_bits};
 ghost use Rattle.std.specs.Float.{binary64};
 ghost use Rattle.otel_sdk.specs.Ratio.{bound, IsNumberText};
@@ -12,7 +12,7 @@ const LEADING: u64 = 1 << 52;
 /// The bits of 1.0.
 const ONE: u64 = 1023 << 52;
 
-/// The bits of infinity. Greater ones are those of NaN or have the sign set.
+/// The bits of infinity. Greater bits are NaN or have the sign set.
 const INFINITY: u64 = 2047 << 52;
 
 /// Returns the ratio times 2 ^ 63, without its fraction.
@@ -22,7 +22,7 @@ pub(crate) fn bound(ratio: f64) -> u64
     bound_of_bits(f64_to_bits_with_nan(ratio))
 }
 
-/// Returns the bound of the double of these bits.
+/// Returns the bound of the double with these bits.
 fn bound_of_bits(bits: u64) -> u64
     ensures { result ≡ bound bits }
 {
@@ -50,7 +50,7 @@ fn scaled(significand: u64, exponent: u64) -> u64
     }
 }
 
-/// Returns the ratio that counts, from 0 to 1, as the shortest decimal that reads as it.
+/// Returns the effective ratio, from 0 to 1, as the shortest decimal that parses to it.
 ///
 /// # Errors
 ///

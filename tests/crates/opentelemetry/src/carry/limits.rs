@@ -1,4 +1,4 @@
-//! The greatest position, one below, at and above, by a run.
+//! The greatest position, one below, at and above, with a run.
 use opentelemetry::carry::{AttachOutcome, RunReport, StackEvent, run};
 use opentelemetry::context::Context;
 use opentelemetry::propagation::TextMapCompositePropagator;
@@ -16,7 +16,7 @@ fn attaches(alloc: Global, count: usize) -> Result<RunReport, AllocError> {
     run(alloc, events, &composite, &mut carrier)
 }
 
-/// How many attaches there are, what became of the last one, and the newest position then.
+/// The number of attaches, the outcome of the last one, and the newest position afterwards.
 const ATTACHES: &[(usize, AttachOutcome, u16)] = &[
     (65533, AttachOutcome::Attached(65533), 65533),
     (65534, AttachOutcome::Attached(65534), 65534),
@@ -38,7 +38,7 @@ fn the_last_position_is_given_by_a_run(rt: HostRuntime) -> Result<(), Fail> {
     Ok(())
 }
 
-/// Detaches of numbers that are never attached, however great, change nothing.
+/// Detaches of numbers that are never attached change nothing, however large the number.
 #[test]
 fn detaches_of_unknown_numbers_change_nothing(rt: HostRuntime) -> Result<(), Fail> {
     let alloc = rt.alloc();

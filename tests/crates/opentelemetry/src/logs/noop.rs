@@ -1,5 +1,5 @@
-//! Log records, loggers and their providers that do nothing, called once each. Those that keep what they are given are
-//! tested with the crate `otel_recording`.
+//! Log records, loggers and their providers that do nothing, called once each. The ones that record
+//! are tested with the crate `otel_recording`.
 use opentelemetry::logs::{
     AnyValue, LogRecord, Logger, LoggerProvider, NoopLogRecord, NoopLogger, NoopLoggerProvider,
     Severity,
@@ -8,7 +8,7 @@ use opentelemetry::{InstrumentationScope, Key, SpanId, StringValue, TraceId};
 use std::alloc::{AllocError, Global};
 use std::test::Fail;
 
-/// Makes each call of a record that takes no memory.
+/// Makes each call of a record that doesn't allocate.
 fn tell<R: LogRecord>(record: &mut R) {
     record.set_event_name("started");
     record.set_target(StringValue::from("http::server"));

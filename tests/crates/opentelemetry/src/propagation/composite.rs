@@ -1,4 +1,4 @@
-//! Composites: their fields, and those without members.
+//! Composites: their fields, and composites without members.
 mod extraction;
 mod injection;
 mod join;

@@ -1,4 +1,4 @@
-//! What a propagation error prints.
+//! The printed text of a propagation error.
 use opentelemetry::propagation::PropagationError;
 use std::alloc::AllocError;
 use std::test::Fail;

@@ -1,4 +1,4 @@
-//! What a propagator does with the current context.
+//! A propagator's calls on the current context.
 use crate::members::{EntryCopier, entry, stamps_of, with_text};
 use opentelemetry::context::{Context, ContextStack};
 use opentelemetry::propagation::TextMapPropagator;

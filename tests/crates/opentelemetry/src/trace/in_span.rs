@@ -10,10 +10,10 @@ use std::alloc::{AllocError, Global};
 use std::test::Fail;
 use test_support::{name_of, named, span_context, tracer};
 
-/// What a body returned and the number of its span, or why no body ran.
+/// The result of a body and the number of its span, or the error.
 type InSpan<T> = Result<(T, u64), StartError<RecordingSpan>>;
 
-/// Runs a closure in a span of the name `work`.
+/// Runs a closure in a span named `work`.
 fn in_span<T, F>(
     alloc: Global,
     stack: &mut ContextStack,
@@ -60,7 +60,7 @@ fn spans_three_deep_are_children_of_each_other(rt: HostRuntime) -> Result<(), Fa
     let outer = in_span(alloc, &mut stack, &mut spans, |stack, spans, context| {
         (span_id_of(&context), middle(alloc, stack, spans))
     });
-    // Each span's id, what ran inside it, and its number.
+    // Each span's id, the result of its body, and its number.
     assert!(rt; matches!(outer, Ok(((1, Ok(((2, Ok((3, 2))), 1))), 0))));
     assert_eq!(rt; stack.newest_position(), 0);
     assert_eq!(rt; spans.len(), 3);
@@ -212,7 +212,7 @@ fn a_table_at_its_last_number_refuses(rt: HostRuntime) -> Result<(), Fail> {
     Ok(())
 }
 
-/// A tracer that has no memory for a span.
+/// A tracer that is out of memory.
 #[derive(Drop)]
 struct RefusingTracer;
 

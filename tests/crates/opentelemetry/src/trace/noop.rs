@@ -31,7 +31,7 @@ fn a_span_has_its_parents_span_context(rt: HostRuntime) -> Result<(), Fail> {
     Ok(())
 }
 
-/// The parent's span may be of any type. Without one the span context isn't valid.
+/// The parent's span may be of any type. Without a parent, the span context isn't valid.
 #[test]
 fn a_span_starts_under_a_span_that_records(rt: HostRuntime) -> Result<(), Fail> {
     let alloc = rt.alloc();

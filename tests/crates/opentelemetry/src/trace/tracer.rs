@@ -13,7 +13,7 @@ fn work() -> StringValue {
     StringValue::from("work")
 }
 
-/// A tracer that tells a span all that its builder says.
+/// A tracer that records every part of the builder on the span.
 #[derive(Drop)]
 struct TellingTracer;
 

@@ -6,7 +6,7 @@ use opentelemetry::{InstrumentationScope, StringValue};
 use std::alloc::{AllocError, Global};
 use std::test::Fail;
 
-/// A tracer that has the scope that it was made for.
+/// A tracer that stores the scope for which it was made.
 #[derive(Drop)]
 struct ScopedTracer {
     scope: InstrumentationScope,

@@ -1,4 +1,4 @@
-//! What the attaches of the lines attach.
+//! The contexts attached by the lines.
 use crate::events::events_of;
 use opentelemetry::carry::StackEvent;
 use opentelemetry::trace::{SpanContext, TraceState};

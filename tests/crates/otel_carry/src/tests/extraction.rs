@@ -1,4 +1,4 @@
-//! What is extracted of the filled carrier, by which members.
+//! The context extracted from the filled carrier, for different members.
 use crate::carry::carry;
 use crate::name_member::NameMember;
 use opentelemetry::Context;
@@ -11,8 +11,8 @@ use otel_propagators::TraceContextPropagator;
 use std::alloc::{AllocError, Global};
 use std::test::Fail;
 
-/// A member that sets nothing, whose injection and extraction return these errors, or a context with
-/// a span context of no span.
+/// A member that sets nothing, whose injection and extraction return these errors, or a context
+/// with an invalid span context.
 #[derive(Drop)]
 struct OddMember {
     injection: Option<PropagationError>,
@@ -57,8 +57,8 @@ impl TextMapPropagator for OddMember {
     }
 }
 
-/// After a refused injection nothing is extracted; an extraction that fails is reported as what it
-/// is. An active span is shown also where its ids are 0.
+/// After a refused injection, nothing is extracted. A failed extraction is reported as such. An
+/// active span is shown even if its ids are 0.
 #[test]
 fn reports_a_member_that_gives_up(rt: HostRuntime) -> Result<(), Fail> {
     let alloc = rt.alloc();
@@ -94,7 +94,7 @@ fn reports_a_member_that_gives_up(rt: HostRuntime) -> Result<(), Fail> {
     Ok(())
 }
 
-/// The current context has an active span, and no member carries it.
+/// The current context has an active span, which no member propagates.
 #[test]
 fn extracts_from_the_carrier_into_the_empty_context(rt: HostRuntime) -> Result<(), Fail> {
     let alloc = rt.alloc();
@@ -109,7 +109,7 @@ fn extracts_from_the_carrier_into_the_empty_context(rt: HostRuntime) -> Result<(
     Ok(())
 }
 
-/// The members stand in the other order, and the first one's span context is replaced.
+/// The members are in the other order, and the first one's span context is replaced.
 #[test]
 fn extracts_by_all_members_in_order(rt: HostRuntime) -> Result<(), Fail> {
     let alloc = rt.alloc();

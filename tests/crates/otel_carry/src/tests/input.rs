@@ -1,12 +1,12 @@
-//! Readers: what a run writes doesn't depend on how its bytes come, and a reader that fails or never
-//! ends is given up.
+//! Readers: the output of a run doesn't depend on how its input is split into reads, and reading
+//! stops at a reader that fails or never ends.
 use super::{BASE, INPUTS, plainly, status_of};
 use std::alloc::Global;
 use std::io::{self, ErrorKind, Read};
 use std::process::Abort;
 use std::test::Fail;
 
-/// Gives one `\n` a read, so many times, and then ends or fails.
+/// Returns one `\n` per read, a number of times, and then ends or fails.
 #[derive(Drop)]
 struct Newlines {
     left: u32,
@@ -27,8 +27,8 @@ impl Read for Newlines {
     }
 }
 
-/// How many newlines there are, whether the reader fails after them, what is written, and the status.
-/// The last of the 1,048,576 reads may be the one that tells the end.
+/// The number of newlines, whether the reader fails after them, the output, and the status. The
+/// last of the 1,048,576 reads may be the one that reports the end.
 const NEWLINES: &[(u32, bool, &str, u8)] = &[
     (0, true, "input: cannot be read\n", 1),
     (1, true, "input: cannot be read\n", 1),
@@ -49,7 +49,7 @@ fn gives_up_a_reader_that_fails(rt: HostRuntime) -> Result<(), Fail> {
     Ok(())
 }
 
-/// It is read 1,048,576 times, and then no more. So one that would end at the next read is given up too.
+/// It is read 1,048,576 times, and then no more, even if it would end at the next read.
 #[test]
 fn gives_up_a_reader_that_never_ends(rt: HostRuntime) -> Result<(), Fail> {
     let mut input = Newlines {
@@ -63,8 +63,8 @@ fn gives_up_a_reader_that_never_ends(rt: HostRuntime) -> Result<(), Fail> {
     Ok(())
 }
 
-/// Gives so many bytes `\n`, as many a read as its buffer takes, and notes how many reads there were and
-/// whether each had a buffer of 4,096 bytes.
+/// Returns a number of bytes `\n`, as many per read as its buffer holds, and records the number of
+/// reads and whether each had a buffer of 4,096 bytes.
 #[derive(Drop)]
 struct MeteredNewlines {
     left: usize,
@@ -83,7 +83,7 @@ impl Read for MeteredNewlines {
     }
 }
 
-/// The last read of each is the one that tells the end.
+/// The last read of each is the one that reports the end.
 #[test]
 fn reads_4096_bytes_at_a_time(rt: HostRuntime) -> Result<(), Fail> {
     for (left, reads) in [(0, 1), (1, 2), (4096, 2), (4097, 3), (40_960, 11)] {
@@ -104,7 +104,7 @@ fn reads_4096_bytes_at_a_time(rt: HostRuntime) -> Result<(), Fail> {
     Ok(())
 }
 
-/// Gives at most so many bytes a read, and at the end of them the end of the input, or an error.
+/// Returns at most this many bytes per read, and after them the end of the input, or an error.
 #[derive(Drop)]
 struct Pieces<'a> {
     bytes: &'a [u8],
@@ -145,7 +145,7 @@ fn bytes_may_come_one_at_a_time(rt: HostRuntime) -> Result<(), Fail> {
     Ok(())
 }
 
-/// Asserts that the program reports this one line with this status, however its bytes come.
+/// Asserts that the program reports this one line with this status, however its input is split.
 fn assert_line(
     rt: &impl Abort,
     alloc: Global,
@@ -180,7 +180,7 @@ fn input_that_stops_in_a_character_is_not_utf8(rt: HostRuntime) -> Result<(), Fa
     Ok(())
 }
 
-/// A read that fails is reported before all that stands in the input, also after its last line.
+/// A failed read is reported before any fault of the input, even after its last line.
 #[test]
 fn a_reader_may_fail_after_the_last_line(rt: HostRuntime) -> Result<(), Fail> {
     let line = "input: cannot be read\n";

@@ -1,5 +1,5 @@
 //! Lines with a fault, and the greatest number of a detach, one below, at and above. The greatest
-//! position is that of the runs of `tests/long`.
+//! position is tested by the runs of `tests/long`.
 use super::{sees, status_of};
 use std::test::Fail;
 
@@ -29,7 +29,7 @@ fn reports_the_first_faulty_line(rt: HostRuntime) -> Result<(), Fail> {
     ] {
         sees(&rt, rt.alloc(), input.as_bytes(), fault, 2)?;
     }
-    // That the input is UTF-8 is tested before its lines.
+    // Whether the input is UTF-8 is checked before its lines.
     sees(
         &rt,
         rt.alloc(),

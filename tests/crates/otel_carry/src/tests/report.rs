@@ -1,9 +1,10 @@
-//! Writers: what a run writes doesn't depend on how its bytes go, and a writer that fails is given up.
+//! Writers: the output of a run doesn't depend on how it is split into writes, and writing stops at
+//! a writer that fails.
 use super::{BASE, INPUTS, plainly, status_of, unbuffered};
 use std::io::{self, ErrorKind, Write};
 use std::test::Fail;
 
-/// Takes so many writes, and then fails.
+/// Accepts this many writes, and then fails.
 #[derive(Drop)]
 struct FailsAfter {
     left: u32,
@@ -47,7 +48,7 @@ fn ends_with_status_1_where_a_write_fails(rt: HostRuntime) -> Result<(), Fail> {
     Ok(())
 }
 
-/// Takes at most so many bytes a write, and where that is 0 none at all.
+/// Accepts at most this many bytes per write, or none at all if that is 0.
 #[derive(Drop)]
 struct Sips<'a> {
     bytes: &'a mut Vec<u8>,
@@ -66,7 +67,7 @@ impl Write for Sips<'_> {
     }
 }
 
-/// Takes all bytes, and fails to flush them.
+/// Accepts all bytes, and fails to flush them.
 #[derive(Drop)]
 struct NoFlush<'a> {
     bytes: &'a mut Vec<u8>,
@@ -128,7 +129,7 @@ fn a_report_that_cannot_be_flushed_ends_with_status_1(rt: HostRuntime) -> Result
     Ok(())
 }
 
-/// Fails at one write, and takes what comes after it, at most so many bytes a write.
+/// Fails at one write, and accepts later ones, at most this many bytes per write.
 #[derive(Drop)]
 struct FailsOnce<'a> {
     bytes: &'a mut Vec<u8>,
@@ -153,7 +154,8 @@ impl Write for FailsOnce<'_> {
     }
 }
 
-/// What was written before the failed write is a beginning of the output, and nothing comes after.
+/// The output before the failed write is a prefix of the whole output, and nothing is written after
+/// it.
 #[test]
 fn nothing_is_written_after_a_failed_write(rt: HostRuntime) -> Result<(), Fail> {
     let alloc = rt.alloc();
@@ -179,7 +181,7 @@ fn nothing_is_written_after_a_failed_write(rt: HostRuntime) -> Result<(), Fail> 
     Ok(())
 }
 
-/// Inputs, what is written for them, and the status.
+/// Inputs, the output for each, and the status.
 const REPORTS: &[(&str, &str, u8)] = &[
     (
         "attach a v=1\nattach b\n",
@@ -196,8 +198,8 @@ const REPORTS: &[(&str, &str, u8)] = &[
     ("detach x", "line 1: bad number\n", 2),
 ];
 
-/// Without a buffer each line takes a write or more. Each of them may fail: the status is then 1, and a
-/// beginning of the text is written, without its end.
+/// Without a buffer, each line takes one write or more. Each of them may fail: the status is then
+/// 1, and a proper prefix of the text is written.
 #[test]
 fn each_write_to_an_output_without_a_buffer_may_fail(rt: HostRuntime) -> Result<(), Fail> {
     let alloc = rt.alloc();
@@ -230,7 +232,7 @@ fn each_write_to_an_output_without_a_buffer_may_fail(rt: HostRuntime) -> Result<
     Ok(())
 }
 
-/// All is written, and the flush fails.
+/// Everything is written, and the flush fails.
 #[test]
 fn a_flush_of_an_output_without_a_buffer_may_fail(rt: HostRuntime) -> Result<(), Fail> {
     let alloc = rt.alloc();

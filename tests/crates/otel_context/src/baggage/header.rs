@@ -1,9 +1,9 @@
-//! What baggages print.
+//! Printed baggages.
 use crate::baggage::printed;
 use std::test::Fail;
 use test_support::{Member, baggage_of};
 
-/// What is offered in turn, and what is printed then.
+/// The members inserted in turn, and the printed baggage.
 const HEADERS: &[(&[Member], &str)] = &[
     (&[], ""),
     (&[("k", "a b", " m=1 ")], "k=a%20b;m=1"),

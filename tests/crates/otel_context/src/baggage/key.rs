@@ -1,9 +1,10 @@
-//! Which texts are keys.
+//! The texts that are keys.
 use otel_base::{Key, StringValue};
 use otel_context::baggage::Baggage;
 use std::test::Fail;
 
-/// The characters of a token beside letters and digits, as RFC 7230, section 3.2.6, lists them (`tchar`).
+/// The characters of a token besides letters and digits, as listed by RFC 7230, section 3.2.6
+/// (`tchar`).
 const TOKEN_MARKS: &[u8] = b"!#$%&'*+-.^_`|~";
 
 #[test]

@@ -1,5 +1,5 @@
-//! The limits of a baggage, of 64 pairs and of 8192 bytes, one below, at and above, by each of the
-//! five ways in, and what is free again once a pair was taken out or replaced.
+//! The limits of a baggage, 64 pairs and 8192 bytes, one below, at and above, with each of the five
+//! calls that insert, and the space that is free again after a pair is removed or replaced.
 use crate::baggage::{printed, text_of};
 use otel_base::{Key, KeyValue, StringValue, Value};
 use otel_context::baggage::{
@@ -10,7 +10,7 @@ use std::process::Abort;
 use std::test::Fail;
 use test_support::baggage_of;
 
-/// The calls that put members into a baggage.
+/// The calls that insert members into a baggage.
 #[derive(Clone, Copy, Debug)]
 enum Way {
     Insert,
@@ -28,14 +28,14 @@ const WAYS: &[Way] = &[
     Way::FromKeyValuesWithMetadata,
 ];
 
-/// The ways that take metadata.
+/// The calls that take metadata.
 const METADATA_WAYS: &[Way] = &[
     Way::InsertWithMetadata,
     Way::FromPairs,
     Way::FromKeyValuesWithMetadata,
 ];
 
-/// A key, a value and metadata; ways that take no metadata leave it out.
+/// A key, a value and metadata. Calls that take no metadata ignore it.
 #[derive(Drop)]
 struct Member {
     key: String,
@@ -63,7 +63,7 @@ impl Member {
     }
 }
 
-/// The baggage that the members make, taken in turn.
+/// The baggage made by inserting the members in turn.
 fn made(alloc: Global, way: Way, members: Vec<Member>) -> Result<Baggage, AllocError> {
     match way {
         Way::Insert | Way::InsertWithMetadata => inserted(alloc, way, members),
@@ -105,7 +105,7 @@ fn inserted(alloc: Global, way: Way, members: Vec<Member>) -> Result<Baggage, Al
     Ok(baggage)
 }
 
-/// The member of these texts: each is its bytes, so often.
+/// The member with these texts: each is a byte, repeated.
 fn member_of(
     alloc: Global,
     key: (&str, usize),
@@ -146,7 +146,7 @@ fn sixty_four_pairs_are_held(rt: HostRuntime) -> Result<(), Fail> {
     Ok(())
 }
 
-/// How many bytes the key, the value and the metadata of a member have, and whether it is held.
+/// The number of bytes of a member's key, value and metadata, and whether it is inserted.
 type Row = (usize, usize, usize, bool);
 
 /// Keys and values of 8191, 8192 and 8193 bytes in all.
@@ -202,8 +202,8 @@ fn three(alloc: Global, values: &[&'static str]) -> Result<Vec<Member>, AllocErr
     Ok(members)
 }
 
-/// The values that `c` gets in turn, and the one that it has then: 8191, 8192 and 8193 bytes are
-/// held, and a replacement counts without what it replaces.
+/// The values that `c` gets in turn, and its final value: 8191, 8192 and 8193 bytes are accepted,
+/// and a replacement counts without the replaced value.
 const THIRD: &[(&[&str], &str)] = &[
     (&[""], ""),
     (&["."], "."),
@@ -242,7 +242,7 @@ fn the_longest_header_has_24575_bytes(rt: HostRuntime) -> Result<(), Fail> {
     Ok(())
 }
 
-/// A baggage of `k` with a value of `count` spaces, where there is room for it.
+/// A baggage with `k` and a value of `count` spaces, if there is room for it.
 fn spaces(alloc: Global, count: usize) -> Result<Baggage, AllocError> {
     let mut baggage = Baggage::new(alloc);
     let value = StringValue::from(" ".repeat(alloc, count)?);
@@ -250,7 +250,7 @@ fn spaces(alloc: Global, count: usize) -> Result<Baggage, AllocError> {
     Ok(baggage)
 }
 
-/// A baggage of `key0`, `key1` and so on, each with the empty value.
+/// A baggage with `key0`, `key1` and so on, each with the empty value.
 fn numbered(alloc: Global, count: u32) -> Result<Baggage, AllocError> {
     let mut pairs = Vec::new(alloc);
     for number in 0..count {
@@ -260,7 +260,7 @@ fn numbered(alloc: Global, count: u32) -> Result<Baggage, AllocError> {
     Baggage::from_key_values(alloc, pairs)
 }
 
-/// `key0=,key1=` and so on, up to that count.
+/// `key0=,key1=` and so on, up to `count`.
 fn members(alloc: Global, count: u32) -> Result<String, AllocError> {
     let mut text = String::new(alloc);
     for number in 0..count {
@@ -303,8 +303,8 @@ fn one_key_may_hold_all(rt: HostRuntime) -> Result<(), Fail> {
     Ok(())
 }
 
-/// What is inserted over `c`, where the old value is the last byte that there is room for; what is answered; what is
-/// held then.
+/// The insert over `c`, if the old value is the last byte that there is room for; the result; and
+/// the baggage afterwards.
 const OVER: &[(&str, &str, &str)] = &[
     ("..", "none", "."),
     ("!", ".", "!"),
@@ -313,7 +313,7 @@ const OVER: &[(&str, &str, &str)] = &[
     ("?", "", "?"),
 ];
 
-/// A baggage of `a`, `b` and `c`, which have 8192 bytes together.
+/// A baggage with `a`, `b` and `c`, which have 8192 bytes together.
 fn full(alloc: Global) -> Result<Baggage, AllocError> {
     let mut baggage = Baggage::new(alloc);
     for key in ["a", "b"] {
@@ -417,7 +417,7 @@ fn a_removal_makes_room_at_the_end(rt: HostRuntime) -> Result<(), Fail> {
     Ok(())
 }
 
-/// A replaced key keeps its place, and one that was removed comes back at the end.
+/// A replaced key keeps its place. A key that was removed is inserted last.
 #[test]
 fn a_key_that_comes_back_goes_last(rt: HostRuntime) -> Result<(), Fail> {
     let mut baggage = Baggage::new(rt.alloc());

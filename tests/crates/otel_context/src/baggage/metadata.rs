@@ -1,9 +1,9 @@
-//! What is kept of a text as metadata, and how metadata is copied and compared.
+//! The texts stored as metadata, and copies and comparisons of metadata.
 use otel_context::baggage::BaggageMetadata;
 use std::cmp::Ordering;
 use std::test::Fail;
 
-/// What is given as metadata, and what is kept of it.
+/// The given texts, and the stored ones.
 const METADATA: &[(&str, &str)] = &[
     ("", ""),
     ("m", "m"),
@@ -12,7 +12,7 @@ const METADATA: &[(&str, &str)] = &[
     ("\u{2003}m\u{2003}n\u{2003}", "m\u{2003}n"),
     ("\u{3000}m\u{3000}n\u{3000}", "m\u{3000}n"),
     ("\u{85}\u{1680}\u{2028}\u{2029}\u{205f}m", "m"),
-    // A zero width space and a byte order mark are no white space in Unicode.
+    // A zero width space and a byte order mark aren't white space in Unicode.
     ("\u{200b}m\u{feff}", "\u{200b}m\u{feff}"),
     (" \u{a0}\u{2003}\u{3000} ", ""),
 ];

@@ -1,4 +1,5 @@
-//! Guards that are given to another stack than the one that made them, or whose context is gone.
+//! Guards that are passed to another stack than the one that made them, or whose context was
+//! removed.
 use otel_context::{Context, ContextStack, HasCurrent};
 use std::test::Fail;
 use test_support::{name_of, named};
@@ -7,8 +8,8 @@ fn name_given(given: &Option<Context>) -> &str {
     given.as_ref().map_or("none", |context| name_of(context))
 }
 
-/// Two stacks, of `a` and `b`, and of `x`. Both guards of position 1 are spent on the first: the one
-/// of the other stack removes `a`, and then there is nothing left for its own.
+/// Two stacks, one with `a` and `b`, and one with `x`. Both guards of position 1 are spent on the
+/// first: the other stack's guard removes `a`, and then nothing is left for its own guard.
 #[test]
 fn a_guard_of_another_stack_removes_what_stands_there(rt: HostRuntime) -> Result<(), Fail> {
     let alloc = rt.alloc();
@@ -32,7 +33,7 @@ fn a_guard_of_another_stack_removes_what_stands_there(rt: HostRuntime) -> Result
     Ok(())
 }
 
-/// The guard of a refused attach has no position, so in no stack is anything live at it.
+/// The guard of a refused attach has no position, so nothing is live at it in any stack.
 #[test]
 fn a_refused_guard_removes_nothing_anywhere(rt: HostRuntime) -> Result<(), Fail> {
     let alloc = rt.alloc();
@@ -50,7 +51,8 @@ fn a_refused_guard_removes_nothing_anywhere(rt: HostRuntime) -> Result<(), Fail>
     Ok(())
 }
 
-/// A guard outlives what it attached: another attach gets its position, and the guard removes that.
+/// A guard outlives its context: another attach gets the same position, and the guard removes that
+/// context.
 #[test]
 fn a_guard_removes_what_has_its_position_now(rt: HostRuntime) -> Result<(), Fail> {
     let alloc = rt.alloc();

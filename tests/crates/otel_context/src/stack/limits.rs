@@ -1,4 +1,4 @@
-//! The greatest position, one below, at and above, by each attach.
+//! The greatest position, one below, at and above, with each attach.
 use otel_context::Context;
 use std::test::Fail;
 use test_support::{POSITIONS, assert_attached, filled, name_of};

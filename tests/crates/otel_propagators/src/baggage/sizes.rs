@@ -1,4 +1,4 @@
-//! Long `baggage` headers: the limits of a baggage, and headers that are made to hurt.
+//! Long `baggage` headers: the limits of a baggage, and headers that are made to cost much.
 use crate::baggage::{extracted, holds, injected};
 use opentelemetry::baggage::Baggage;
 use opentelemetry::{Context, Key, StringValue};
@@ -6,7 +6,7 @@ use std::alloc::{AllocError, Global};
 use std::process::Abort;
 use std::test::Fail;
 
-/// How many members and how many bytes of keys, values and metadata the header is read as.
+/// The number of members and the number of bytes of keys, values and metadata read from the header.
 fn sizes(alloc: Global, header: &str) -> Result<(usize, usize), AllocError> {
     let context = extracted(alloc, &Context::new(), header)?;
     let Some(baggage) = context.baggage() else {
@@ -39,7 +39,7 @@ fn the_first_64_keys_are_taken(rt: HostRuntime) -> Result<(), Fail> {
         let header = numbered(alloc, members)?;
         assert_eq!(rt; sizes(alloc, header.as_str())?.0, taken);
     }
-    // A key that is there is replaced, also in a full baggage.
+    // A present key is replaced, even in a full baggage.
     let mut header = numbered(alloc, 65)?;
     header.push_str("k64=x,k3=new;p")?;
     let context = extracted(alloc, &Context::new(), header.as_str())?;
@@ -50,8 +50,8 @@ fn the_first_64_keys_are_taken(rt: HostRuntime) -> Result<(), Fail> {
     Ok(())
 }
 
-/// A value of one byte in the header, and how often it stands there, then what is read: how many
-/// members, and their bytes. The key is `k`, and `z=1` follows.
+/// A byte of the value as it is in the header, and how often it is repeated; then the number of
+/// members that are read, and their bytes. The key is `k`, and `z=1` follows.
 const LENGTHS: &[(&str, usize, usize, usize)] = &[
     ("x", 8189, 2, 8192),
     ("x", 8190, 1, 8191),
@@ -108,8 +108,8 @@ fn the_bytes_of_keys_and_metadata_count(rt: HostRuntime) -> Result<(), Fail> {
 /// The runs of `tests/long` read ten times as many.
 const MANY: usize = 100_000;
 
-/// What stands before, what is repeated, how often, what stands after, and how many members and
-/// bytes are read.
+/// The start, the repeated text, the number of repetitions, the end, and the numbers of members and
+/// bytes that are read.
 type Row = (
     &'static str,
     &'static str,
@@ -172,8 +172,8 @@ fn long_keys_and_metadata_are_skipped(rt: HostRuntime) -> Result<(), Fail> {
     assert_read(&rt, rt.alloc(), LONG_KEYS_AND_METADATA)
 }
 
-/// How many bytes each key and each value of a full baggage has, and how many its header has. The
-/// values are spaces, each of them three bytes in the header.
+/// The number of bytes of each key and each value of a full baggage, and of its header. The values
+/// are spaces, each of them three bytes in the header.
 const FULL: &[(usize, usize, usize)] = &[
     // One key of a byte: 1 + 1 + 3 * 8191.
     (1, 8191, 24575),

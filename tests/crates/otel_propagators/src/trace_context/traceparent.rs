@@ -3,10 +3,10 @@ use crate::trace_context::{TRACEPARENT, assert_read};
 use std::alloc::{AllocError, Global};
 use std::test::Fail;
 
-/// What is written in place of a byte.
+/// The characters written in place of a byte.
 const WRITTEN: [char; 6] = ['0', 'f', 'g', 'A', '-', ' '];
 
-/// The text of ids 1 and 1 and flags 1 with that byte replaced.
+/// The text of ids 1 and 1 and flags 1 with the byte at `place` replaced.
 fn replaced(alloc: Global, place: usize, with: char) -> Result<String, AllocError> {
     let mut text = String::new(alloc);
     for (at, byte) in TRACEPARENT.chars().enumerate() {
@@ -15,7 +15,7 @@ fn replaced(alloc: Global, place: usize, with: char) -> Result<String, AllocErro
     Ok(text)
 }
 
-/// The number 1 whose digit so many places before the last one is written anew.
+/// The number 1 with the digit `before` places before the last one replaced.
 fn number(before: usize, digit: u128) -> u128 {
     if before == 0 {
         digit
@@ -24,7 +24,8 @@ fn number(before: usize, digit: u128) -> u128 {
     }
 }
 
-/// What the form has at a place: a byte, or a digit.
+/// The ids and flags read from the text with the character `with` at `place`, or `None` if it can't
+/// be read.
 fn expected(place: usize, with: char) -> Option<(u128, u64, u8)> {
     let fixed = match place {
         0 | 1 => Some('0'),
@@ -40,7 +41,7 @@ fn expected(place: usize, with: char) -> Option<(u128, u64, u8)> {
         _ => return None,
     };
     match place {
-        // An id of 0 is no id.
+        // An id of 0 isn't valid.
         34 | 51 if digit == 0 => None,
         3..=34 => Some((number(34 - place, digit), 1, 1)),
         36..=51 => Some((1, number(51 - place, digit) as u64, 1)),
@@ -184,7 +185,7 @@ fn a_text_is_of_the_form_or_no_data(rt: HostRuntime) -> Result<(), Fail> {
     Ok(())
 }
 
-/// A long text that isn't of the form is given up at its first wrong byte.
+/// Reading stops at the first wrong byte of a long text.
 #[test]
 fn a_long_text_is_no_data(rt: HostRuntime) -> Result<(), Fail> {
     let alloc = rt.alloc();

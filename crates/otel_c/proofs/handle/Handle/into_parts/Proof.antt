@@ -1,4 +1,4 @@
--- `into_parts` compares the pointer with null, and what it owns goes to the parts.
+-- `into_parts` compares the pointer with null, and the parts get its ownership.
 use Rattle.std.proofs.Common.{◌≡◌, List, [], ◌∷◌, ◌++◌, refl, sym, ap, ◌∙◌, subst, lit<}
 use lib.Dec.{T}
 use mir.Val.{Val, vnull, vcons, vnil, ptr_eq_ok}
@@ -45,7 +45,7 @@ into_parts_spec 𝓤 𝓛 𝓜 𝓡 wired =
     let d = z.0.3.0 in let a = z.0.3.1.0 in
     qed 𝓛 ((raw (alive 𝓛 En.signature z.0.0 z.0.1) ⊛ ‵ (owns (types_at En.signature.params z.0.0) z.0.3 z.0.4)) ∷ raw ((c z.0.0 z.0.3).requires z.1) ∷ []) ∵ split ! $ move ! (1 ∷ []) $ fsplit ! $
     handle_out ! d z.0.4.0 (λ ws. move ! (1 ∷ []) $ fsplit ! $ handle_tells E.al ! a z.0.4.1.0 (λ h eh fh. move ! (2 ∷ []) $
-    -- [what the handle owns; the heap; true; the tokens; ..]
+    -- [the ownership of the handle; the heap; true; the tokens; ..]
     either_owned ! a d.object d.at
     (λ is none. suffices ! (Run (handle_val null_ptr ∷ h ∷ [])) (subst (λ (us : List Val). ent 𝓤 (Run (handle_val null_ptr ∷ h ∷ [])) (Run us)) (sym (λ i. (ws ∙ ap (λ (q : Ptr). handle_val q ∷ []) is) i ++ (eh i ++ []))) (id⊢ 𝓤 _)) $
     enter ! 𝓣.C 𝓣.Λ fn (handle_val null_ptr ∷ h ∷ []) Post $ alloc_all ! (λ l. pass_all ! refl ((tt, (record { fits = lit< tt }, tt)), (fh, tt)) $ let Ev = env fn.locals l in

@@ -1,4 +1,4 @@
--- `of_parts` keeps the pointer, and what the parts own goes with it.
+-- `of_parts` keeps the pointer, and the handle gets the ownership of the parts.
 use mathlib.Core.Path.{refl, sym, subst}
 use mathlib.Core.List.{List, [], ◌∷◌, ◌++◌}
 use seplogic.Ra.Ura.{Ura}

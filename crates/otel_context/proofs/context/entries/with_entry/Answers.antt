@@ -8,7 +8,7 @@ use Rattle.otel_context.proofs.EntryLemmas.{text_cmp, searchable, pairs-joined, 
 use Rattle.otel_context.proofs.context.entries.with_entry.Goals.{in-Ok, in-Err}
 use Rattle.otel_context.proofs.context.entries.with_entry.Goals as goal
 
--- the parts around the place, with the entry between them, are what `put` gives
+-- the parts around the place, with the entry between them, are the result of `put`
 around : (c : goal.In_ok-extend_with_clones-2)
     → pairs (take c.match-search.before.0 c.args.items.now) ++ (c.args.entry.value.key, tree c.args.entry.value.value) ∷ pairs (drop c.match-search.before.1 c.args.items.now)
     ≡ put text_cmp c.args.entry.value.key (tree c.args.entry.value.value) (pairs c.args.items.now)

@@ -1,4 +1,4 @@
-//! What the members of a composite extract, each from the context that the one before gave.
+//! Extraction by the members of a composite, each from the context that the previous one returned.
 use crate::members::{EntryCopier, RefusingMember, entry, with_text};
 use opentelemetry::context::{Context, ContextStack};
 use opentelemetry::propagation::text_map_propagator::FieldIter;
@@ -9,7 +9,7 @@ use std::alloc::Global;
 use std::test::Fail;
 use test_support::map_of;
 
-/// Extracts an entry: the carrier's text under a key, where there is one.
+/// Extracts an entry: the carrier's text under a key, if there is one.
 #[derive(Drop)]
 struct TextReader {
     key: &'static str,
@@ -81,7 +81,8 @@ fn each_member_starts_from_the_one_before(rt: HostRuntime) -> Result<(), Fail> {
     Ok(())
 }
 
-/// A member that may not be asked: it would extract an entry, and the test looks that it isn't called.
+/// A member that must not be called: it would extract an entry, and the test checks that it
+/// doesn't.
 #[test]
 fn a_member_refuses_extraction_between_two(rt: HostRuntime) -> Result<(), Fail> {
     let alloc = rt.alloc();

@@ -1,4 +1,4 @@
-//! What the members of a composite set, in order.
+//! Injection by the members of a composite, in order.
 use crate::members::{
     RefusingMember, assert_held, carrier_refusing_after, composite_of, stamps_of,
 };
@@ -10,7 +10,8 @@ use std::process::Abort;
 use std::test::Fail;
 use test_support::held;
 
-/// After how many texts a carrier refuses one, whether it came to that, and what it then holds.
+/// The number of texts after which a carrier refuses one, whether it was reached, and the texts of
+/// the carrier.
 struct Refusal {
     before: usize,
     is_refused: bool,
@@ -18,7 +19,7 @@ struct Refusal {
     held: &'static [(&'static str, &'static str)],
 }
 
-/// Of `x`, `y` and `x` again.
+/// For `x`, `y` and `x` again.
 const REFUSALS: &[Refusal] = &[
     Refusal {
         before: 0,
@@ -46,7 +47,7 @@ const REFUSALS: &[Refusal] = &[
     },
 ];
 
-/// Injects, and asserts the answer and what the carrier then holds.
+/// Injects, and asserts the result and the texts of the carrier.
 fn assert_refusal(
     rt: &impl Abort,
     alloc: Global,
@@ -124,8 +125,8 @@ fn a_composite_injects_from_the_current_context(rt: HostRuntime) -> Result<(), F
     Ok(())
 }
 
-/// Before which text a carrier refuses, whether an injection of `x`, `y` and then `X` by a second
-/// member came to that, and what the carrier then holds.
+/// The text that a carrier refuses, whether an injection of `x`, `y` and then `X` by a second
+/// member reached it, and the texts of the carrier.
 const REFUSED_AT: &[(usize, bool, &[(&str, &str)])] = &[
     (1, true, &[("x", "none"), ("y", "none")]),
     (2, true, &[("x", "1"), ("y", "none")]),

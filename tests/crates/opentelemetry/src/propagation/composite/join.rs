@@ -1,4 +1,4 @@
-//! Joined composites: injection, extraction and fields are those of the members of both, in order.
+//! Joined composites inject, extract and name fields as the members of both do, in order.
 use crate::members::{
     EntryCopier, assert_fields, assert_held, composite_of, entry, stamps_of, with_text,
 };
@@ -80,7 +80,7 @@ fn composite_of_half(alloc: Global, half: Half) -> Result<TextMapCompositePropag
     TextMapCompositePropagator::new(alloc, members)
 }
 
-/// Checks what is extracted from a context with the entry `a` alone, and the fields.
+/// Checks the context extracted from one with only the entry `a`, and the fields.
 fn assert_extracts(
     rt: &impl Abort,
     alloc: Global,
@@ -103,7 +103,7 @@ fn assert_extracts(
     Ok(())
 }
 
-/// An entry is copied on only where its copier stands after the one that made it.
+/// An entry is copied further only if its copier comes after the member that made it.
 #[test]
 fn two_halves_extract_in_each_order(rt: HostRuntime) -> Result<(), Fail> {
     let alloc = rt.alloc();

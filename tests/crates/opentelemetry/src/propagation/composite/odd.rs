@@ -28,7 +28,7 @@ fn nothing_is_set_after_a_refusal(rt: HostRuntime) -> Result<(), Fail> {
     Ok(())
 }
 
-/// A carrier that puts each text under another key than it is given. It breaks the law of
+/// A carrier that stores each text under another key than given. It breaks the law of
 /// `Injector::set`, and couldn't be proved.
 #[derive(Drop)]
 struct RenamingCarrier {
@@ -47,7 +47,7 @@ impl Injector for RenamingCarrier {
     }
 }
 
-/// A composite doesn't look at what a carrier made of a text: each is set once, in order.
+/// A composite doesn't inspect a carrier after setting a text: each is set once, in order.
 #[test]
 fn a_carrier_may_choose_other_keys(rt: HostRuntime) -> Result<(), Fail> {
     let alloc = rt.alloc();
@@ -70,7 +70,7 @@ fn a_carrier_may_choose_other_keys(rt: HostRuntime) -> Result<(), Fail> {
     Ok(())
 }
 
-/// A carrier that gives each key twice, and counts how often a value is asked for. It breaks the
+/// A carrier that returns each key twice, and counts how often a value is requested. It breaks the
 /// law of `Extractor::keys`, and couldn't be proved.
 #[derive(Drop)]
 struct TwiceCarrier {
@@ -107,7 +107,7 @@ fn twice_of(alloc: Global, pairs: &[(&str, &str)]) -> Result<TwiceCarrier, Propa
     })
 }
 
-/// Extracts, for each key that the carrier gives, an entry named by it with its value.
+/// Extracts an entry for each key of the carrier, named by the key and with its value.
 #[derive(Drop)]
 struct EveryKey;
 
@@ -171,7 +171,8 @@ fn a_carrier_may_give_its_keys_twice(rt: HostRuntime) -> Result<(), Fail> {
     Ok(())
 }
 
-/// The composite of a member that asks for each key, so many that refuse, and one more that asks.
+/// The composite of a member that requests each key, a number of refusing ones, and one more that
+/// requests each key.
 fn refusing_between(
     alloc: Global,
     refusing: usize,
@@ -200,7 +201,7 @@ fn no_member_is_asked_after_one_that_refuses(rt: HostRuntime) -> Result<(), Fail
     Ok(())
 }
 
-/// Lists of pairs of members, and what a map that held `kept` and `k` holds then.
+/// Lists of pairs of members, and the resulting texts of a map that contained `kept` and `k`.
 type Odd = (
     &'static [&'static [(&'static str, &'static str)]],
     &'static str,

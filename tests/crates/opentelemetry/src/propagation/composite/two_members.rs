@@ -1,6 +1,6 @@
-//! A composite of two members, of which one carries a span id and the other a baggage.
+//! A composite of two members, one for a span id and one for a baggage.
 //!
-//! No proof reads the members: the ghost members that their trait asks for say the least that they may.
+//! No proof reads the members: the ghost members required by their trait say as little as possible.
 use crate::members::{assert_fields, assert_held};
 use opentelemetry::baggage::Baggage;
 use opentelemetry::propagation::text_map_propagator::FieldIter;
@@ -14,7 +14,7 @@ use std::collections::HashMap;
 use std::test::Fail;
 use test_support::map_of;
 
-/// What both members are made of: the allocator of what is set, and the name of the field.
+/// The parts of both members: the allocator of the texts, and the name of the field.
 #[derive(Drop)]
 struct Field {
     alloc: Global,
@@ -28,7 +28,7 @@ fn field(alloc: Global, name: &str) -> Result<Field, AllocError> {
     })
 }
 
-/// The local span context of trace 1 with that span id.
+/// The local span context of trace 1 with this span id.
 fn in_trace_1(span_id: SpanId) -> SpanContext {
     SpanContext::new(
         TraceId::from(1),
@@ -39,7 +39,7 @@ fn in_trace_1(span_id: SpanId) -> SpanContext {
     )
 }
 
-/// Carries the span id, in hexadecimal digits without leading zeros.
+/// Sets and reads the span id, in hexadecimal digits without leading zeros.
 #[derive(Drop)]
 struct SpanIdMember {
     field: Field,
@@ -83,13 +83,13 @@ impl TextMapPropagator for SpanIdMember {
     }
 }
 
-/// Carries a baggage of at most one member, as its text.
+/// Sets and reads a baggage of at most one member, as its text.
 #[derive(Drop)]
 struct BaggageMember {
     field: Field,
 }
 
-/// The baggage of the one member that the text has, as `key=value`.
+/// The baggage with the one member of the text, `key=value`.
 fn read(alloc: Global, text: &str) -> Result<Baggage, AllocError> {
     let mut baggage = Baggage::new(alloc);
     if let Some((key, value)) = text.split_once('=') {
@@ -150,7 +150,7 @@ fn composite(alloc: Global) -> Result<TextMapCompositePropagator, AllocError> {
     TextMapCompositePropagator::new(alloc, members)
 }
 
-/// What is set for span id 11 of trace 1 and the baggage of one pair.
+/// The texts set for span id 11 of trace 1 and the baggage with one pair.
 const TEXTS: &[(&str, &str)] = &[("span-id", "b"), ("baggage", "baggagekey=value")];
 
 #[test]

@@ -1,11 +1,11 @@
-//! Bodies that change what they are lent in odd ways.
+//! Bodies that change their borrowed arguments in odd ways.
 use crate::trace::in_span::in_span;
 use opentelemetry::context::ContextStack;
 use opentelemetry::trace::Spans;
 use std::test::Fail;
 use test_support::{name_of, named};
 
-/// What a body puts in the place of its own context is removed with it.
+/// A context that a body attaches in place of its own is removed with it.
 #[test]
 fn what_stands_in_place_of_the_bodys_context_is_removed(rt: HostRuntime) -> Result<(), Fail> {
     let alloc = rt.alloc();
@@ -24,7 +24,8 @@ fn what_stands_in_place_of_the_bodys_context_is_removed(rt: HostRuntime) -> Resu
     Ok(())
 }
 
-/// A body that removes what stood before it leaves nothing: its own context goes after it.
+/// If a body removes the contexts below its own, nothing remains: its own context is removed after
+/// it.
 #[test]
 fn a_body_may_remove_what_stood_before_it(rt: HostRuntime) -> Result<(), Fail> {
     let alloc = rt.alloc();
@@ -45,7 +46,7 @@ fn a_body_may_remove_what_stood_before_it(rt: HostRuntime) -> Result<(), Fail> {
     Ok(())
 }
 
-/// A body may put a whole new stack and table in the place of those that it was lent.
+/// A body may replace the whole stack and table that it borrows.
 #[test]
 fn a_body_may_replace_what_it_is_lent(rt: HostRuntime) -> Result<(), Fail> {
     let alloc = rt.alloc();

@@ -1,4 +1,4 @@
-//! The greatest position and the greatest number of a span, one below, at and above, by each call
+//! The greatest position and the greatest number of a span, one below, at and above, with each call
 //! that runs a body in a span.
 use opentelemetry::StringValue;
 use opentelemetry::context::{Context, ContextStack, HasCurrent};
@@ -24,8 +24,8 @@ const IN_SPANS: &[InSpan] = &[
     InSpan::BuilderAndContext,
 ];
 
-/// What a body sees: the newest position, the name of the current context, whether that has a span,
-/// and the number of its own span.
+/// The state that a body sees: the newest position, the name of the current context, whether that
+/// has a span, and the number of its own span.
 #[derive(Drop, Debug, PartialEq)]
 struct Inside {
     newest: u16,
@@ -43,7 +43,7 @@ fn look(alloc: Global, stack: &ContextStack, context: &Context) -> Result<Inside
     })
 }
 
-/// What the body saw and the number of the span, or the error.
+/// The state that the body saw and the number of the span, or the error.
 type Ran = Result<(Result<Inside, AllocError>, u64), StartError<RecordingSpan>>;
 
 fn in_span(
@@ -77,7 +77,7 @@ fn in_span(
 #[test]
 fn a_body_runs_at_the_last_position_and_above(rt: HostRuntime) -> Result<(), Fail> {
     for (newest, position) in POSITIONS {
-        // Each way leaves the stack as it was.
+        // Each variant leaves the stack unchanged.
         let mut stack = filled(rt.alloc(), *newest)?;
         for way in IN_SPANS {
             let mut spans = Spans::new(rt.alloc());
@@ -108,7 +108,7 @@ fn a_body_gets_the_last_number(rt: HostRuntime) -> Result<(), Fail> {
                 Err(StartError::Refused(refused)) => {
                     assert!(rt; !*is_given, "{way:?} at {first}");
                     assert!(rt; matches!(&refused.cause, SpanCause::NumbersUsedUp));
-                    // The tracer made the span: its id is the one after that of no parent.
+                    // The tracer made the span: its id is the one after 0, the id of no parent.
                     assert_eq!(rt;
                         refused.span.span_context().span_id(),
                         span_context(1).span_id()

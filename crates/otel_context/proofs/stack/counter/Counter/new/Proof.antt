@@ -1,4 +1,4 @@
--- `new` makes a value of no bytes, at count 0.
+-- `new` makes a value of size zero, at count 0.
 use Rattle.std.proofs.Common.{◌≡◌, [], ◌∷◌, refl}
 use Rattle.std.proofs.raw_atomic.Walks.{proved}
 use mir.Val.{vstruct, vnil}

@@ -1,4 +1,4 @@
--- An empty body. The borrow is opened, and closed at one more.
+-- An empty body. The borrow is opened, and closed with one more.
 use Rattle.std.proofs.Common.{◌≡◌, ap, ◌+◌, [], ◌∷◌, refl}
 use Rattle.std.proofs.raw_atomic.Walks.{proved}
 use base.Logic.{id⊢}
