@@ -110,6 +110,7 @@ fn with_member(
     ensures refused { IfErr result
         (PutRefused (given_member key.now value.now metadata.now) (members context.now)) }
 {
+    // Asks the baggage first, so a refusal copies nothing.
     if !accepts(alloc, context, key, value, metadata.trim()) {
         return Err(reason(alloc, key));
     }

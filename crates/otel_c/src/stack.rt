@@ -87,6 +87,7 @@ fn attach(
     ensures kept { context.new.object ≡ context.old.object }
     ensures refused { IfErr result (AttachRefused context.old.object stack.old.object) }
 {
+    // Takes a copy, so a refusal loses nothing.
     let context = copy(alloc, context)?;
     push_to(alloc, stack, context, position)
 }

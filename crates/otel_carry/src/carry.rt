@@ -26,6 +26,8 @@ use std::io::{self, Read, Write};
 /// line and the line that says so was written. Otherwise it is 1: the input couldn't be read, the
 /// injection or the extraction failed, a write or the flush failed, or the program was out of
 /// memory. Nothing is written after a failed write.
+///
+/// Public in a program, since a crate is a library or a program.
 pub fn carry<R: Read + Drop, W: Write>(
     alloc: Global,
     input: R,

@@ -27,6 +27,7 @@ pub fn read_whole<R: Read + Drop>(alloc: Global, mut input: R) -> Result<Vec<u8>
 {
     let mut bytes = Vec::new(alloc);
     let mut room = [0u8; ROOM];
+    // A loop, because `read_to_end` promises no number of reads.
     for _ in 0..READS {
         match input.read(&mut room) {
             Ok(0) => return Ok(bytes),

@@ -19,12 +19,12 @@ use std::fmt::Display;
 /// A piece of work in a trace. Records what happens while it runs.
 ///
 /// Implementors define the effect of each writing call as a ghost function of the span and of the
-/// arguments' meaning: `after_event` (of a name, a time and attributes), `after_attribute`,
-/// `after_link`, `after_status`, `after_name` and `after_end`. They also define the results of
-/// `span_context` and `is_recording`: `context_of` and `records`. Each call has its effect or, on
-/// an error, leaves the span unchanged. No effect changes the span context (`event_keeps` and the
-/// five similar laws). The other calls are provided. The type decides the effect of the calls after
-/// the span has ended.
+/// arguments' meaning (a list of attributes, not a `Vec`, whose capacity would count):
+/// `after_event` (of a name, a time and attributes), `after_attribute`, `after_link`,
+/// `after_status`, `after_name` and `after_end`. They also define the results of `span_context` and
+/// `is_recording`: `context_of` and `records`. Each call has its effect or, on an error, leaves the
+/// span unchanged. No effect changes the span context (`event_keeps` and the five similar laws).
+/// The other calls are provided. The type decides the effect of the calls after the span has ended.
 ///
 /// One effect with its law and its call, for a span type that stores its name:
 ///

@@ -14,7 +14,8 @@ use otel_context::Context;
 /// `traceparent`, the context that is extracted into keeps its span. Nothing else of that context
 /// changes.
 ///
-/// Every context meets the conditions, by [`every_context`].
+/// A law ranges over all records, so it requires `IsContext`. Every context meets that, by
+/// [`every_context`].
 pub fn headers_there_and_back()
     // One propagator injects after the other, in either order.
     ensures in_turn { ComesBackInTurn }

@@ -18,6 +18,8 @@ pub enum PropagationError {
     Refused,
 }
 
+// By hand: the one from `thiserror` promises nothing, so no clause could say that `?` gives
+// `Memory`.
 impl From<AllocError> for PropagationError {
     ghost from_gives = { λ error converted. converted ≡ Memory error };
 

@@ -19,13 +19,14 @@ use std::fmt;
 use std::marker::Model;
 
 /// The maximum number of members for which a look-up walks. Otherwise, it finds a key by its hash.
+/// A walk over so few is faster than a hash.
 const WALKED: usize = 4;
 
 /// Keys, each with a value and metadata, in insertion order.
 ///
 /// The keys of the map are names, each made from an owned key. A look-up uses a name that borrows a
 /// text, so it doesn't allocate: a map of `'static` names may be used as one of names with the
-/// lifetime of that text.
+/// lifetime of that text. Such a name needs no impl of the map's trait for look-ups.
 #[derive(Drop)]
 pub struct Members {
     map: IndexMap<Name<'static>, (StringValue, BaggageMetadata)>,

@@ -11,7 +11,7 @@ use std::marker::Model;
 use std::rc::Rc;
 
 /// The maximum number of entries that `get` walks. A larger map is searched by binary search, which
-/// compares fewer names.
+/// compares fewer names. The two cost the same at about twelve.
 const WALKED: usize = 8;
 
 #[derive(Drop)]

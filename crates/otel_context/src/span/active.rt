@@ -38,6 +38,8 @@ pub fn mark_span_as_active<S: Span>(
     ensures refused { IfErr result (λ refused. refused ≡ refusal spans.old span) }
 {
     let number = spans.next_number();
+    // The span goes in first and comes out if the attach fails: an undone attach would count as
+    // accepted.
     let context = match stack.current_with_span(spans, span) {
         Ok(context) => context,
         Err(refused) => return Err(refused),
@@ -55,8 +57,9 @@ pub fn mark_span_as_active<S: Span>(
 ///
 /// The calls of [`SpanRef`] say how `f` changes the span. No other span of the table changes.
 ///
-/// `f` must not replace the reference with another one. The prover sees this for a closure whose
-/// body only calls methods of the reference:
+/// `f` must not replace the reference with another one, since then nothing would be known of the
+/// table that was lent. The prover sees that `f` keeps it if `f` is a closure whose body only calls
+/// methods of the reference:
 ///
 /// ```
 /// get_active_span(&stack, &mut spans, |span| span.end(NOW));

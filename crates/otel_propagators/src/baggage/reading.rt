@@ -180,7 +180,8 @@ fn insert_piece(alloc: Global, baggage: &mut Baggage, piece: &str) -> Result<(),
 }
 
 /// Returns the baggage read from the text: the members of its pieces, inserted in order into an
-/// empty baggage.
+/// empty baggage. Only members that are accepted take memory, so a million commas take no more than
+/// a baggage does.
 pub(super) fn read_baggage(alloc: Global, text: &str) -> Result<Baggage, AllocError>
     ensures { IfOk result (λ baggage. baggage ≡ read_baggage text.now) }
 {

@@ -98,6 +98,7 @@ fn start_active<P: Pipeline>(
         Err(error) => return EventOutcome::Failed(OTelSdkError::Memory(error)),
     };
     match live.start_in(stack, span) {
+        // If the attach is refused, the span stays started.
         Ok(context) => match attach(stack, context) {
             EventOutcome::Done => EventOutcome::Done,
             _ => EventOutcome::NotAttached,
@@ -156,8 +157,9 @@ fn apply<P: Pipeline, E: SpanExporter>(
 ///
 /// The spans are numbered from 0, in the order of their starts. Nothing is exported but in a
 /// [`SpanEvent::Flush`] and a [`SpanEvent::Shutdown`], and an exported span is as it was recorded
-/// at its end. After a shutdown the ended spans stay where they are. The report holds the spans
-/// that weren't collected, and the processor with those that weren't exported.
+/// at its end. After a shutdown the ended spans stay where they are. Spans accepted before a
+/// shutdown count even if the exporter then forgets them. The report holds the spans that weren't
+/// collected, and the processor with those that weren't exported.
 ///
 /// # Errors
 ///
