@@ -1,4 +1,7 @@
 pub mod Attributes
 pub mod Clock
+pub mod Export
+pub mod Queue
+pub mod QueueView
 pub mod Resource
 pub mod ResourceTexts

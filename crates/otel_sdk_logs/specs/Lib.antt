@@ -1,6 +1,5 @@
 pub mod Attributes
 pub mod LogRecord
-pub mod Export
 pub mod Processor
 pub mod Batch
 pub mod Provider

@@ -12,11 +12,11 @@ mod provider;
 mod record;
 
 pub use export::{LogData, LogExporter};
-pub use in_memory_exporter::InMemoryLogExporter;
+pub use in_memory_exporter::{EmittedLogs, InMemoryLogExporter};
 pub use logger::SdkLogger;
+pub use otel_sdk_base::{BatchConfig, BatchConfigBuilder};
 pub use processor::LogProcessor;
 pub use processor::batch::BatchLogProcessor;
-pub use processor::config::{BatchConfig, BatchConfigBuilder};
 pub use processor::simple::SimpleLogProcessor;
 pub use provider::{LoggerProviderBuilder, SdkLoggerProvider};
 pub use record::{SdkLogRecord, TraceContext};

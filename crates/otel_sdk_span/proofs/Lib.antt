@@ -1,2 +1,1 @@
 mod SpanContexts
-mod Walks

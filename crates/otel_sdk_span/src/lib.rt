@@ -2,13 +2,11 @@
 //! `otel_sdk` re-exports all of it.
 #![tactic(auto)]
 
-mod batches;
 mod data;
 mod export;
 mod limits;
 mod span;
 
-pub use batches::{Accepted, Batch};
 pub use data::{SpanData, SpanEvents, SpanLinks};
 pub use export::SpanExporter;
 pub use limits::SpanLimits;

@@ -1,14 +1,15 @@
 //! The processor that exports each log record when it is emitted.
-ghost use Rattle.std.specs.Prelude.{◌≡◌, [], false, not, length, IfOk, OnOk};
-ghost use Rattle.otel_sdk_logs.specs.Processor as spec;
-ghost use Rattle.otel_sdk_logs.specs.Processor.{IsFlushed, IsHandedIn, taken_of, with_dropped};
-ghost use Rattle.otel_sdk_logs.specs.Processor.{IsRefusedIfClosed, FailedIfOpen, FlushedIfClosed};
+ghost use Rattle.std.specs.Prelude.{◌≡◌, false, not, length, IfOk};
+ghost use Rattle.otel_sdk_base.specs.Queue as spec;
+ghost use Rattle.otel_sdk_base.specs.Queue.{IsFlushed, IsForceFlushed, IsKeptOrDropped, IsShutDown};
+ghost use Rattle.otel_sdk_base.specs.Queue.{OnlyExporterChanges, received_of, with_dropped};
+ghost use Rattle.otel_sdk_logs.specs.Processor.{after_emit};
 ghost use Rattle.otel_sdk_logs.specs.Batch.{simple_state};
 
 use crate::export::{LogData, LogExporter};
 use crate::processor::LogProcessor;
 use crate::processor::batch::BatchLogProcessor;
-use crate::processor::config::BatchConfigBuilder;
+use otel_sdk_base::BatchConfigBuilder;
 use otel_sdk_base::error::OTelSdkResult;
 use otel_sdk_base::resource::Resource;
 use std::alloc::{AllocError, Global};
@@ -29,7 +30,7 @@ pub struct SimpleLogProcessor<E> {
 }
 
 impl<E: LogExporter> SimpleLogProcessor<E> {
-    /// Returns a processor without records, with room for those that are refused.
+    /// Returns a processor without records, with memory for those that are refused.
     ///
     /// # Errors
     ///
@@ -62,43 +63,36 @@ impl<E: LogExporter> SimpleLogProcessor<E> {
 
 impl<E: LogExporter> LogProcessor for SimpleLogProcessor<E> {
     ghost use Rattle.std.specs.Prelude.{not};
-    ghost use Rattle.otel_sdk_logs.specs.Processor.{taken_of};
+    ghost use Rattle.otel_sdk_base.specs.Queue.{received_of};
     ghost use Rattle.otel_sdk_logs.specs.Batch.{simple_state};
 
-    ghost taken = { λ p. taken_of E.accepted (simple_state p) };
+    ghost received = { λ p. received_of E.accepted (simple_state p) };
 
-    ghost takes = { λ p. not (simple_state p).is_shut_down };
+    ghost receives = { λ p. not (simple_state p).is_shut_down };
 
     /// Queues the record, or drops and counts it if the processor is closed or the queue is full.
     /// Then flushes the processor; what the exporter didn't accept stays queued, in order.
     fn on_emit(&mut self, given: LogData)
-        ensures flushed { IsFlushed E.accepted (spec.after_emit given (simple_state self.old))
+        ensures flushed { IsFlushed E.accepted (after_emit given (simple_state self.old))
             (simple_state self.new) }
-        ensures handed_in { IsHandedIn given (taken_of E.accepted (simple_state self.old))
-            (taken_of E.accepted (simple_state self.new)) }
+        ensures handed_in { IsKeptOrDropped given (received_of E.accepted (simple_state self.old))
+            (received_of E.accepted (simple_state self.new)) }
         ensures closed { not (simple_state self.old).is_shut_down ≡ false
-            → taken_of E.accepted (simple_state self.new)
-            ≡ with_dropped (taken_of E.accepted (simple_state self.old)) }
+            → received_of E.accepted (simple_state self.new)
+            ≡ with_dropped (received_of E.accepted (simple_state self.old)) }
     {
         self.inner.on_emit(given);
         let _ = self.inner.force_flush();
     }
 
     fn force_flush(&mut self) -> OTelSdkResult
-        ensures flushed { IsFlushed E.accepted (simple_state self.old) (simple_state self.new) }
-        ensures taken { taken_of E.accepted (simple_state self.new)
-            ≡ taken_of E.accepted (simple_state self.old) }
-        ensures ok { OnOk result ((simple_state self.new).queue ≡ []) }
-        ensures closed { IsRefusedIfClosed result (simple_state self.old) (simple_state self.new) }
+        ensures { IsForceFlushed E.accepted result (simple_state self.old) (simple_state self.new) }
     {
         self.inner.force_flush()
     }
 
     fn shutdown(&mut self) -> OTelSdkResult
-        ensures closed { IsRefusedIfClosed result (simple_state self.old) (simple_state self.new) }
-        ensures open { FailedIfOpen E.accepted result
-            (simple_state self.old) (simple_state self.new) }
-        ensures shut_down { FlushedIfClosed E.accepted E.shuts_down
+        ensures { IsShutDown E.accepted E.shuts_down result
             (simple_state self.old) (simple_state self.new) }
     {
         self.inner.shutdown()
@@ -113,19 +107,14 @@ impl<E: LogExporter> LogProcessor for SimpleLogProcessor<E> {
 
     /// Returns how many records were dropped. Stops at the greatest `u64`.
     fn dropped_records(&self) -> u64
-        ensures { result ≡ (simple_state self.now).dropped_records }
+        ensures { result ≡ (simple_state self.now).dropped }
     {
         self.inner.dropped_records()
     }
 
     /// Tells the exporter the resource of the records to come.
     fn set_resource(&mut self, resource: Rc<Resource>)
-        ensures exporter { E.accepted (simple_state self.new).exporter
-            ≡ E.accepted (simple_state self.old).exporter }
-        ensures same { simple_state self.new
-            ≡ record (simple_state self.old) { exporter = (simple_state self.new).exporter } }
-        ensures taken { taken_of E.accepted (simple_state self.new)
-            ≡ taken_of E.accepted (simple_state self.old) }
+        ensures { OnlyExporterChanges E.accepted (simple_state self.old) (simple_state self.new) }
     {
         self.inner.set_resource(resource);
     }

@@ -1,12 +1,11 @@
--- How a queue of log records is handed to an exporter in batches.
+-- How a queue is handed to an exporter in batches, and what an exporter in memory has.
 use Rattle.std.specs.Prelude.{◌≡◌, ℕ, zero, suc, ◌*◌, ◌<◌, Bool, List, [], ◌∷◌, ◌++◌, take, drop}
 use Rattle.std.specs.Prelude.{length, refl}
 use Rattle.std.specs.List.{flat_map}
-use Rattle.otel_sdk_logs.specs.LogRecord.{LogEntry}
 
--- the records of the batches, in order
-abbrev pub records_of : List (List LogEntry) → List LogEntry
-records_of batches = flat_map (λ batch. batch) batches
+-- the items of the batches, in order
+abbrev pub items_of : {X : Type 0} → List (List X) → List X
+items_of batches = flat_map (λ batch. batch) batches
 
 -- the first `count` batches of a list: each has this size, but the last of the list has what is
 -- left; a, b, c in batches of 2 are [a, b] and [c]
@@ -16,8 +15,8 @@ batches size (suc count) xs = take size xs ∷ batches size count (drop size xs)
 
 -- The first batches of a queue were accepted, in order and each once, and what is left of the queue
 -- comes after them.
-pub record AreExported (size : ℕ) (queue : List LogEntry) (old new : List (List LogEntry))
-    (left : List LogEntry) : Type 0 where
+pub record AreExported {X : Type 0} (size : ℕ) (queue : List X) (old new : List (List X))
+    (left : List X) : Type 0 where
   -- how many batches
   pub count : ℕ
   -- none of them is empty
@@ -25,10 +24,11 @@ pub record AreExported (size : ℕ) (queue : List LogEntry) (old new : List (Lis
   pub accepted : new ≡ old ++ batches size count queue
   pub rest : left ≡ drop (count * size) queue
 
--- What an exporter that keeps log records in memory has: the batches that it accepted since it was
--- last emptied, and whether it was shut down (the Rust crate's `InMemoryLogExporter`).
-pub record InMemory : Type 0 where
-  pub accepted : List (List LogEntry)
+-- What an exporter that keeps items in memory has: the batches that it accepted since it was last
+-- emptied, and whether it was shut down (the Rust crate's `InMemorySpanExporter` and
+-- `InMemoryLogExporter`).
+pub record InMemory (X : Type 0) : Type 0 where
+  pub accepted : List (List X)
   pub is_shut_down : Bool
 
 -- ---- worked rows

@@ -1,11 +1,11 @@
-//! The limits of a processor's queue.
+//! The limits of a queue.
 ghost use Rattle.std.specs.Prelude.{◌≡◌};
-ghost use Rattle.otel_sdk_logs.specs.Processor.{effective, default_limits};
+ghost use Rattle.otel_sdk_base.specs.Queue.{effective, default_limits};
 
 use std::default::Default;
 use std::marker::Model;
 
-/// How many records a [`crate::BatchLogProcessor`] queues and exports at once (the Rust
+/// How many spans or log records a batching processor queues and exports at once (the Rust
 /// crate's `BatchConfig`, without its delays, as there is no clock to wait on).
 ///
 /// See [`BatchConfigBuilder`].
@@ -17,7 +17,7 @@ pub struct BatchConfig {
 
 impl Model for BatchConfig {
     ghost use Rattle.std.specs.Prelude.{◌≤◌, ◌<◌};
-    ghost use Rattle.otel_sdk_logs.specs.Processor.{Limits};
+    ghost use Rattle.otel_sdk_base.specs.Queue.{Limits};
 
     ghost Value = { Limits };
 
@@ -33,7 +33,7 @@ impl Model for BatchConfig {
 impl Default for BatchConfig {
     ghost is_default = { λ c. c ≡ default_limits };
 
-    /// Returns the limits of 2,048 records in a queue and 512 in a batch.
+    /// Returns the limits of 2,048 items in a queue and 512 in a batch.
     fn default() -> BatchConfig {
         BatchConfigBuilder::default().build()
     }
@@ -51,7 +51,7 @@ pub struct BatchConfigBuilder {
 }
 
 impl Model for BatchConfigBuilder {
-    ghost use Rattle.otel_sdk_logs.specs.Processor.{Limits};
+    ghost use Rattle.otel_sdk_base.specs.Queue.{Limits};
 
     ghost Value = { Limits };
 
@@ -64,7 +64,7 @@ impl Model for BatchConfigBuilder {
 impl Default for BatchConfigBuilder {
     ghost is_default = { λ b. b ≡ default_limits };
 
-    /// Returns the limits of 2,048 records in a queue and 512 in a batch (OpenTelemetry logs SDK,
+    /// Returns the limits of 2,048 items in a queue and 512 in a batch (OpenTelemetry trace SDK and logs SDK,
     /// "Batching processor").
     fn default() -> BatchConfigBuilder {
         BatchConfigBuilder {
@@ -75,7 +75,7 @@ impl Default for BatchConfigBuilder {
 }
 
 impl BatchConfigBuilder {
-    /// Sets how many records are queued at most; 0 counts as 1.
+    /// Sets how many items are queued at most; 0 counts as 1.
     pub fn with_max_queue_size(mut self, max_queue_size: usize) -> BatchConfigBuilder
         ensures { result ≡ record self { max_queue_size = max_queue_size } }
     {
@@ -83,7 +83,7 @@ impl BatchConfigBuilder {
         self
     }
 
-    /// Sets how many records a batch has at most; 0 counts as 1, and what is greater than the
+    /// Sets how many items a batch has at most; 0 counts as 1, and what is greater than the
     /// queue's limit counts as that limit.
     pub fn with_max_export_batch_size(mut self, max_export_batch_size: usize) -> BatchConfigBuilder
         ensures { result ≡ record self { max_export_batch_size = max_export_batch_size } }

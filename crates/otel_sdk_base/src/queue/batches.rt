@@ -1,25 +1,25 @@
 //! Handing a queue to an exporter in batches.
 ghost use Rattle.std.specs.Prelude.{◌≡◌, ◌≤◌, ◌<◌, ◌-◌, ◌↔◌, IsOk, length, drop};
-ghost use Rattle.otel_sdk_logs.specs.Export.{AreExported};
+ghost use Rattle.otel_sdk_base.specs.Export.{AreExported};
 
-use crate::export::{LogData, LogExporter};
-use otel_sdk_base::error::OTelSdkResult;
+use crate::error::OTelSdkResult;
+use crate::export::Exporter;
 
-/// Exports the records in batches of the size until one is refused. Returns how many records are
-/// left, and the error if there are some.
-pub(crate) fn export_batches<E: LogExporter>(
+/// Exports the items in batches of the size until one is refused. Returns how many items are left,
+/// and the error if there are some.
+pub(crate) fn export_batches<T, E: Exporter<T>>(
     exporter: &mut E,
-    records: &[LogData],
+    items: &[T],
     size: usize,
 ) -> (usize, OTelSdkResult)
     requires { 0 < size }
-    ensures within { result.0 ≤ length records.now }
-    ensures exported { AreExported size records.now
+    ensures within { result.0 ≤ length items.now }
+    ensures exported { AreExported size items.now
         (E.accepted exporter.old) (E.accepted exporter.new)
-        (drop (length records.now - result.0) records.now) }
+        (drop (length items.now - result.0) items.now) }
     ensures outcome { IsOk result.1 ↔ (result.0 ≡ 0) }
 {
-    let mut left = records;
+    let mut left = items;
     while !left.is_empty() {
         let (batch, rest) = left.split_at(size.min(left.len()));
         if let Err(error) = exporter.export(batch) {

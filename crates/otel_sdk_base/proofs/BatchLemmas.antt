@@ -5,14 +5,12 @@ use Rattle.std.proofs.Common.{sym, ap, subst, ◌∙◌, arith, append_assoc}
 use Rattle.std.proofs.Math.Nat.{suc-mul, le_of_lt, le_of_eq, min-eq_left, min-eq_right}
 use Rattle.std.proofs.Math.ListN.{drop_of_length-le}
 use Rattle.std.proofs.lemmas.Bool.{cases_lt}
-use Rattle.std.proofs.lemmas.List.{drop-drop, length-drop, take-append-drop, take_min, take-map}
+use Rattle.std.proofs.lemmas.List.{append-nil, drop-drop, length-drop, take-append-drop, take_min, take_more, take-map}
 use Rattle.std.proofs.lemmas.List.Folds.{flat_map-map}
-use Rattle.opentelemetry.proofs.Setting.{flat_map-take_more}
 use Rattle.std.proofs.lemmas.Grind.{flat_map-append}
 use Rattle.std.specs.List.{flat_map}
-use Rattle.otel_sdk_logs.specs.LogRecord.{LogEntry}
-use Rattle.otel_sdk_logs.specs.Export.{batches, records_of, AreExported}
-use Rattle.otel_sdk_logs.specs.Processor.{ProcessorState, IsFlushed, taken_of}
+use Rattle.otel_sdk_base.specs.Export.{batches, items_of, AreExported}
+use Rattle.otel_sdk_base.specs.Queue.{QueueState, IsFlushed, received_of}
 
 none : (size : ℕ) → 0 ≡ zero * size
 none size = omega arith
@@ -48,9 +46,9 @@ drop_min {X} n xs = elim (cases_lt n (length xs)) [
   | inr high ↦ drop_of_length-le xs (le_of_eq (sym (min-eq_right high))) ∙ sym (drop_of_length-le xs high)
 ]
 
-module _ (size : ℕ) (queue : List LogEntry) (old : List (List LogEntry)) where
+module _ {X : Type 0} (size : ℕ) (queue : List X) (old : List (List X)) where
   -- one more batch is exported
-  pub goes_on : (new after : List (List LogEntry)) (left batch rest : List LogEntry) (n : ℕ)
+  pub goes_on : (new after : List (List X)) (left batch rest : List X) (n : ℕ)
       → AreExported size queue old new left → 0 < length left → after ≡ new ++ batch ∷ []
       → n ≡ min size (length left) → batch ≡ take n left → rest ≡ drop n left
       → AreExported size queue old after rest
@@ -65,11 +63,11 @@ module _ (size : ℕ) (queue : List LogEntry) (old : List (List LogEntry)) where
           | inr high ↦ let same : e.count ≡ k = omega arith in
               subst (λ (n : ℕ). n * size < length queue) same (omega arith)
         ];
-        accepted = a ∙ ap (λ (ys : List LogEntry). new ++ ys ∷ []) (b ∙ ap (λ (k : ℕ). take k left) m ∙ take_min size left)
-            ∙ ap (λ (bs : List (List LogEntry)). bs ++ take size left ∷ []) e.accepted
+        accepted = a ∙ ap (λ (ys : List X). new ++ ys ∷ []) (b ∙ ap (λ (k : ℕ). take k left) m ∙ take_min size left)
+            ∙ ap (λ (bs : List (List X)). bs ++ take size left ∷ []) e.accepted
             ∙ append_assoc old (batches size e.count queue) (take size left ∷ [])
-            ∙ ap (λ (ys : List LogEntry). old ++ (batches size e.count queue ++ take size ys ∷ [])) e.rest
-            ∙ ap (λ (bs : List (List LogEntry)). old ++ bs) (sym (last_batch size e.count queue));
+            ∙ ap (λ (ys : List X). old ++ (batches size e.count queue ++ take size ys ∷ [])) e.rest
+            ∙ ap (λ (bs : List (List X)). old ++ bs) (sym (last_batch size e.count queue));
         rest = r ∙ ap (λ (k : ℕ). drop k left) m ∙ drop_min size left ∙ ap (drop size) e.rest ∙ drop-drop size (e.count * size) queue
             ∙ ap (λ (n : ℕ). drop n queue) (sym count);
       }
@@ -84,24 +82,30 @@ left_of xs left rest n h k e r =
     ∙ ap (λ (m : ℕ). drop m xs) (omega arith)
 
 -- nothing is lost or added: what is accepted, followed by what is left
-pub together : (size : ℕ) (queue : List LogEntry) (old new : List (List LogEntry)) (left : List LogEntry)
-    → AreExported size queue old new left → records_of new ++ left ≡ records_of old ++ queue
-together size queue old new left e =
-    ap (λ (bs : List (List LogEntry)). records_of bs ++ left) e.accepted
-    ∙ ap (λ (xs : List LogEntry). xs ++ left)
-    (flat_map-append (λ (batch : List LogEntry). batch) old (batches size e.count queue))
-    ∙ append_assoc (records_of old) (records_of (batches size e.count queue)) left
-    ∙ ap (λ (xs : List LogEntry). records_of old ++ (records_of (batches size e.count queue) ++ xs)) e.rest
-    ∙ ap (λ (xs : List LogEntry). records_of old ++ xs) (whole size e.count queue)
+pub together : {X : Type 0} (size : ℕ) (queue : List X) (old new : List (List X)) (left : List X)
+    → AreExported size queue old new left → items_of new ++ left ≡ items_of old ++ queue
+together {X} size queue old new left e =
+    ap (λ (bs : List (List X)). items_of bs ++ left) e.accepted
+    ∙ ap (λ (xs : List X). xs ++ left)
+    (flat_map-append (λ (batch : List X). batch) old (batches size e.count queue))
+    ∙ append_assoc (items_of old) (items_of (batches size e.count queue)) left
+    ∙ ap (λ (xs : List X). items_of old ++ (items_of (batches size e.count queue) ++ xs)) e.rest
+    ∙ ap (λ (xs : List X). items_of old ++ xs) (whole size e.count queue)
 
--- a flush keeps what a processor took
-pub keeps : {E : Type 0} (accepted : E → List (List LogEntry)) (old new : ProcessorState E)
-    → IsFlushed accepted old new → taken_of accepted new ≡ taken_of accepted old
-keeps {E} accepted old new f =
-    ap (taken_of accepted) f.same
-    ∙ ap (λ (xs : List LogEntry). record { records = xs; dropped = old.dropped_records })
+-- a flush keeps what was received
+pub keeps : {X E : Type 0} (accepted : E → List (List X)) (old new : QueueState X E)
+    → IsFlushed accepted old new → received_of accepted new ≡ received_of accepted old
+keeps {X} {E} accepted old new f =
+    ap (received_of accepted) f.same
+    ∙ ap (λ (xs : List X). record { items = xs; dropped = old.dropped })
     (together old.config.max_export_batch_size old.queue (accepted old.exporter) (accepted new.exporter) new.queue
     f.exported)
+
+flat_map-take_more : {X Y : Type 0} (f : X → List Y) (xs : List X) (i : ℕ) (x : X) → i < length xs → x ≡ get_or xs i x
+    → flat_map f (take (i + 1) xs) ≡ flat_map f (take i xs) ++ f x
+flat_map-take_more {X} {Y} f xs i x h is =
+    ap (flat_map f) (take_more xs i x h) ∙ flat_map-append f (take i xs) (get_or xs i x ∷ [])
+    ∙ ap (λ (r : List Y). flat_map f (take i xs) ++ r) (append-nil (f (get_or xs i x)) ∙ ap f (sym is))
 
 -- the lists of one place more, joined
 pub joined_more : {X Y : Type 0} (f : X → List Y) (xs : List X) (ys : List (List Y)) (i : ℕ) (x : X)

@@ -1,0 +1,37 @@
+//! A list of batches that exists only in contracts, and not at run time.
+ghost use Rattle.std.specs.Prelude.{◌≡◌, [], ◌∷◌, ◌++◌, List};
+ghost use Rattle.std.specs.Borrow.{ftrue};
+ghost use Rattle.std.specs.Coded.{coded_list};
+
+use std::marker::{Model, PhantomData};
+use std::mem::size_of;
+
+/// The batches of items that an exporter has accepted. It is of size zero: they exist only in
+/// contracts. Only [`Accepted::and`] makes a longer list. Not in the Rust crates.
+#[derive(Drop)]
+pub struct Accepted<T> {
+    of: PhantomData<T>,
+    ghost batches: { List (List T) } by { coded_list (coded_list T.code) },
+}
+
+const _: () = prove!(size_of::<Accepted<u64>>() == 0);
+
+impl<T> Model for Accepted<T> {
+    ghost also_owns = { λ _. ftrue };
+}
+
+impl<T> Accepted<T> {
+    /// Returns no batches.
+    pub fn new() -> Accepted<T>
+        ensures { result.batches ≡ [] }
+    {
+        Accepted { of: PhantomData }
+    }
+
+    /// Returns these batches, with one more at the end.
+    pub fn and(&self, _batch: &[T]) -> Accepted<T>
+        ensures { result.batches ≡ self.now.batches ++ _batch.now ∷ [] }
+    {
+        Accepted { of: PhantomData }
+    }
+}

@@ -1,0 +1,201 @@
+//! The queue of items that wait for an exporter.
+ghost use Rattle.std.specs.Prelude.{◌≡◌, ◌≤◌, ◌<◌, [], not, length, IfOk, IfErr, IsTrue, OnOk};
+
+mod batches;
+pub(crate) mod config;
+
+use crate::error::{OTelSdkError, OTelSdkResult};
+use crate::export::Exporter;
+use crate::queue::batches::export_batches;
+use crate::queue::config::BatchConfig;
+use crate::resource::Resource;
+use std::alloc::{AllocError, Global};
+use std::rc::Rc;
+
+/// The items of a processor that wait for its exporter, in order. A full queue drops and counts the
+/// items that come. Not in the Rust crates.
+///
+/// A batch that the exporter refuses stays queued, in order.
+///
+/// ```
+/// let queue: Queue<u64, E> = Queue::new(alloc, exporter, BatchConfig::default());
+/// ```
+#[derive(Drop)]
+pub struct Queue<T, E> {
+    exporter: E,
+    items: Vec<T>,
+    dropped: u64,
+    config: BatchConfig,
+    is_shut_down: bool,
+}
+
+impl<T: Drop, E: Exporter<T>> Queue<T, E> {
+    ghost use Rattle.otel_sdk_base.specs.Queue as spec;
+    ghost use Rattle.otel_sdk_base.specs.Queue.{IsFlushed, IsForceFlushed, IsShutDown};
+    ghost use Rattle.otel_sdk_base.specs.Queue.{OnlyExporterChanges};
+    ghost use Rattle.otel_sdk_base.specs.QueueView.{capacity, state};
+
+    /// Returns a queue without items. Takes no memory.
+    pub fn new(alloc: Global, exporter: E, config: BatchConfig) -> Queue<T, E>
+        ensures { state result ≡ spec.new exporter config }
+    {
+        Queue {
+            exporter,
+            items: Vec::new(alloc),
+            dropped: 0,
+            config,
+            is_shut_down: false,
+        }
+    }
+
+    /// Returns a queue without items, and with the memory for as many as it may ever have.
+    ///
+    /// # Errors
+    ///
+    /// `AllocError` if out of memory. The exporter is dropped.
+    pub fn with_capacity(
+        alloc: Global,
+        exporter: E,
+        config: BatchConfig,
+    ) -> Result<Queue<T, E>, AllocError>
+        ensures { IfOk result (λ queue. (state queue ≡ spec.new exporter config)
+            × (config.max_queue_size ≤ capacity queue)) }
+    {
+        let items = Vec::with_capacity(alloc, config.max_queue_size)?;
+        Ok(Queue {
+            exporter,
+            items,
+            dropped: 0,
+            config,
+            is_shut_down: false,
+        })
+    }
+
+    /// Returns the exporter.
+    pub fn exporter(&self) -> &E
+        ensures { result.now ≡ (state self.now).exporter }
+    {
+        &self.exporter
+    }
+
+    /// Returns the number of items that are queued.
+    pub fn len(&self) -> usize
+        ensures { result ≡ length (state self.now).queue }
+    {
+        self.items.len()
+    }
+
+    /// Returns how many items were dropped. Stops at the greatest `u64`.
+    pub fn dropped(&self) -> u64
+        ensures { result ≡ (state self.now).dropped }
+    {
+        self.dropped
+    }
+
+    /// Returns whether it was shut down.
+    pub fn is_shut_down(&self) -> bool
+        ensures { result ≡ (state self.now).is_shut_down }
+    {
+        self.is_shut_down
+    }
+
+    /// Takes the memory for one more item, if there can be one more: [`Queue::add`] then takes
+    /// none.
+    ///
+    /// # Errors
+    ///
+    /// `AlreadyShutdown` after [`Queue::shutdown`], otherwise `Memory` if out of memory. The items
+    /// stay as they are.
+    pub fn reserve(&mut self) -> OTelSdkResult
+        ensures same { state self.new ≡ state self.old }
+        ensures ok { OnOk result (IsTrue (spec.has_space (state self.old))
+            → length (state self.new).queue < capacity self.new) }
+        ensures open { OnOk result (IsTrue (not (state self.old).is_shut_down)) }
+        ensures refused { IfErr result (λ error. error ≡ spec.cause (state self.old)) }
+    {
+        if self.is_shut_down {
+            return Err(OTelSdkError::AlreadyShutdown);
+        }
+        if self.items.len() < self.config.max_queue_size {
+            self.items.reserve(1)?;
+        }
+        Ok(())
+    }
+
+    /// Queues the item, or drops and counts it if the queue is full. Takes no memory.
+    pub fn add(&mut self, item: T)
+        requires { IsTrue (spec.has_space (state self.old))
+            → length (state self.old).queue < capacity self.old }
+        ensures { (state self.new ≡ spec.after_add item (state self.old))
+            × (capacity self.new ≡ capacity self.old) }
+    {
+        if self.items.len() < self.config.max_queue_size {
+            self.items.push_reserved(item);
+        } else {
+            self.count_dropped();
+        }
+    }
+
+    /// Counts an item that was dropped.
+    pub fn count_dropped(&mut self)
+        ensures { (state self.new ≡ spec.counted (state self.old))
+            × (capacity self.new ≡ capacity self.old) }
+    {
+        self.dropped = self.dropped.saturating_add(1);
+    }
+
+    // Exports what is queued. The batches that were accepted leave the queue.
+    fn export_all(&mut self) -> OTelSdkResult
+        ensures flushed { IsFlushed E.accepted (state self.old) (state self.new) }
+        ensures ok { OnOk result ((state self.new).queue ≡ []) }
+        ensures capacity { capacity self.new ≡ capacity self.old }
+    {
+        let size = self.config.max_export_batch_size;
+        let (left, outcome) = export_batches(&mut self.exporter, self.items.as_slice(), size);
+        let accepted = self.items.len() - left;
+        drop(self.items.drain(..accepted));
+        outcome
+    }
+
+    /// Exports what is queued, in batches of at most `max_export_batch_size` items in order, and
+    /// then flushes the exporter.
+    ///
+    /// # Errors
+    ///
+    /// `AlreadyShutdown` after [`Queue::shutdown`]: nothing changes. Otherwise the error of the
+    /// first refused batch, or of the exporter's flush. What was accepted has left the queue.
+    pub fn force_flush(&mut self) -> OTelSdkResult
+        ensures { IsForceFlushed E.accepted result (state self.old) (state self.new)
+            × (capacity self.new ≡ capacity self.old) }
+    {
+        if self.is_shut_down {
+            return Err(OTelSdkError::AlreadyShutdown);
+        }
+        self.export_all()?;
+        self.exporter.force_flush()
+    }
+
+    /// Flushes the queue, and shuts it and its exporter down.
+    ///
+    /// # Errors
+    ///
+    /// `AlreadyShutdown` after an earlier call, or the exporter's error. If the flush failed, the
+    /// queue stays open for another try.
+    pub fn shutdown(&mut self) -> OTelSdkResult
+        ensures { IsShutDown E.accepted E.shuts_down result (state self.old) (state self.new)
+            × (capacity self.new ≡ capacity self.old) }
+    {
+        self.force_flush()?;
+        let outcome = self.exporter.shutdown();
+        self.is_shut_down = true;
+        outcome
+    }
+
+    /// Tells the exporter the resource of the items to come.
+    pub fn set_resource(&mut self, resource: Rc<Resource>)
+        ensures { OnlyExporterChanges E.accepted (state self.old) (state self.new)
+            × (capacity self.new ≡ capacity self.old) }
+    {
+        self.exporter.set_resource(resource);
+    }
+}
