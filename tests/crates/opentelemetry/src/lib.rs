@@ -1,7 +1,7 @@
 //! What no clause says: worked runs, odd carriers, odd members, texts, and each call once.
 #![tactic(auto)]
 
-// Depends on: otel_recording test_support
+// Depends on: otel_examples test_support
 
 mod carry;
 mod logs;

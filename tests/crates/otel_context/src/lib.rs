@@ -1,7 +1,7 @@
 //! What no clause says: worked rows, limits, printed texts, and each public call with ample memory.
 #![tactic(auto)]
 
-// Depends on: otel_recording test_support
+// Depends on: otel_examples test_support
 
 mod active;
 mod baggage;

@@ -2,7 +2,7 @@
 //! baggages and maps of texts.
 #![tactic(auto)]
 
-// Depends on: otel_ids otel_base otel_context opentelemetry otel_recording
+// Depends on: otel_ids otel_base otel_context opentelemetry otel_examples
 
 mod carriers;
 mod contexts;
