@@ -8,7 +8,7 @@ use opentelemetry::trace::{
     Run, Span, SpanContext, SpanId, Spans, TraceFlags, TraceId, TraceState, Tracer,
     mark_span_as_active,
 };
-use otel_recording::{RecordingSpan, RecordingTracer};
+use otel_examples::recording::{RecordingSpan, RecordingTracer};
 use std::alloc::{AllocError, Global};
 
 type Table = Spans<RecordingSpan>;

@@ -2,8 +2,12 @@ pub mod Baggage
 pub mod Composite
 pub mod InSpan
 pub mod LogBridge
+pub mod LogLine
+pub mod Recording
 pub mod RequestId
 pub mod Scope
 pub mod Service
 pub mod ThereAndBack
 pub mod TraceState
+pub mod Traced
+pub mod Tracer

@@ -1,16 +1,7 @@
-//! Small callers of the crate `opentelemetry`, each proved from its public contracts, in the order
-//! in which to learn them.
+//! Small callers of the crate `opentelemetry` and of the SDK, each proved from public contracts,
+//! and spans and a logger that keep what they are given, for tests.
 #![tactic(auto)]
 
-pub mod active;
-pub mod baggage;
-pub mod composite;
-pub mod header_names;
-pub mod headers;
-pub mod in_span;
-pub mod log_bridge;
-pub mod request_id;
-pub mod scope;
-pub mod service;
-pub mod there_and_back;
-pub mod trace_state;
+pub mod api;
+pub mod recording;
+pub mod sdk;

@@ -2,7 +2,7 @@
 //! once.
 #![tactic(auto)]
 
-// Depends on: otel_recording test_support
+// Depends on: otel_examples test_support
 
 mod carry;
 mod logs;

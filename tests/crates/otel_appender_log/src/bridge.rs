@@ -6,7 +6,8 @@ use opentelemetry::{Context, InstrumentationScope, StringValue};
 use otel_appender_log::{
     OpenTelemetryLogBridge, SourceLocation, bridged_record, severity_of_level,
 };
-use otel_recording::{RecordingLogRecord, RecordingLogger};
+use otel_examples::recording::RecordingLogger;
+use otel_sdk_logs::SdkLogRecord;
 use std::alloc::{AllocError, Global};
 use std::process::Abort;
 use std::test::Fail;
@@ -32,7 +33,7 @@ fn context(alloc: Global, trace: u128, span: u64) -> Result<Context, AllocError>
 }
 
 /// Returns the only record that the bridge emitted.
-fn only_record(rt: &impl Abort, bridge: Bridge) -> RecordingLogRecord {
+fn only_record(rt: &impl Abort, bridge: Bridge) -> SdkLogRecord {
     assert_eq!(rt; bridge.dropped_records(), 0);
     let mut emitted = bridge.into_logger().into_emitted();
     assert_eq!(rt; emitted.len(), 1);
@@ -40,9 +41,9 @@ fn only_record(rt: &impl Abort, bridge: Bridge) -> RecordingLogRecord {
 }
 
 /// Asserts that the record has these attributes, in order.
-fn assert_attributes(rt: &impl Abort, record: &RecordingLogRecord, wanted: &[(&str, AnyValue)]) {
-    assert_eq!(rt; record.attributes().len(), wanted.len());
-    for (is, wanted) in record.attributes().iter().zip(wanted.iter()) {
+fn assert_attributes(rt: &impl Abort, record: &SdkLogRecord, wanted: &[(&str, AnyValue)]) {
+    assert_eq!(rt; record.attributes.len(), wanted.len());
+    for (is, wanted) in record.attributes.iter().zip(wanted.iter()) {
         assert_eq!(rt; is.0.as_str(), wanted.0);
         assert!(rt; is.1 == wanted.1);
     }
@@ -56,19 +57,19 @@ fn a_record_has_all_that_is_known(rt: HostRuntime) -> Result<(), Fail> {
     let logger = Logged::new(rt, Level::Trace, bridge.sink(&context));
     error!(logger; target: "cart::price", item = 7, ok = false; "no price for {}", 7);
     let record = only_record(&rt, bridge);
-    assert_eq!(rt; record.severity_number(), Some(Severity::Error));
-    assert_eq!(rt; record.severity_text(), Some("ERROR"));
-    assert_eq!(rt; record.target(), Some("cart::price"));
-    assert!(rt; record.body() == Some(&AnyValue::from("no price for 7")));
+    assert_eq!(rt; record.severity_number, Some(Severity::Error));
+    assert!(rt; record.severity_text == Some(StringValue::from("ERROR")));
+    assert!(rt; record.target == Some(StringValue::from("cart::price")));
+    assert!(rt; record.body == Some(AnyValue::from("no price for 7")));
     assert_attributes(
         &rt,
         &record,
         &[("item", AnyValue::Int(7)), ("ok", AnyValue::Boolean(false))],
     );
-    assert_eq!(rt; record.timestamp(), None);
-    assert_eq!(rt; record.observed_timestamp(), None);
-    assert_eq!(rt; record.event_name(), None);
-    let span = record.trace_context().expect(&rt, "a span");
+    assert_eq!(rt; record.timestamp, None);
+    assert_eq!(rt; record.observed_timestamp, None);
+    assert!(rt; record.event_name.is_none());
+    let span = record.trace_context.expect(&rt, "a span");
     assert_eq!(rt; span.trace_id, TraceId::from(1));
     assert_eq!(rt; span.span_id, SpanId::from(1));
     assert_eq!(rt; span.trace_flags, Some(TraceFlags::new(3)));
@@ -85,7 +86,7 @@ fn a_warning_is_handed_on(host: HostRuntime) -> Result<(), Fail> {
     let rt = Logged::new(rt, Level::Info, bridge.sink(&context));
     warn!(rt; target: "cart", item = 7; "no price");
     let record = only_record(&host, bridge);
-    assert_eq!(host; record.target(), Some("cart"));
+    assert!(host; record.target == Some(StringValue::from("cart")));
     Ok(())
 }
 
@@ -97,7 +98,7 @@ fn an_invalid_span_is_not_named(rt: HostRuntime) -> Result<(), Fail> {
         let bridge = bridge(alloc, Severity::Trace)?;
         let logger = Logged::new(rt, Level::Trace, bridge.sink(&context));
         info!(logger; "started");
-        assert!(rt; only_record(&rt, bridge).trace_context().is_none());
+        assert!(rt; only_record(&rt, bridge).trace_context.is_none());
     }
     Ok(())
 }
@@ -133,8 +134,8 @@ fn only_records_that_the_logger_wants(rt: HostRuntime) -> Result<(), Fail> {
     error!(logger; "5");
     let emitted = bridge.into_logger().into_emitted();
     assert_eq!(rt; emitted.len(), 2);
-    assert!(rt; emitted[0].body() == Some(&AnyValue::from("4")));
-    assert!(rt; emitted[1].body() == Some(&AnyValue::from("5")));
+    assert!(rt; emitted[0].body == Some(AnyValue::from("4")));
+    assert!(rt; emitted[1].body == Some(AnyValue::from("5")));
     Ok(())
 }
 
@@ -212,7 +213,7 @@ fn a_record_is_made_by_hand(rt: HostRuntime) -> Result<(), Fail> {
     let nowhere = SourceLocation::UNKNOWN;
     let made = bridged_record(alloc, &bridge.logger, &source, &nowhere, &SpanContext::NONE)?;
     let record = made.expect(&rt, "a record");
-    assert!(rt; record.body() == Some(&AnyValue::from("m")));
+    assert!(rt; record.body == Some(AnyValue::from("m")));
     assert_attributes(&rt, &record, &[("k", AnyValue::from("v"))]);
     Ok(())
 }

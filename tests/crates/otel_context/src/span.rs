@@ -1,7 +1,7 @@
 //! The effects of a span's provided calls.
 use otel_base::{Key, KeyValue, StringValue, Value};
 use otel_context::Span;
-use otel_recording::{Effect, RecordingSpan};
+use otel_examples::recording::{Effect, RecordingSpan};
 use std::cell::Cell;
 use std::fmt;
 use std::process::Abort;

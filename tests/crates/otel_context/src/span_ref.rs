@@ -2,8 +2,8 @@
 use crate::span::Silent;
 use otel_base::{Key, KeyValue, StringValue, Value};
 use otel_context::{Context, Span, Spans, Status};
+use otel_examples::recording::RecordingSpan;
 use otel_ids::SpanId;
-use otel_recording::RecordingSpan;
 use std::alloc::Global;
 use std::cell::Cell;
 use std::process::Abort;

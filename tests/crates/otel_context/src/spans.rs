@@ -2,8 +2,8 @@
 use otel_context::{
     Context, ContextStack, Span, SpanCause, SpanRefused, Spans, mark_span_as_active,
 };
+use otel_examples::recording::RecordingSpan;
 use otel_ids::SpanId;
-use otel_recording::RecordingSpan;
 use std::alloc::Global;
 use std::process::Abort;
 use std::test::Fail;

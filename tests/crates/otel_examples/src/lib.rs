@@ -1,16 +1,9 @@
-//! The callers at work, once each with ample memory.
+//! The callers at work, once each with ample memory, and what no clause says of spans and loggers that keep what they are given.
 #![tactic(auto)]
 
 // Depends on: test_support
 
-mod active;
-mod baggage;
-mod header_names;
-mod headers;
-mod in_span;
-mod log_bridge;
+mod api;
 mod mover;
-mod scope;
-mod service;
-mod there_and_back;
-mod trace_state;
+mod recording;
+mod sdk;

@@ -51,11 +51,8 @@ fn a_record_has_at_most_128_attributes(rt: HostRuntime) -> Result<(), Fail> {
     Ok(())
 }
 
-#[test]
-fn all_that_is_set_is_there(rt: HostRuntime) -> Result<(), Fail> {
-    let alloc = rt.alloc();
-    let mut record = SdkLogRecord::new(alloc);
-    assert!(rt; record.body.is_none() && record.trace_context.is_none());
+/// Makes each call of a record that takes no memory.
+fn tell<R: LogRecord>(record: &mut R) {
     record.set_event_name("started");
     record.set_target(StringValue::from("http::server"));
     record.set_timestamp(5);
@@ -64,6 +61,10 @@ fn all_that_is_set_is_there(rt: HostRuntime) -> Result<(), Fail> {
     record.set_severity_number(Severity::Warn2);
     record.set_body(AnyValue::Int(3));
     record.set_trace_context(TraceId::from(1), SpanId::from(2), Some(TraceFlags::new(3)));
+}
+
+/// Asserts that the record holds what [`tell`] told it.
+fn assert_told(rt: &impl Abort, record: &SdkLogRecord) {
     assert!(rt; record.event_name == Some(StringValue::from("started")));
     assert!(rt; record.target == Some(StringValue::from("http::server")));
     assert_eq!(rt; record.timestamp, Some(5));
@@ -71,9 +72,29 @@ fn all_that_is_set_is_there(rt: HostRuntime) -> Result<(), Fail> {
     assert!(rt; record.severity_text == Some(StringValue::from("warning")));
     assert_eq!(rt; record.severity_number, Some(Severity::Warn2));
     assert!(rt; record.body == Some(AnyValue::Int(3)));
-    let span = record.trace_context.expect(&rt, "a span");
+    let span = record.trace_context.expect(rt, "a span");
     assert_eq!(rt; span.trace_id, TraceId::from(1));
     assert_eq!(rt; span.span_id, SpanId::from(2));
     assert_eq!(rt; span.trace_flags, Some(TraceFlags::new(3)));
+}
+
+#[test]
+fn all_that_is_set_is_there(rt: HostRuntime) -> Result<(), Fail> {
+    let mut record = SdkLogRecord::new(rt.alloc());
+    assert!(rt; record.body.is_none() && record.trace_context.is_none());
+    tell(&mut record);
+    assert_told(&rt, &record);
+    assert!(rt; record.attributes.is_empty());
+    Ok(())
+}
+
+#[test]
+fn what_is_set_again_takes_the_place_of_the_first(rt: HostRuntime) -> Result<(), Fail> {
+    let mut record = SdkLogRecord::new(rt.alloc());
+    record.set_body(AnyValue::Int(4));
+    record.set_severity_number(Severity::Fatal4);
+    record.set_trace_context(TraceId::from(3), SpanId::from(4), None);
+    tell(&mut record);
+    assert_told(&rt, &record);
     Ok(())
 }

@@ -2,7 +2,7 @@
 //! ended spans of the SDK, baggages and maps of texts.
 #![tactic(auto)]
 
-// Depends on: otel_ids otel_base otel_context opentelemetry otel_recording otel_sdk_base otel_sdk_span
+// Depends on: otel_ids otel_base otel_context opentelemetry otel_examples otel_sdk_base otel_sdk_span
 
 mod carriers;
 mod contexts;

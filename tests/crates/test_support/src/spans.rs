@@ -1,7 +1,7 @@
 //! Span contexts, spans that record, and their tracer.
 use otel_base::StringValue;
+use otel_examples::recording::{RecordingSpan, RecordingTracer};
 use otel_ids::{SpanContext, SpanId, TraceFlags, TraceId, TraceState};
-use otel_recording::{RecordingSpan, RecordingTracer};
 use std::alloc::Global;
 
 fn numbered(number: u64, is_remote: bool) -> SpanContext {

@@ -8,7 +8,7 @@ use opentelemetry::{Context, InstrumentationScope, StringValue};
 use otel_appender_log::{
     OpenTelemetryLogBridge, SourceLocation, attribute_value, attributes_of, bridged_record,
 };
-use otel_recording::RecordingLogger;
+use otel_examples::recording::RecordingLogger;
 use std::alloc::{AllocError, Global};
 
 pub fn play<R: Print>(alloc: Global, lines: &Lines<'_, R>) {

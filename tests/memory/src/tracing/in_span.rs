@@ -4,7 +4,7 @@ use crate::tracing::active::{ATTACHED, error_of, stack};
 use crate::tracing::tracers::{NamingTracer, builder, name};
 use opentelemetry::context::{Context, ContextStack};
 use opentelemetry::trace::{SpanBody, Spans, StartError, Tracer};
-use otel_recording::RecordingSpan;
+use otel_examples::recording::RecordingSpan;
 use std::alloc::{AllocError, Global};
 use std::cell::Cell;
 

@@ -5,7 +5,7 @@ use crate::values::scopes::attributes;
 use opentelemetry::context::Context;
 use opentelemetry::trace::{Span, SpanContext, SpanRef, Spans, Status};
 use opentelemetry::{KeyValue, StringValue};
-use otel_recording::RecordingSpan;
+use otel_examples::recording::RecordingSpan;
 use std::alloc::{AllocError, Global};
 
 /// The scenarios, and the calls.

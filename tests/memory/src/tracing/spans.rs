@@ -3,7 +3,7 @@ use crate::lines::Lines;
 use crate::values::scopes::attributes;
 use opentelemetry::trace::{Span, SpanContext};
 use opentelemetry::{Key, KeyValue, StringValue, Value};
-use otel_recording::RecordingSpan;
+use otel_examples::recording::RecordingSpan;
 use std::alloc::{AllocError, Global};
 
 /// A call.

@@ -4,7 +4,7 @@ use crate::tracing::active::stack;
 use opentelemetry::StringValue;
 use opentelemetry::context::{Context, ContextStack};
 use opentelemetry::trace::{SpanBuilder, SpanContext, Tracer};
-use otel_recording::RecordingSpan;
+use otel_examples::recording::RecordingSpan;
 use std::alloc::{AllocError, Global};
 
 /// A tracer that allocates for the name of each span.

@@ -1,5 +1,5 @@
 //! Log records, loggers and their providers that do nothing, called once each. The ones that record
-//! are tested with the crate `otel_recording`.
+//! are tested with the crate `otel_examples`.
 use opentelemetry::logs::{
     AnyValue, LogRecord, Logger, LoggerProvider, NoopLogRecord, NoopLogger, NoopLoggerProvider,
     Severity,

@@ -5,7 +5,7 @@ mod limits;
 use opentelemetry::context::{Context, ContextStack};
 use opentelemetry::trace::{Run, Span, SpanBuilder, SpanCause, Spans, StartError, TraceId, Tracer};
 use opentelemetry::{Key, KeyValue, StringValue, Value};
-use otel_recording::{Effect, RecordingSpan};
+use otel_examples::recording::{Effect, RecordingSpan};
 use std::alloc::{AllocError, Global};
 use std::test::Fail;
 use test_support::{name_of, named, span_context, tracer};

@@ -4,7 +4,7 @@ use opentelemetry::trace::{
     Event, Link, Span, SpanBuilder, SpanId, SpanKind, Status, TraceId, Tracer,
 };
 use opentelemetry::{Key, KeyValue, StringValue, Value};
-use otel_recording::{Effect, RecordingSpan};
+use otel_examples::recording::{Effect, RecordingSpan};
 use std::alloc::{AllocError, Global};
 use std::test::Fail;
 use test_support::{span_context, tracer};

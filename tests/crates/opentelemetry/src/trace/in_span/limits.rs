@@ -3,7 +3,7 @@
 use opentelemetry::StringValue;
 use opentelemetry::context::{Context, ContextStack, HasCurrent};
 use opentelemetry::trace::{Run, Span, SpanBuilder, SpanCause, Spans, StartError, Tracer};
-use otel_recording::RecordingSpan;
+use otel_examples::recording::RecordingSpan;
 use std::alloc::{AllocError, Global};
 use std::test::Fail;
 use test_support::{NUMBERS, POSITIONS, filled, name_of, span_context, tracer};

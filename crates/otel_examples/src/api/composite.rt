@@ -1,0 +1,120 @@
+//! Composite propagators: a run whose current context is injected by two members, and a context
+//! that is sent and received by three.
+ghost use Rattle.std.specs.Prelude.{◌≡◌, IfOk, OnOk, false};
+ghost use Rattle.otel_context.specs.Stack.{current};
+ghost use Rattle.opentelemetry.specs.Carrier.{text_map};
+ghost use Rattle.opentelemetry.specs.Refusal.{is_refused};
+ghost use Rattle.opentelemetry.specs.Run.{IsCurrent};
+ghost use Rattle.otel_examples.specs.Composite.{Arrives, ComesBackWithId, IsIdSent, Receives};
+ghost use Rattle.otel_examples.specs.Composite.{RefusesByMember, Sends, SendsCurrent, SetsAll};
+
+use crate::api::request_id::RequestId;
+use opentelemetry::Context;
+use opentelemetry::carry::{RunReport, StackEvent, run};
+use opentelemetry::propagation::{PropagationError, TextMapCompositePropagator, TextMapPropagator};
+use otel_propagators::laws::{every_context, headers_there_and_back};
+use otel_propagators::{BaggagePropagator, TraceContextPropagator};
+use std::alloc::{AllocError, Global};
+use std::collections::HashMap;
+
+/// Runs the events, and injects the context that is then current into the headers `x-request-id`
+/// and `baggage`.
+///
+/// # Errors
+///
+/// `AllocError` if out of memory. The headers are unchanged.
+pub fn run_and_send(
+    alloc: Global,
+    events: Vec<StackEvent>,
+    headers: &mut HashMap<String, String>,
+) -> Result<RunReport, AllocError>
+    // The latest attach that isn't detached, or the empty context, is current.
+    ensures current { IfOk result (λ report.
+        IsCurrent events.items report.outcomes.items (current report.stack.live)) }
+    ensures sent { IfOk result (λ report.
+        SendsCurrent report.injected report.stack.live headers.old headers.new) }
+    // Neither of these propagators refuses.
+    ensures refused { IfOk result (λ report. is_refused report.injected ≡ false) }
+{
+    let mut members: Vec<Box<dyn TextMapPropagator>> = Vec::new(alloc);
+    members.push(Box::new(alloc, RequestId::new(alloc)?)?)?;
+    members.push(Box::new(alloc, BaggagePropagator::new(alloc)?)?)?;
+    let composite = TextMapCompositePropagator::new(alloc, members)?;
+    run(alloc, events, &composite, headers)
+}
+
+/// Injects the context by a composite.
+fn send(
+    composite: &TextMapCompositePropagator,
+    context: &Context,
+    headers: &mut HashMap<String, String>,
+) -> Result<(), PropagationError>
+    ensures { Sends composite.now (λ m. pairs m) (λ m. may_refuse m) context.now
+        headers.old headers.new result }
+{
+    composite.inject_context(context, headers)
+}
+
+/// Returns the context that a composite extracts, starting from the given one.
+fn receive(
+    composite: &TextMapCompositePropagator,
+    alloc: Global,
+    context: &Context,
+    headers: &HashMap<String, String>,
+) -> Result<Context, PropagationError>
+    ensures { Receives composite.now (λ m. extracted m) (λ m. may_refuse m) context.now
+        headers.now result }
+{
+    composite.extract_with_context(alloc, context, headers)
+}
+
+/// Injects the context by a composite, and returns what it then extracts into the empty context.
+///
+/// # Errors
+///
+/// `Memory` if out of memory; `Refused` if a member refuses. Some of the headers may then be set.
+pub fn send_and_receive(
+    alloc: Global,
+    composite: &TextMapCompositePropagator,
+    context: &Context,
+    headers: &mut HashMap<String, String>,
+) -> Result<Context, PropagationError>
+    // If the composite has both W3C propagators, what was sent comes back.
+    ensures back { Arrives composite.now (λ m. pairs m) (λ m. extracted m) context.now
+        headers.old headers.new result }
+    // The headers of its members are set.
+    ensures sent { OnOk result
+        (SetsAll composite.now (λ m. pairs m) context.now headers.old headers.new) }
+    ensures refused { RefusesByMember composite.now (λ m. may_refuse m) result }
+{
+    every_context(context);
+    headers_there_and_back();
+    send(composite, context, headers)?;
+    let empty = Context::new();
+    receive(composite, alloc, &empty, headers)
+}
+
+/// Injects the context into the W3C headers and the request's id into a header of its own, by one
+/// composite, and returns what is extracted from them.
+///
+/// # Errors
+///
+/// `Memory` if out of memory. Some of the headers may then be set.
+pub fn after_request_id(
+    alloc: Global,
+    context: &Context,
+    headers: &mut HashMap<String, String>,
+) -> Result<Context, PropagationError>
+    ensures back { IfOk result (ComesBackWithId context.now headers.old headers.new) }
+    // The id's header is set; without an id it is unchanged.
+    ensures id { OnOk result (IsIdSent context.now (text_map headers.old.entries)
+        (text_map headers.new.entries)) }
+    ensures refused { is_refused result ≡ false }
+{
+    let mut propagators: Vec<Box<dyn TextMapPropagator>> = Vec::new(alloc);
+    propagators.push(Box::new(alloc, RequestId::new(alloc)?)?)?;
+    propagators.push(Box::new(alloc, TraceContextPropagator::new(alloc)?)?)?;
+    propagators.push(Box::new(alloc, BaggagePropagator::new(alloc)?)?)?;
+    let composite = TextMapCompositePropagator::new(alloc, propagators)?;
+    send_and_receive(alloc, &composite, context, headers)
+}

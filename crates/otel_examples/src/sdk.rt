@@ -1,0 +1,6 @@
+//! Callers of the SDK, of the headers of HTTP and of the bridge from the crate `log`.
+
+pub mod emitted;
+pub mod log_line;
+pub mod request;
+pub mod traced;

@@ -1,2 +1,0 @@
-pub mod LogLine
-pub mod Traced

@@ -1,8 +1,0 @@
-//! Small callers of the SDK, of the headers of HTTP and of the bridge from the crate `log`, each
-//! proved from public contracts.
-#![tactic(auto)]
-
-pub mod emitted;
-pub mod log_line;
-pub mod request;
-pub mod traced;

@@ -1,0 +1,72 @@
+//! Spans that reach an exporter.
+use opentelemetry::trace::{Span, TraceId, Tracer, TracerProvider};
+use opentelemetry::{Context, Key, KeyValue, StringValue, Value};
+use otel_examples::sdk::traced::{export, price};
+use otel_sdk::trace::{
+    BatchConfig, BatchSpanProcessor, CountedIdGenerator, InMemorySpanExporter, LiveSpans,
+    ManualClock, Sampler, SdkTracer, SdkTracerProvider, SimpleSpanProcessor, TracerPipeline,
+};
+use std::alloc::AllocError;
+use std::test::Fail;
+
+type Pipeline = TracerPipeline<Sampler, CountedIdGenerator, ManualClock>;
+
+/// A tracer with that sampler, the clock showing 5.
+fn tracer(rt: HostRuntime, sampler: Sampler) -> Result<SdkTracer<Pipeline>, AllocError> {
+    let alloc = rt.alloc();
+    let provider = SdkTracerProvider::builder(rt)
+        .with_sampler(sampler)
+        .with_id_generator(CountedIdGenerator::new())
+        .with_clock(ManualClock::new(5))
+        .build(alloc)?;
+    provider.tracer(alloc, StringValue::from("cart"))
+}
+
+#[test]
+fn a_sampled_span_is_exported_at_its_end(rt: HostRuntime) -> Result<(), Fail> {
+    let alloc = rt.alloc();
+    let tracer = tracer(rt, Sampler::AlwaysOn)?;
+    let mut processor = SimpleSpanProcessor::new(alloc, InMemorySpanExporter::new(alloc));
+    price(alloc, &tracer, &mut processor, &Context::new(), 7, 9)?;
+    let spans = processor.exporter().get_finished_spans()?;
+    assert_eq!(rt; spans.len(), 1);
+    let span = spans.first().expect(&rt, "a span");
+    assert_eq!(rt; span.name.as_str(), "price");
+    assert_eq!(rt; span.start_time, 5);
+    assert_eq!(rt; span.end_time, 9);
+    let item = KeyValue::new(Key::from("item"), Value::I64(7));
+    assert!(rt; span.attributes.as_slice() == [item].as_slice());
+    Ok(())
+}
+
+#[test]
+fn an_unsampled_span_is_not(rt: HostRuntime) -> Result<(), Fail> {
+    let alloc = rt.alloc();
+    let tracer = tracer(rt, Sampler::AlwaysOff)?;
+    let mut processor = SimpleSpanProcessor::new(alloc, InMemorySpanExporter::new(alloc));
+    price(alloc, &tracer, &mut processor, &Context::new(), 7, 9)?;
+    assert!(rt; processor.exporter().get_finished_spans()?.is_empty());
+    Ok(())
+}
+
+#[test]
+fn ended_spans_are_exported_and_others_stay(rt: HostRuntime) -> Result<(), Fail> {
+    let alloc = rt.alloc();
+    let tracer = tracer(rt, Sampler::AlwaysOn)?;
+    let mut live = LiveSpans::new(alloc);
+    for name in ["serve", "price"] {
+        let name = StringValue::from(name);
+        let span = tracer.start_with_context(alloc, name, &Context::new())?;
+        assert!(rt; live.start(span).is_ok());
+    }
+    live.end(1, 9);
+    let exporter = InMemorySpanExporter::new(alloc);
+    let mut processor = BatchSpanProcessor::new(alloc, exporter, BatchConfig::default());
+    export(&mut live, &mut processor)?;
+    let spans = processor.exporter().get_finished_spans()?;
+    assert_eq!(rt; spans.len(), 1);
+    assert_eq!(rt; spans[0].name.as_str(), "price");
+    assert_eq!(rt; spans[0].span_context.trace_id(), TraceId::from(2));
+    assert!(rt; live.spans().get(0).is_some_and(|span| span.is_recording()));
+    Ok(())
+}
