@@ -1,1 +1,3 @@
+pub mod Draws
 pub mod Moments
+pub mod Widths

@@ -2,10 +2,10 @@
 use Rattle.std.specs.Prelude.{ℕ, Bool, List, map}
 use Rattle.otel_context.specs.declared.span.status.Status.{Status}
 use Rattle.otel_context.specs.declared.span.status.Status.TheVariants as status
-use Rattle.otel_drawing.specs.Name.{shown_name}
-use Rattle.otel_drawing.specs.declared.span.Outcome.{Outcome}
-use Rattle.otel_drawing.specs.declared.span.Outcome.TheVariants as outcome
-use Rattle.otel_drawing.specs.declared.span.Span.{Span}
+use Rattle.otel_waterfall.specs.Name.{shown_name}
+use Rattle.otel_waterfall.specs.declared.span.Outcome.{Outcome}
+use Rattle.otel_waterfall.specs.declared.span.Outcome.TheVariants as outcome
+use Rattle.otel_waterfall.specs.declared.span.Span.{Span}
 use Rattle.otel_sdk_span.specs.SpanData.{SpanRecord}
 
 -- what a row says of a status

@@ -1,2 +1,9 @@
+pub mod Bar
+pub mod Columns
 pub mod Drawn
+pub mod Duration
 pub mod Exporter
+pub mod Line
+pub mod Name
+pub mod Prefix
+pub mod Rows

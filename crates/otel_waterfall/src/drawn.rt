@@ -2,8 +2,9 @@
 ghost use Rattle.std.specs.Prelude.{◌≡◌, map, IfOk};
 ghost use Rattle.otel_waterfall.specs.Drawn as spec;
 
+use crate::name::shown_name;
+use crate::span::{Outcome, Span};
 use opentelemetry::trace::{Event, Status};
-use otel_drawing::{Outcome, Span, shown_name};
 use otel_sdk_span::SpanData;
 use std::alloc::{AllocError, Global};
 

@@ -2,10 +2,11 @@
 ghost use Rattle.std.specs.Prelude.{◌≡◌, [], false, true, IsTrue, IsOk, IsErrOf, OnOk, OnErr};
 ghost use Rattle.std.specs.Prelude.{◌∷◌, ◌++◌, length};
 ghost use Rattle.std.specs.Io.KnownBytes.{Appends};
-ghost use Rattle.otel_drawing.specs.Columns.{picture_width};
+ghost use Rattle.otel_waterfall.specs.Columns.{picture_width};
 
+use crate::columns::Style;
 use crate::drawn::drawn;
-use otel_drawing::{Style, picture};
+use crate::pictures::picture;
 use otel_sdk_base::error::{OTelSdkError, OTelSdkResult};
 use otel_sdk_span::{Accepted, Batch, SpanData, SpanExporter};
 use std::alloc::Global;
@@ -87,7 +88,7 @@ impl<W> WaterfallExporter<W> {
     }
 }
 
-/// Writes all bytes, and returns whether the writer took them.
+/// Writes all bytes, and returns whether the writer accepted them.
 fn write_all<W: Write>(output: &mut W, bytes: &[u8]) -> bool
     ensures { IsTrue result → Appends (W.contents output.old) (W.contents output.new) bytes.now }
 {
@@ -122,7 +123,7 @@ impl<W: Write + Drop> SpanExporter for WaterfallExporter<W> {
     /// # Errors
     ///
     /// `AlreadyShutdown` after [`SpanExporter::shutdown`]. `Memory` if out of memory: nothing is
-    /// written. `InternalFailure` if the writer fails: it may have taken a part of the picture.
+    /// written. `InternalFailure` if the writer fails: it may have written a part of the picture.
     fn export(&mut self, batch: &[SpanData]) -> OTelSdkResult
         ensures ok { OnOk result (self.new.accepted ≡ self.old.accepted ++ batch.now ∷ []) }
         ensures err { OnErr result (self.new.accepted ≡ self.old.accepted) }

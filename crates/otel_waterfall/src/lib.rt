@@ -2,7 +2,16 @@
 //! durations and bars beside it. Not in the Rust crates.
 #![tactic(auto)]
 
+mod bar;
+mod columns;
 mod drawn;
+mod duration;
 mod exporter;
+mod line;
+mod name;
+mod pictures;
+mod prefix;
+mod rows;
+mod span;
 
 pub use exporter::WaterfallExporter;

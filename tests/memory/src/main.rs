@@ -6,7 +6,6 @@
 #![tactic(auto)]
 
 mod context;
-mod drawing;
 mod lines;
 mod propagators;
 mod sdk;
@@ -26,6 +25,5 @@ fn main(rt: HostRuntime) -> io::Result<()> {
     propagators::play(alloc, &lines);
     tracing::play(alloc, &lines);
     sdk::play(rt, &lines);
-    drawing::play(alloc, &lines);
     lines.written()
 }

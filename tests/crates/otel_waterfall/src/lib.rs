@@ -1,8 +1,8 @@
-//! What no clause says of pictures of spans: the order of the rows, whole pictures, and writers that fail.
+//! What no clause says of pictures of spans: the order of the rows, whole pictures, and writers
+//! that fail.
 #![tactic(auto)]
 
 // Depends on: otel_sdk test_support
-// Tests also: otel_drawing
 
 mod durations;
 mod pictures;

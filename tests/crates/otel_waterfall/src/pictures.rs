@@ -7,7 +7,7 @@ use std::alloc::{AllocError, Global};
 use std::test::Fail;
 use test_support::span_data;
 
-/// A span of the trace, with its id, its parent's, its name, start and end.
+/// Returns a span of the trace. `ids` are its own id and that of its parent.
 pub fn span(
     alloc: Global,
     trace: u128,
@@ -35,7 +35,7 @@ const TRACE: u128 = 0x4bf92f3577b34da6a3ce929d0e0e4736;
 
 const BASE: u64 = 1760000000000000000;
 
-/// A request with two spans under it, in the order of ends.
+/// Returns a request with two spans under it, ordered by their ends.
 fn cart(alloc: Global) -> Result<Vec<SpanData>, AllocError> {
     let ms = |at: u64| BASE + at * 1000000;
     let mut load = span(
@@ -84,14 +84,14 @@ fn cart(alloc: Global) -> Result<Vec<SpanData>, AllocError> {
     Ok(batch)
 }
 
-/// The picture of the batch, 80 columns wide in UTF-8.
+/// Returns the picture of the batch in UTF-8, 80 columns wide.
 pub fn drawn(alloc: Global, batch: &[SpanData]) -> Result<Vec<u8>, AllocError> {
     let mut exporter = WaterfallExporter::new(alloc, Vec::new(alloc));
     drop(exporter.export(batch));
     exporter.output().clone()
 }
 
-/// The picture of the batch, so wide in ASCII.
+/// Returns the picture of the batch in ASCII, with this width in columns.
 pub fn drawn_in_ascii(
     alloc: Global,
     width: u16,
@@ -174,6 +174,72 @@ fn a_long_name_is_cut(rt: HostRuntime) -> Result<(), Fail> {
     let batch = [span(alloc, 7, (1, 0), "xxxxxxxxxxxxxxxxxxxxxxxxxxxxxxxxx", 5, 5)?];
     let wanted = "trace 00000000000000000000000000000007 0ns 1 span
 xxxxxxxxxxxxxxxxxxxxxxxxxxxxxxx…       0ns █
+";
+    assert_eq!(rt; drawn(alloc, &batch)?.as_slice(), wanted.as_bytes());
+    Ok(())
+}
+
+/// By the Unicode Standard, U+4E2D, U+6587 and U+5B57 are wide (`East_Asian_Width=W`), U+FF21 is
+/// fullwidth (`F`), and U+0301 is a nonspacing mark (`General_Category=Mn`).
+#[test]
+fn columns_of_wide_characters_and_marks(rt: HostRuntime) -> Result<(), Fail> {
+    let alloc = rt.alloc();
+    let batch = [
+        span(alloc, 7, (1, 0), "中文字", 5, 5)?,
+        span(alloc, 7, (2, 0), "\u{ff21}b", 5, 5)?,
+        span(alloc, 7, (3, 0), "e\u{301}te\u{301}", 5, 5)?,
+    ];
+    let wanted = "trace 00000000000000000000000000000007 0ns 3 spans
+中文字                                 0ns █
+\u{ff21}b                                    0ns █
+e\u{301}te\u{301}                                    0ns █
+";
+    assert_eq!(rt; drawn(alloc, &batch)?.as_slice(), wanted.as_bytes());
+    Ok(())
+}
+
+/// A name has 32 columns. One that is cut keeps 31 of them, so 15 ideographs, and a space follows.
+#[test]
+fn a_long_wide_name_is_cut(rt: HostRuntime) -> Result<(), Fail> {
+    let alloc = rt.alloc();
+    let batch = [
+        span(alloc, 7, (1, 0), "中中中中中中中中中中中中中中中中", 5, 5)?,
+        span(alloc, 7, (2, 0), "中中中中中中中中中中中中中中中中文", 5, 5)?,
+        span(alloc, 7, (3, 0), "中中中中中中中中中中中中中中中xy", 5, 5)?,
+        span(alloc, 7, (4, 0), "x中中中中中中中中中中中中中中中e\u{301}f", 5, 5)?,
+    ];
+    let wanted = "trace 00000000000000000000000000000007 0ns 4 spans
+中中中中中中中中中中中中中中中中       0ns █
+中中中中中中中中中中中中中中中…        0ns █
+中中中中中中中中中中中中中中中xy       0ns █
+x中中中中中中中中中中中中中中中…       0ns █
+";
+    assert_eq!(rt; drawn(alloc, &batch)?.as_slice(), wanted.as_bytes());
+    let marks = [span(
+        alloc,
+        7,
+        (1, 0),
+        "xxxxxxxxxxxxxxxxxxxxxxxxxxxxxxe\u{301}\u{302}yz",
+        5,
+        5,
+    )?];
+    let wanted = "trace 00000000000000000000000000000007 0ns 1 span
+xxxxxxxxxxxxxxxxxxxxxxxxxxxxxxe\u{301}\u{302}…       0ns █
+";
+    assert_eq!(rt; drawn(alloc, &marks)?.as_slice(), wanted.as_bytes());
+    Ok(())
+}
+
+#[test]
+fn a_long_wide_name_below_branches(rt: HostRuntime) -> Result<(), Fail> {
+    let alloc = rt.alloc();
+    let batch = [
+        span(alloc, 7, (1, 0), "根", 5, 5)?,
+        span(alloc, 7, (2, 1), "中中中中中中中中中中中中中中中", 5, 5)?,
+    ];
+    let wanted = "trace 00000000000000000000000000000007 0ns 2 spans
+根                                     0ns █
+└─ 中中中中中中中中中中中中中中…       0ns █
 ";
     assert_eq!(rt; drawn(alloc, &batch)?.as_slice(), wanted.as_bytes());
     Ok(())

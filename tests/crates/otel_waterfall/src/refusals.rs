@@ -6,11 +6,12 @@ use otel_waterfall::WaterfallExporter;
 use std::io::{self, ErrorKind, Write};
 use std::test::Fail;
 
-/// A writer that takes one byte a call, so many in all, and is interrupted at each other call.
+/// A writer that writes one byte in a call and `limit` bytes in all. Every other call is
+/// interrupted.
 #[derive(Drop)]
 struct Narrow {
-    room: usize,
-    taken: usize,
+    limit: usize,
+    written: usize,
     is_interrupted: bool,
 }
 
@@ -20,9 +21,9 @@ impl Write for Narrow {
         if self.is_interrupted {
             return Err(io::Error::from(ErrorKind::Interrupted));
         }
-        let count = buf.len().min(self.room).min(1);
-        self.room -= count;
-        self.taken = self.taken.saturating_add(count);
+        let count = buf.len().min(self.limit).min(1);
+        self.limit -= count;
+        self.written = self.written.saturating_add(count);
         Ok(count)
     }
 
@@ -35,18 +36,18 @@ impl Write for Narrow {
 fn a_writer_that_is_full_refuses(rt: HostRuntime) -> Result<(), Fail> {
     let alloc = rt.alloc();
     let batch = [span(alloc, 7, (1, 0), "a", 5, 5)?];
-    for (room, is_taken) in [(0, false), (10, false), (78, false), (79, true)] {
+    for (limit, is_accepted) in [(0, false), (10, false), (78, false), (79, true)] {
         let narrow = Narrow {
-            room,
-            taken: 0,
+            limit,
+            written: 0,
             is_interrupted: false,
         };
         let mut exporter = WaterfallExporter::new(alloc, narrow)
             .with_ascii()
             .with_width(40);
         let answer = exporter.export(&batch);
-        assert_eq!(rt; exporter.output().taken, room);
-        if is_taken {
+        assert_eq!(rt; exporter.output().written, limit);
+        if is_accepted {
             assert!(rt; answer.is_ok());
         } else {
             assert!(rt; matches!(answer, Err(OTelSdkError::InternalFailure(_))));

@@ -1,7 +1,10 @@
 //! Processors and exporters of spans.
 use crate::lines::Lines;
 use crate::sdk::spans::given;
-use opentelemetry::trace::{Span, SpanContext, SpanId, Spans, TraceFlags, TraceId, TraceState};
+use opentelemetry::StringValue;
+use opentelemetry::trace::{
+    Event, Span, SpanContext, SpanId, Spans, TraceFlags, TraceId, TraceState,
+};
 use otel_sdk::error::OTelSdkResult;
 use otel_sdk::trace::{
     BatchSpanProcessor, EndRefused, InMemorySpanExporter, SdkSpan, SimpleSpanProcessor, SpanData,
@@ -224,8 +227,26 @@ fn finished<R: Print>(alloc: Global, lines: &Lines<'_, R>) -> Result<(), AllocEr
     Ok(())
 }
 
+/// Returns a span with this id and this parent, and an event.
+fn child(alloc: Global, id: u64, parent: u64) -> Result<SpanData, AllocError> {
+    let mut child = span(alloc)?;
+    let (trace_id, span_id) = (TraceId::from(1), SpanId::from(id));
+    let state = TraceState::NONE;
+    child.span_context =
+        SpanContext::new(trace_id, span_id, TraceFlags::SAMPLED, false, state);
+    child.parent_span_id = SpanId::from(parent);
+    let event = Event::new(StringValue::from("e"), 1, Vec::new(alloc), 0);
+    child.events.events.push(event)?;
+    Ok(child)
+}
+
 fn drawn<R: Print>(alloc: Global, lines: &Lines<'_, R>) -> Result<(), AllocError> {
-    let batch = [span(alloc)?];
+    let batch = [
+        span(alloc)?,
+        child(alloc, 3, 2)?,
+        child(alloc, 4, 3)?,
+        child(alloc, 5, 9)?,
+    ];
     let mut exporter = WaterfallExporter::new(alloc, io::sink());
     lines.answer_named("drawn", exporter.export(&batch));
     lines.free_ok("WaterfallExporter::force_flush", exporter.force_flush());

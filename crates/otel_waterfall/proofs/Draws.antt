@@ -1,0 +1,24 @@
+-- How drawing goes on.
+use Rattle.std.proofs.Common.{◌<◌, Bool, List, length, refl, ◌∙◌, arith}
+use Rattle.otel_waterfall.specs.Rows.{Draws, DrawsOn, IsDrawn}
+use Rattle.otel_waterfall.specs.declared.rows.Drawing.{Drawing}
+use Rattle.otel_waterfall.specs.declared.rows.Row.{Row}
+use Rattle.otel_waterfall.specs.declared.rows.Row.TheVariants.{Span, Absent}
+
+-- nothing is drawn
+pub draws_nothing : (p : List Bool) (rows : List Row) → Draws p rows p rows
+draws_nothing p rows = record { same_length = refl; each = λ place h. refl; none_anew = λ place h. h }
+
+-- one after another
+pub draws_more : (p : List Bool) (a : List Row) (q : List Bool) (b : List Row) (r : List Bool) (c : List Row)
+    → Draws p a q b → Draws q b r c → Draws p a r c
+draws_more p a q b r c first then = record {
+  same_length = then.same_length ∙ first.same_length;
+  each = λ place h. then.each place (let k : place < length q = omega (arith, first.same_length) in k) ∙ first.each place h;
+  none_anew = λ place h. then.none_anew place (first.none_anew place h);
+}
+
+-- what is drawn stays so
+pub stays_drawn : (row : Row) (a : Drawing) (b : Drawing) → DrawsOn a b → IsDrawn row a → IsDrawn row b
+stays_drawn (Span place depth follows) a b more h = more.none_anew place h
+stays_drawn (Absent child) a b more h = h

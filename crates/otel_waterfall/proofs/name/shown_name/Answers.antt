@@ -1,0 +1,11 @@
+-- At the end the characters so far are all of them.
+use Rattle.std.proofs.Common.{map, sym, ap, ◌∙◌, map-id}
+use Rattle.std.proofs.lemmas.Iterator.{YieldsList-from_chars}
+use Rattle.std.proofs.lemmas.Iterator.Consumers.{YieldsList-end}
+use Rattle.otel_waterfall.specs.Name as spec
+use Rattle.otel_waterfall.proofs.name.shown_name.Goals as goal
+
+pub returns : goal.returns
+returns c =
+    let end = YieldsList-end (YieldsList-from_chars c.args.name.now c.utf8.name cc) c.loop-c.yielded _ c.loop-c.yielded_by _ _ c.in-None.is c.next.ensures.steps in
+    c.loop-c.invariant ∙ ap (map (spec.shown c.args.is_ascii)) (sym (map-id c.loop-c.yielded) ∙ end.0)

@@ -1,0 +1,6 @@
+-- What is drawn so far, the top row among it.
+use Rattle.otel_waterfall.specs.Rows.{DrawsOn, IsDrawn}
+use Rattle.otel_waterfall.proofs.rows.draw_tree.Given as goal
+
+abbrev pub invariant-loop : goal.invariant-loop
+invariant-loop l = DrawsOn l.initial.drawing l.drawing × IsDrawn l.fn.top l.drawing

@@ -1,0 +1,49 @@
+-- Which spans the rows of a trace draw. Not in the Rust crates.
+use Rattle.std.specs.Prelude.{◌≡◌, ℕ, ◌+◌, ◌<◌, ◌==◌, refl, Bool, true, false}
+use Rattle.std.specs.Prelude.{List, [], ◌∷◌, length}
+use Rattle.std.specs.Prelude.{count_by, slice_index_or, if◌then◌else◌}
+use Rattle.otel_waterfall.specs.declared.rows.Drawing.{Drawing}
+use Rattle.otel_waterfall.specs.declared.rows.Row.{Row}
+use Rattle.otel_waterfall.specs.declared.rows.Row.TheVariants.{Span, Absent}
+
+-- whether the row is that of the span at this place of the batch
+abbrev pub is_row_of : ℕ → Row → Bool
+is_row_of place (Span at depth follows) = at == place
+is_row_of place (Absent child) = false
+
+-- how many rows the span at this place has
+abbrev pub row_count : ℕ → List Row → ℕ
+row_count place rows = count_by (is_row_of place) rows
+
+-- 1 if the span at the place is wanted, otherwise 0
+abbrev pub one_if : List Bool → ℕ → ℕ
+one_if wanted place = if slice_index_or wanted place false then 1 else 0
+
+-- each span that is wanted has one row, and every other span of the batch none
+abbrev pub AreDrawnOnce : List Bool → List Row → Type 0
+AreDrawnOnce wanted rows =
+    (place : ℕ) → place < length wanted → row_count place rows ≡ one_if wanted place
+
+-- The pending spans and the rows changed to `left` and `drawn`: each span that is no longer pending
+-- has one more row, and no span became pending.
+pub record Draws (pending : List Bool) (rows : List Row) (left : List Bool) (drawn : List Row)
+    : Type 0 where
+  pub same_length : length left ≡ length pending
+  pub each : (place : ℕ) → place < length pending
+      → row_count place drawn + one_if left place ≡ row_count place rows + one_if pending place
+  pub none_anew : (place : ℕ) → slice_index_or pending place false ≡ false
+      → slice_index_or left place false ≡ false
+
+-- the same of a drawing before and after
+abbrev pub DrawsOn : Drawing → Drawing → Type 0
+DrawsOn old new = Draws old.pending.items old.rows.items new.pending.items new.rows.items
+
+-- the span of this row, if it is a span's, is drawn
+abbrev pub IsDrawn : Row → Drawing → Type 0
+IsDrawn (Span place depth follows) drawing =
+    slice_index_or drawing.pending.items place false ≡ false
+IsDrawn (Absent child) drawing = Unit {0}
+
+-- ---- worked rows
+one_of_two : row_count 1 (Absent 0 ∷ Span 1 1 false ∷ Span 0 1 true ∷ []) ≡ 1
+one_of_two = refl

@@ -1,0 +1,129 @@
+//! The lines of a picture.
+ghost use Rattle.std.specs.Prelude.{◌≡◌, ◌++◌, IfOk, OnOk, chars, replicate};
+ghost use Rattle.otel_waterfall.specs.Columns.{name_width};
+ghost use Rattle.otel_waterfall.specs.Name.{columns_of};
+ghost use Rattle.otel_waterfall.specs.Line as spec;
+
+use crate::bar::Scale;
+use crate::columns::Style;
+use crate::duration::duration_text;
+use crate::name::{columns_left, fit, shown_name};
+use crate::prefix::push_prefix;
+use crate::span::{Outcome, Span};
+use std::alloc::{AllocError, Global};
+
+/// The columns of a duration.
+const DURATION_WIDTH: usize = 9;
+
+/// Appends `count` spaces.
+fn push_spaces(line: &mut Vec<char>, count: usize) -> Result<(), AllocError>
+    ensures { OnOk result (line.new.items ≡ line.old.items ++ replicate count 32) }
+{
+    for _ in 0..count {
+        line.push(' ')?;
+    }
+    Ok(())
+}
+
+/// Appends the characters of a text.
+fn push_text(line: &mut Vec<char>, text: &str) -> Result<(), AllocError>
+    ensures { OnOk result (line.new.items ≡ line.old.items ++ chars text.now) }
+{
+    for c in text.chars() {
+        line.push(c)?;
+    }
+    Ok(())
+}
+
+/// Returns the branches and the name of a span, and spaces to the end of the column.
+#[tactic(auto, using(crate::proofs::Widths::name_text_columns))]
+fn name_column(
+    alloc: Global,
+    style: Style,
+    name: &Vec<char>,
+    follows: &[bool],
+) -> Result<Vec<char>, AllocError>
+    ensures text { IfOk result (λ column.
+        column.items ≡ spec.name_text style.is_ascii style.width follows.now name.now.items) }
+    ensures width { IfOk result (λ column. columns_of column.items ≡ name_width style.width) }
+{
+    let mut column = Vec::new(alloc);
+    push_prefix(&mut column, style.is_ascii, style.group_limit(), follows)?;
+    let columns = style.name_width().saturating_sub(column.len()).max(1);
+    let mut name = name.clone()?;
+    fit(style.is_ascii, columns, &mut name);
+    column.extend_from_slice(name.as_slice())?;
+    push_spaces(&mut column, columns_left(name.as_slice(), columns))?;
+    Ok(column)
+}
+
+/// Returns the text of a status.
+fn outcome_text(outcome: Outcome) -> &'static str
+    ensures { result.now ≡ spec.outcome_text outcome }
+{
+    match outcome {
+        Outcome::Unset => "",
+        Outcome::Ok => "ok",
+        Outcome::Error => "error",
+    }
+}
+
+/// Removes the spaces at the end.
+fn trim_end(line: &mut Vec<char>) {
+    while line.last() == Some(&' ') {
+        line.pop();
+    }
+}
+
+/// Returns the line of a span.
+///
+/// # Errors
+///
+/// Returns an error if memory runs out.
+pub(crate) fn span_line(
+    alloc: Global,
+    style: Style,
+    scale: Scale,
+    span: &Span,
+    follows: &[bool],
+) -> Result<Vec<char>, AllocError> {
+    let mut line = name_column(alloc, style, &span.name, follows)?;
+    let duration = duration_text(alloc, span.start, span.end)?;
+    push_spaces(&mut line, 1 + DURATION_WIDTH.saturating_sub(duration.len()))?;
+    push_text(&mut line, duration.as_str())?;
+    line.push(' ')?;
+    let bar = scale.bar(
+        alloc,
+        style.is_ascii,
+        span.start,
+        span.end,
+        span.moments.as_slice(),
+    )?;
+    line.extend_from_slice(bar.as_slice())?;
+    line.push(' ')?;
+    push_text(&mut line, outcome_text(span.outcome))?;
+    trim_end(&mut line);
+    Ok(line)
+}
+
+/// Returns the line of a parent that isn't in the batch: its id, and whether it is in another
+/// process, as its first child says.
+///
+/// # Errors
+///
+/// Returns an error if memory runs out.
+pub(crate) fn absent_line(
+    alloc: Global,
+    style: Style,
+    child: &Span,
+) -> Result<Vec<char>, AllocError> {
+    let id = child.parent_span_id;
+    let text = if child.is_parent_remote {
+        format!(in alloc; "[remote {id}]")?
+    } else {
+        format!(in alloc; "[missing {id}]")?
+    };
+    let mut line = shown_name(alloc, style.is_ascii, text.as_str())?;
+    fit(style.is_ascii, style.name_width(), &mut line);
+    Ok(line)
+}

@@ -1,0 +1,253 @@
+//! The rows of a trace, in the order in which they are drawn.
+ghost use Rattle.std.specs.Prelude.{◌≡◌, ◌==◌, false, map, IfOk, OnOk, slice_index_or};
+ghost use Rattle.otel_waterfall.specs.Rows.{AreDrawnOnce, DrawsOn, IsDrawn};
+
+use crate::span::Span;
+use otel_ids::{SpanId, TraceId};
+use std::alloc::{AllocError, Global};
+
+/// A row below the first line of a trace.
+#[derive(Clone, Copy, Debug)]
+pub(crate) enum Row {
+    /// A span of the batch.
+    Span {
+        /// The place of the span in the batch.
+        place: usize,
+        /// How many rows are above it in the tree.
+        depth: usize,
+        /// Whether a sibling follows it.
+        follows: bool,
+    },
+    /// A parent that isn't in the batch.
+    Absent {
+        /// The place of its first child in the batch.
+        child: usize,
+    },
+}
+
+/// The parent of a span.
+#[derive(Clone, Copy, Debug, PartialEq, Eq)]
+enum Parent {
+    /// None: the span is a root.
+    Root,
+    /// The span at this place of the batch.
+    At(usize),
+    /// A span that isn't in the batch.
+    Absent(SpanId),
+}
+
+/// A span of the trace.
+#[derive(Clone, Copy, Debug)]
+struct Node {
+    place: usize,
+    parent: Parent,
+}
+
+/// A span that waits for its turn.
+#[derive(Clone, Copy, Debug)]
+struct Waiting {
+    place: usize,
+    depth: usize,
+    follows: bool,
+}
+
+/// Returns the parent of a span: the first of the spans with that id.
+fn parent_of(batch: &[Span], span: &Span) -> Parent {
+    if span.parent_span_id == SpanId::INVALID {
+        return Parent::Root;
+    }
+    let trace = span.trace_id;
+    let place = batch.iter().position(|other| other.trace_id == trace
+        && other.span_id == span.parent_span_id);
+    place.map_or(Parent::Absent(span.parent_span_id), Parent::At)
+}
+
+/// Returns the spans of a trace, ordered by start and then by place.
+fn nodes_of(alloc: Global, batch: &[Span], trace: TraceId) -> Result<Vec<Node>, AllocError> {
+    let mut starts = Vec::new(alloc);
+    for (place, span) in batch.iter().enumerate() {
+        if span.trace_id == trace {
+            starts.push((span.start, place))?;
+        }
+    }
+    starts.sort()?;
+    let mut nodes = Vec::new(alloc);
+    for (_, place) in starts {
+        if let Some(span) = batch.get(place) {
+            nodes.push(Node {
+                place,
+                parent: parent_of(batch, span),
+            })?;
+        }
+    }
+    Ok(nodes)
+}
+
+/// The rows drawn so far, and for each place of the batch whether its span is still to be drawn.
+#[derive(Debug, Drop)]
+struct Drawing {
+    pending: Vec<bool>,
+    rows: Vec<Row>,
+}
+
+impl Drawing {
+    /// Returns whether the span at this place is still to be drawn.
+    fn is_pending(&self, place: usize) -> bool
+        ensures { result ≡ slice_index_or self.now.pending.items place false }
+    {
+        place < self.pending.len() && self.pending[place]
+    }
+
+    /// Draws a row: that of an absent parent, or that of a span which is still to be drawn.
+    fn draw(&mut self, row: Row) -> Result<(), AllocError>
+        ensures draws { OnOk result (DrawsOn self.old self.new) }
+        ensures drawn { OnOk result (IsDrawn row self.new) }
+    {
+        match row {
+            Row::Span {
+                place,
+                depth,
+                follows,
+            } => {
+                if place < self.pending.len() && self.pending[place] {
+                    self.rows.push(Row::Span {
+                        place,
+                        depth,
+                        follows,
+                    })?;
+                    self.pending[place] = false;
+                }
+                Ok(())
+            }
+            Row::Absent { child } => {
+                self.rows.push(Row::Absent { child })?;
+                Ok(())
+            }
+        }
+    }
+}
+
+/// Pushes the children of a parent that are still to be drawn, the first on top.
+fn push_children(
+    nodes: &[Node],
+    drawing: &Drawing,
+    waiting: &mut Vec<Waiting>,
+    parent: Parent,
+    depth: usize,
+) -> Result<(), AllocError> {
+    let mut follows = false;
+    for node in nodes.iter().rev() {
+        if node.parent == parent && drawing.is_pending(node.place) {
+            waiting.push(Waiting {
+                place: node.place,
+                depth,
+                follows,
+            })?;
+            follows = true;
+        }
+    }
+    Ok(())
+}
+
+/// Draws a row, and the spans under `parent`, each with what is under it.
+#[tactic(auto, using(crate::proofs::Draws::draws_more, crate::proofs::Draws::stays_drawn))]
+fn draw_tree(
+    alloc: Global,
+    nodes: &[Node],
+    drawing: &mut Drawing,
+    top: Row,
+    parent: Parent,
+) -> Result<(), AllocError>
+    ensures draws { OnOk result (DrawsOn drawing.old drawing.new) }
+    ensures drawn { OnOk result (IsDrawn top drawing.new) }
+{
+    drawing.draw(top)?;
+    let mut waiting = Vec::new(alloc);
+    push_children(nodes, drawing, &mut waiting, parent, 1)?;
+    for _ in 0..nodes.len() {
+        let Some(next) = waiting.pop() else {
+            break;
+        };
+        drawing.draw(Row::Span {
+            place: next.place,
+            depth: next.depth,
+            follows: next.follows,
+        })?;
+        let depth = next.depth.saturating_add(1);
+        push_children(nodes, drawing, &mut waiting, Parent::At(next.place), depth)?;
+    }
+    Ok(())
+}
+
+/// Returns the row at the top for a root or a child of an absent parent, and the parent of the
+/// spans under the row.
+fn top_of(node: Node) -> Option<(Row, Parent)> {
+    match node.parent {
+        Parent::Root => {
+            let row = Row::Span {
+                place: node.place,
+                depth: 0,
+                follows: false,
+            };
+            Some((row, Parent::At(node.place)))
+        }
+        Parent::Absent(_) => Some((Row::Absent { child: node.place }, node.parent)),
+        Parent::At(_) => None,
+    }
+}
+
+/// Returns for each span of the batch whether it is of the trace.
+fn spans_of(alloc: Global, batch: &[Span], trace: TraceId) -> Result<Vec<bool>, AllocError>
+    ensures { IfOk result (λ flags. flags.items ≡ map (λ span. span.trace_id == trace) batch.now) }
+{
+    batch
+        .iter()
+        .map(|span| span.trace_id == trace)
+        .collect(alloc)
+}
+
+/// Returns the rows of a trace, from the top. Each span of the trace has one row, and no other span
+/// has one. Siblings are ordered by start and then by place in the batch; each is followed by what
+/// is under it. Spans whose parents are in a circle come last, as if they were roots.
+///
+/// # Errors
+///
+/// Returns an error if memory runs out.
+#[tactic(auto, using(crate::proofs::Draws::draws_more, crate::proofs::Draws::draws_nothing))]
+pub(crate) fn rows_of(alloc: Global, batch: &[Span], trace: TraceId) -> Result<Vec<Row>, AllocError>
+    ensures once { IfOk result (λ rows.
+        AreDrawnOnce (map (λ span. span.trace_id == trace) batch.now) rows.items) }
+{
+    let nodes = nodes_of(alloc, batch, trace)?;
+    let mut drawing = Drawing {
+        pending: spans_of(alloc, batch, trace)?,
+        rows: Vec::new(alloc),
+    };
+    for node in &nodes {
+        if !drawing.is_pending(node.place) {
+            continue;
+        }
+        let Some((row, parent)) = top_of(*node) else {
+            continue;
+        };
+        draw_tree(alloc, nodes.as_slice(), &mut drawing, row, parent)?;
+    }
+    for place in 0..batch.len() {
+        if !drawing.is_pending(place) {
+            continue;
+        }
+        let row = Row::Span {
+            place,
+            depth: 0,
+            follows: false,
+        };
+        draw_tree(
+            alloc,
+            nodes.as_slice(),
+            &mut drawing,
+            row,
+            Parent::At(place),
+        )?;
+    }
+    Ok(drawing.rows)
+}
