@@ -8,7 +8,8 @@ use crate::columns::Style;
 use crate::drawn::drawn;
 use crate::pictures::picture;
 use otel_sdk_base::error::{OTelSdkError, OTelSdkResult};
-use otel_sdk_span::{Accepted, Batch, SpanData, SpanExporter};
+use otel_sdk_base::{Accepted, Exporter};
+use otel_sdk_span::SpanData;
 use std::alloc::Global;
 use std::io::{ErrorKind, Write};
 use std::marker::Model;
@@ -27,7 +28,7 @@ pub struct WaterfallExporter<W> {
     output: W,
     style: Style,
     is_shut_down: bool,
-    accepted: Accepted,
+    accepted: Accepted<SpanData>,
 }
 
 impl<W> Model for WaterfallExporter<W> {
@@ -110,7 +111,7 @@ fn write_all<W: Write>(output: &mut W, bytes: &[u8]) -> bool
     false
 }
 
-impl<W: Write + Drop> SpanExporter for WaterfallExporter<W> {
+impl<W: Write + Drop> Exporter<SpanData> for WaterfallExporter<W> {
     ghost use Rattle.std.specs.Prelude.{◌≡◌, true};
 
     ghost accepted = { λ e. e.accepted };
@@ -122,7 +123,7 @@ impl<W: Write + Drop> SpanExporter for WaterfallExporter<W> {
     ///
     /// # Errors
     ///
-    /// `AlreadyShutdown` after [`SpanExporter::shutdown`]. `Memory` if out of memory: nothing is
+    /// `AlreadyShutdown` after [`Exporter::shutdown`]. `Memory` if out of memory: nothing is
     /// written. `InternalFailure` if the writer fails: it may have written a part of the picture.
     fn export(&mut self, batch: &[SpanData]) -> OTelSdkResult
         ensures ok { OnOk result (self.new.accepted ≡ self.old.accepted ++ batch.now ∷ []) }
@@ -144,7 +145,7 @@ impl<W: Write + Drop> SpanExporter for WaterfallExporter<W> {
         if !write_all(&mut self.output, text.as_bytes()) {
             return Err(OTelSdkError::InternalFailure(message));
         }
-        self.accepted = self.accepted.and(&Batch { spans: batch });
+        self.accepted = self.accepted.and(batch);
         Ok(())
     }
 

@@ -20,7 +20,7 @@ use std::alloc::{AllocError, Global};
 /// other methods call `build_with_context`.
 ///
 /// See `otel_examples::in_span` and `otel_examples::service`. For a tracer, see `RecordingTracer`
-/// in the crate `otel_recording`.
+/// in the crate `otel_examples`.
 pub trait Tracer {
     ghost use Rattle.otel_context.specs.Context.{ContextRecord};
     ghost use Rattle.opentelemetry.specs.SpanBuilder.{BuilderRecord};
