@@ -1,3 +1,4 @@
+pub mod BlankCuts
 pub mod Decided
 pub mod Joined
 pub mod MapTrees

@@ -2,7 +2,6 @@
 //! trace-context-2).
 #![tactic(auto)]
 
-mod blanks;
 mod error;
 pub mod laws;
 mod list_member;
@@ -13,7 +12,6 @@ mod span_context;
 mod trace_context;
 mod trace_state;
 
-pub use blanks::cut_blanks;
 pub use error::TraceStateError;
 pub use members::TraceStateIter;
 pub use span_context::SpanContext;

@@ -7,8 +7,6 @@ use Rattle.std.proofs.Math.Seq.{take-append_seam, drop-append-add, get_or-append
 use Rattle.std.proofs.lemmas.List.{take_all, drop_all}
 use Rattle.std.proofs.lemmas.List.Sums.{AllPass-from_list_all, split_at_first, passes_at_first}
 use Rattle.std.proofs.lemmas.Str.{IsUtf8-nil, IsUtf8-take, IsUtf8-drop, IsCharBoundary-before_ascii, IsCharBoundary-after_ascii}
-use Rattle.otel_ids.specs.Text.{is_blank, ends_in_blank, cut_front, cut_end, cut_blanks}
-use Rattle.otel_ids.proofs.Cuts.{cut_end-kept}
 use Rattle.otel_ids.proofs.Readings.{place_of_any}
 
 module _ (p : ℕ → Bool) where
@@ -53,20 +51,6 @@ module _ (p : ℕ → Bool) where
 
   pub after_none : (xs : List ℕ) → list_any p xs ≡ false → after_first p xs ≡ []
   after_none xs h = let e = place_none xs h in drop_all (position_or_len p xs + 1) xs (omega arith)
-
--- ---- a text without blanks has nothing to cut
-
-no_blank_front : (xs : List ℕ) → list_any is_blank xs ≡ false → cut_front xs ≡ xs
-no_blank_front [] h = refl
-no_blank_front (x ∷ xs) h = let a = or_parts (is_blank x) (list_any is_blank xs) h in rw a.0 refl
-
-no_blank_end : (xs : List ℕ) → list_any is_blank xs ≡ false → ends_in_blank xs ≡ false
-no_blank_end [] h = refl
-no_blank_end (x ∷ []) h = (or_parts (is_blank x) false h).0
-no_blank_end (x ∷ y ∷ xs) h = no_blank_end (y ∷ xs) (or_parts (is_blank x) (list_any is_blank (y ∷ xs)) h).1
-
-pub no_blanks : (xs : List ℕ) → list_any is_blank xs ≡ false → cut_blanks xs ≡ xs
-no_blanks xs h = ap cut_end (no_blank_front xs h) ∙ cut_end-kept xs (no_blank_end xs h)
 
 -- ---- a text that is cut at an ASCII byte
 

@@ -15,7 +15,9 @@ use Rattle.std.proofs.lemmas.Map.Keys.{IsDistinct-head, IsDistinct-tail}
 use Rattle.std.proofs.lemmas.Str.{IsUtf8-from_is_utf8, is_utf8-from_IsUtf8}
 use Rattle.percent_encoding.specs.Percent.{percent_decode}
 use Rattle.percent_encoding.proofs.PercentLemmas.{percent_decode-nil, percent_decode_not_percent, length-percent_decode}
-use Rattle.otel_ids.specs.Text.{is_comma, is_equals, is_blank, cut_blanks}
+use Rattle.otel_base.specs.Blanks.{is_blank, cut_blanks}
+use Rattle.otel_base.proofs.BlankCuts.{no_blanks}
+use Rattle.otel_ids.specs.Text.{is_comma, is_equals}
 use Rattle.otel_context.specs.BaggageText.{is_key_byte, is_key, escaped, IsTrimmed}
 use Rattle.otel_context.specs.BaggageMember.{Member, member_of, has_key, weight_of, IsValidMember}
 use Rattle.otel_context.specs.Baggage.{max_key_value_pairs, max_len_of_all_pairs, weight, put, accepts, insert, IsBaggage}
@@ -24,7 +26,7 @@ use Rattle.otel_context.specs.BaggageLaws.{HasNoComma}
 use Rattle.otel_context.proofs.BaggageTrims.{trim_twice}
 use Rattle.otel_propagators.specs.BaggagePieces.{is_percent, decoded_value, with_value}
 use Rattle.otel_propagators.specs.BaggageReading.{is_semicolon, pieces, key_and_value, key_in, written_value, value_in, metadata_in, member_in, is_member, with_piece, with_pieces, BaggageReads, ReadsBaggage}
-use Rattle.otel_propagators.proofs.FirstCuts.{none_append, some_at, none_from_all, none_from_not, none_All, before_at, after_at, before_none, after_none, no_blanks, utf8_cut, utf8_after}
+use Rattle.otel_propagators.proofs.FirstCuts.{none_append, some_at, none_from_all, none_from_not, none_All, before_at, after_at, before_none, after_none, utf8_cut, utf8_after}
 use Rattle.otel_propagators.proofs.EscapedValues.{is_written, all_written, decoded}
 use Rattle.otel_context.proofs.BaggageLists.{AreDistinct, HasNone}
 use Rattle.otel_propagators.proofs.PutMembers.{distinct_nil, turned, insert_baggage, too_long}

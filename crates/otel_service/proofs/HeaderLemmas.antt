@@ -22,7 +22,7 @@ use Rattle.otel_ids.proofs.Readings.{place_of_any}
 use Rattle.otel_propagators.proofs.FirstCuts.{none_All}
 use Rattle.otel_context.specs.BaggageText.{is_key}
 use Rattle.opentelemetry.specs.Carrier.{lower}
-use Rattle.otel_ids.specs.Text.{cut_blanks}
+use Rattle.otel_base.specs.Blanks.{cut_blanks}
 use Rattle.otel_service.specs.Headers.{is_line_feed, is_colon, IsFirstLine, header_in, header_of, headers_of, values_under, combined_value, value_at}
 
 -- what isn't UTF-8 doesn't pass the test

@@ -1,6 +1,6 @@
 //! Blanks: spaces and tabs (RFC 7230, section 3.2.3, `OWS`).
 ghost use Rattle.std.specs.Prelude.{◌≡◌};
-ghost use Rattle.otel_ids.specs.Text.{cut_front, cut_end, cut_blanks};
+ghost use Rattle.otel_base.specs.Blanks.{cut_front, cut_end, cut_blanks};
 
 const BLANKS: [char; 2] = [' ', '\t'];
 
