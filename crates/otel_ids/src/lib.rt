@@ -2,6 +2,7 @@
 //! trace-context-2).
 #![tactic(auto)]
 
+mod digits;
 mod error;
 pub mod laws;
 mod list_member;
@@ -9,11 +10,15 @@ mod members;
 mod pairs;
 mod reading;
 mod span_context;
-mod trace_context;
+mod span_id;
+mod trace_flags;
+mod trace_id;
 mod trace_state;
 
 pub use error::TraceStateError;
 pub use members::TraceStateIter;
 pub use span_context::SpanContext;
-pub use trace_context::{SpanId, TraceFlags, TraceId};
+pub use span_id::SpanId;
+pub use trace_flags::TraceFlags;
+pub use trace_id::TraceId;
 pub use trace_state::TraceState;
