@@ -4,9 +4,9 @@
 
 mod digits;
 mod error;
+mod from_pairs;
 pub mod laws;
 mod list_member;
-mod members;
 mod pairs;
 mod reading;
 mod span_context;
@@ -16,7 +16,7 @@ mod trace_id;
 mod trace_state;
 
 pub use error::TraceStateError;
-pub use members::TraceStateIter;
+pub use pairs::TraceStateIter;
 pub use span_context::SpanContext;
 pub use span_id::SpanId;
 pub use trace_flags::TraceFlags;

@@ -1,10 +1,10 @@
 use Rattle.std.proofs.Common.{◌≡◌, ◌+◌, ◌∷◌, List, ℕ, take, drop, slice_index_or, false, refl, sym, ap, ◌∙◌, arith}
 use Rattle.std.specs.Str.{bytes_eq}
 use Rattle.std.proofs.lemmas.List.{drop_more, length-take}
-use Rattle.otel_ids.specs.declared.members.Place.{Place}
+use Rattle.otel_ids.specs.declared.pairs.Place.{Place}
 use Rattle.otel_ids.proofs.Places.{turn, next_turn, lengths_differ}
-use Rattle.otel_ids.proofs.members.value_of.Goals as goal
-use Rattle.otel_ids.proofs.members.value_of.Goals.{then-length-key+else-eq, else-length-key}
+use Rattle.otel_ids.proofs.pairs.value_of.Goals as goal
+use Rattle.otel_ids.proofs.pairs.value_of.Goals.{then-length-key+else-eq, else-length-key}
 
 abbrev no_place : Place
 no_place = record { key = 0; value = 0 }
