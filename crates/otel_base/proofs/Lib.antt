@@ -1,7 +1,5 @@
-pub mod BlankCuts
+pub mod shared
 pub mod Decided
-pub mod Joined
 pub mod MapTrees
 pub mod Sorting
-pub mod Views
 pub mod Walk

@@ -1,9 +1,8 @@
 -- The fault that a text has by the grammar is the one that `fault_of` gives.
-use Rattle.std.proofs.Common.{◌≡◌, ℕ, suc, ◌+◌, true, false, List, [], ◌∷◌, ◌++◌, length, drop, Option, Some, None, refl, sym, ap, subst, ◌∙◌, arith, inl, inr, append_assoc, take}
+use Rattle.std.proofs.Common.{◌≡◌, ℕ, suc, ◌+◌, false, List, [], ◌∷◌, ◌++◌, Option, Some, None, refl, sym, ap, subst, ◌∙◌, arith, inl, inr, take}
 use Rattle.std.specs.Prelude.{map, replicate, ◌⊎◌}
 use Rattle.std.specs.List.{AllByRecursion, list_any, before_first, after_first, position_or_len}
-use Rattle.std.proofs.lemmas.Bool.{cases_Bool, false≢true}
-use Rattle.std.proofs.lemmas.List.{take_at, drop_at, length-append}
+use Rattle.std.proofs.lemmas.Bool.{cases_Bool}
 use Rattle.otel_ids.specs.Text.{is_equals, is_key, is_value}
 use Rattle.otel_ids.specs.TraceState.{Pair}
 use Rattle.otel_ids.specs.Reading.{pieces, list_members, key_of, value_of, without_equals, pair_of, list_fault}
@@ -11,8 +10,8 @@ use Rattle.otel_ids.specs.TraceStateError.{Fault, KeyFault, ValueFault, ListFaul
 use Rattle.otel_ids.specs.Reading.{HasEquals, LacksEquals, begins_with_equals, IsSplit, IsValidListMember, IsPairFault, IsFirst, IsFirstList, IsFirstPair}
 use Rattle.otel_ids.specs.Laws.{FaultsAgree}
 use Rattle.otel_ids.proofs.Faults.{valid_from_none, none_from_valid}
-use Rattle.otel_ids.proofs.Cuts.{list_any_some}
-use Rattle.otel_ids.proofs.Readings.{text_split, without_equals-run, list_fault-none}
+use Rattle.otel_base.proofs.shared.Searches.{some_at, before_at, after_at}
+use Rattle.otel_ids.proofs.shared.Readings.{text_split, without_equals-run, list_fault-none}
 
 -- ---- a list member as key and value
 
@@ -40,14 +39,6 @@ split_of list_member h =
     let s = text_split list_member h in
     record { more = s.0; spelled = s.1; ends_key = before_lacks list_member; whole_run = run_is_whole (after_first is_equals list_member) }
 
-place_after : (key tail : List ℕ) → LacksEquals key → position_or_len is_equals (key ++ 61 ∷ tail) ≡ length key
-place_after [] tail h = refl
-place_after (b ∷ key) tail h =
-    elim (cases_Bool (is_equals b)) [
-      | inl t ↦ let g : true ≡ false = rw t at h in absurd (false≢true (sym g))
-      | inr f ↦ let g : LacksEquals key = rw f at h in rw (f, place_after key tail g) (omega arith)
-    ]
-
 run_kept : (value : List ℕ) → begins_with_equals value ≡ false → without_equals value ≡ value
 run_kept [] h = refl
 run_kept (v ∷ value) h = rw h refl
@@ -63,13 +54,12 @@ parts : (list_member : List ℕ) (pair : Pair) → IsSplit list_member pair → 
 parts list_member pair s =
     let tail : List ℕ = replicate s.more 61 ++ pair.value in
     let text : List ℕ = pair.key ++ 61 ∷ tail in
-    let place : position_or_len is_equals text ≡ length pair.key = place_after pair.key tail s.ends_key in
-    let key_is : key_of text ≡ pair.key = rw place (take_at pair.key (61 ∷ tail) (length pair.key) refl) in
-    let after_is : after_first is_equals text ≡ tail = rw place (ap (drop (length pair.key + 1)) (sym (append_assoc pair.key (61 ∷ []) tail)) ∙ drop_at (pair.key ++ 61 ∷ []) tail (length pair.key + 1) (length-append pair.key (61 ∷ []))) in
+    let key_is : key_of text ≡ pair.key = before_at is_equals pair.key 61 tail s.ends_key refl in
+    let after_is : after_first is_equals text ≡ tail = after_at is_equals pair.key 61 tail s.ends_key refl in
     let value_is : value_of text ≡ pair.value = ap without_equals after_is ∙ without_equals-run s.more pair.value ∙ run_kept pair.value s.whole_run in
     let same : pair_of text ≡ pair = ap (λ (x : List ℕ). made x (value_of text)) key_is ∙ ap (made pair.key) value_is in
     record {
-      has_equals = ap (list_any is_equals) s.spelled ∙ list_any_some is_equals text (rw place (omega (arith, length-append pair.key (61 ∷ tail))));
+      has_equals = ap (list_any is_equals) s.spelled ∙ some_at is_equals pair.key 61 tail refl;
       is = ap pair_of s.spelled ∙ same;
     }
 

@@ -13,8 +13,8 @@ use Rattle.std.proofs.lemmas.Option.{cond_some}
 use Rattle.std.proofs.lemmas.Slice.Eq.{bytes_eq-Decides}
 use Rattle.otel_base.specs.Blanks.{is_blank, ends_in_blank, cut_front, cut_end, cut_blanks}
 use Rattle.otel_ids.specs.Ids.{number_of, id_text, ReadsId}
-use Rattle.otel_base.proofs.BlankCuts.{cut_end-kept, ends-append}
-use Rattle.otel_ids.proofs.Numerals.{length_text, reads_text}
+use Rattle.otel_base.proofs.shared.BlankCuts.{cut_end-kept, ends-append}
+use Rattle.otel_ids.proofs.shared.Numerals.{length_text, reads_text}
 use Rattle.otel_propagators.specs.TraceParent.{Parent, parent_with, IsParent, parent_text, ReadsParent, numbers_in, is_parent, parent_in, parent_of, ParentsAgree, ParentReads, OneParent, ParentLength}
 use Rattle.otel_propagators.specs.Digits.{IsNumberOf, AreNumbersOf, IsParentFrom}
 

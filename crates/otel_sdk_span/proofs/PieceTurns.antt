@@ -6,7 +6,7 @@ use Rattle.std.proofs.lemmas.List.FromFn.{length-enumerate_from, get_or-enumerat
 use Rattle.std.proofs.lemmas.Iterator.Adapters.{position_from-zero}
 use Rattle.std.proofs.lemmas.List.{drop_all}
 use Rattle.otel_base.specs.Blanks.{cut_blanks}
-use Rattle.otel_ids.proofs.Turns.{next_piece}
+use Rattle.otel_base.proofs.shared.Steps.{next_element as next_piece}
 use Rattle.otel_base.specs.KeyValue.{Attribute}
 use Rattle.otel_sdk_span.specs.Attributes.{put, put_all}
 use Rattle.otel_sdk_span.specs.ResourceTexts.{is_fault, attribute_in}

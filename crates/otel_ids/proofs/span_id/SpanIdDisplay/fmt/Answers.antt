@@ -2,7 +2,7 @@ use Rattle.std.proofs.Common.{◌∙◌, ap, refl}
 use Rattle.std.specs.List.{flat_map}
 use Rattle.std.proofs.Output.{has_written_of_eq}
 use Rattle.otel_ids.specs.Ids.{two_digits}
-use Rattle.otel_ids.proofs.Numerals.{bytes_text}
+use Rattle.otel_ids.proofs.shared.Numerals.{bytes_text}
 use Rattle.otel_ids.proofs.span_id.SpanIdDisplay.fmt.Goals as goal
 
 pub returns-clause-writes : goal.returns-clause-writes

@@ -1,7 +1,7 @@
 use Rattle.std.proofs.Common.{◌∙◌, ap, refl}
 use Rattle.std.proofs.Output.{has_written_of_eq, has_written_styled_of_eq}
 use Rattle.otel_ids.specs.Ids.{bytes_digits, hex_styled, some_digit, without_zeros}
-use Rattle.otel_ids.proofs.Numerals.{bytes_text}
+use Rattle.otel_ids.proofs.shared.Numerals.{bytes_text}
 use Rattle.otel_ids.proofs.trace_id.TraceIdLowerHex.fmt.Goals as goal
 
 pub returns-clause-writes : goal.returns-clause-writes

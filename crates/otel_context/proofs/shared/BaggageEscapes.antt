@@ -7,7 +7,8 @@ use Rattle.std.proofs.lemmas.Bool.{cases_Bool, and_from, cond-true, cond-false, 
 use Rattle.std.proofs.lemmas.Bool.Decides.{nat_tests}
 use Rattle.std.specs.Fmt.{digit_glyph}
 use Rattle.otel_context.specs.BaggageText.{is_unreserved, escape, escaped_byte, escaped}
-use Rattle.otel_context.proofs.BaggageCuts.{Lacks, list_all-both}
+use Rattle.otel_context.proofs.BaggageCuts.{Lacks}
+use Rattle.otel_base.proofs.shared.Searches.{list_all-both}
 
 -- ---- one byte
 

@@ -1,13 +1,13 @@
--- Where a text is cut at the first byte that passes a test, and a text that has no such byte.
+-- Whether a byte of a text passes a test, and where the text is cut at the first one that does.
 use Rattle.std.proofs.Common.{◌≡◌, ℕ, ◌+◌, ◌<◌, Bool, true, false, List, [], ◌∷◌, ◌++◌, length, take, drop, get_or, refl, subst, sym, ap, ◌∙◌, arith, All, inl, inr}
 use Rattle.std.specs.Prelude.{not, IsUtf8}
 use Rattle.std.specs.List.{list_all, list_any, position_or_len, before_first, after_first}
-use Rattle.std.proofs.lemmas.Bool.{cases_Bool, and_parts, and_from, or_parts, or_from, or_left, or_right, not-true, not_from_false}
+use Rattle.std.proofs.lemmas.Bool.{cases_Bool, false≢true, and_parts, and_from, or_parts, or_from, or_left, or_right, not-true, not_from_false}
 use Rattle.std.proofs.Math.Seq.{take-append_seam, drop-append-add, get_or-append_seam}
 use Rattle.std.proofs.lemmas.List.{take_all, drop_all}
-use Rattle.std.proofs.lemmas.List.Sums.{AllPass-from_list_all, split_at_first, passes_at_first}
+use Rattle.std.proofs.lemmas.List.Folds.{list_all-append}
+use Rattle.std.proofs.lemmas.List.Sums.{AllPass-from_list_all, list_all-from_AllPass, split_at_first, passes_at_first}
 use Rattle.std.proofs.lemmas.Str.{IsUtf8-nil, IsUtf8-take, IsUtf8-drop, IsCharBoundary-before_ascii, IsCharBoundary-after_ascii}
-use Rattle.otel_ids.proofs.Readings.{place_of_any}
 
 module _ (p : ℕ → Bool) where
   pub none_append : (xs ys : List ℕ) → list_any p xs ≡ false → list_any p ys ≡ false → list_any p (xs ++ ys) ≡ false
@@ -51,6 +51,33 @@ module _ (p : ℕ → Bool) where
 
   pub after_none : (xs : List ℕ) → list_any p xs ≡ false → after_first p xs ≡ []
   after_none xs h = let e = place_none xs h in drop_all (position_or_len p xs + 1) xs (omega arith)
+
+-- ---- what a search found
+
+pub list_any_none : (p : ℕ → Bool) (xs : List ℕ) → position_or_len p xs ≡ length xs → list_any p xs ≡ false
+list_any_none p [] e = refl
+list_any_none p (x ∷ xs) e =
+    elim (cases_Bool (p x)) [
+      | inl t ↦ let zero_is : position_or_len p (x ∷ xs) ≡ 0 = rw t refl in absurd (omega arith)
+      | inr f ↦ let more : position_or_len p (x ∷ xs) ≡ 1 + position_or_len p xs = rw f refl in rw f (list_any_none p xs (omega arith))
+    ]
+
+pub list_all-weaker : (p q : ℕ → Bool) (weaker : (b : ℕ) → p b ≡ true → q b ≡ true) (xs : List ℕ) → list_all p xs ≡ true → list_all q xs ≡ true
+list_all-weaker p q weaker xs h = list_all-from_AllPass q xs (λ k d l. weaker _ (AllPass-from_list_all p xs h k d l))
+
+pub place_of_any : (p : ℕ → Bool) (xs : List ℕ) → list_any p xs ≡ true → position_or_len p xs < length xs
+place_of_any p [] h = absurd (false≢true h)
+place_of_any p (x ∷ xs) h =
+    elim (cases_Bool (p x)) [
+      | inl t ↦ rw t (omega arith)
+      | inr f ↦ let g : list_any p xs ≡ true = rw f at h in let i = place_of_any p xs g in rw f (omega arith)
+    ]
+
+pub list_all-both : (p : ℕ → Bool) (xs ys : List ℕ) → list_all p xs ≡ true → list_all p ys ≡ true → list_all p (xs ++ ys) ≡ true
+list_all-both p xs ys h k = list_all-append p xs ys ∙ and_from (list_all p xs) (list_all p ys) h k
+
+pub list_all-left : (p : ℕ → Bool) (xs ys : List ℕ) → list_all p (xs ++ ys) ≡ true → list_all p xs ≡ true
+list_all-left p xs ys h = (and_parts (list_all p xs) (list_all p ys) (sym (list_all-append p xs ys) ∙ h)).0
 
 -- ---- a text that is cut at an ASCII byte
 

@@ -18,8 +18,8 @@ use Rattle.std.proofs.lemmas.List.Sorted.{IsPermutation-map, list_any-IsPermutat
 use Rattle.std.proofs.lemmas.Map.Keys.{IsDistinct-IsPermutation, IsDistinct-tail}
 use Rattle.std.proofs.lemmas.Map.Made.{is_some-lookup}
 use Rattle.opentelemetry.specs.Carrier.{text_map, AreKeys}
-use Rattle.opentelemetry.proofs.Maps.{at-text_map}
-use Rattle.opentelemetry.proofs.Union.{list_any-map}
+use Rattle.opentelemetry.proofs.shared.Maps.{at-text_map}
+use Rattle.otel_base.proofs.shared.MappedLists.{list_any-map}
 
 is_some-option_map : {X Y : Type 0} (f : X → Y) (o : Option X) → is_some (option_map f o) ≡ is_some o
 is_some-option_map f None = refl

@@ -1,25 +1,18 @@
 -- What several members set together.
 use Rattle.std.proofs.Common.{Result, Ok, Err, ◌≤◌, ◌⊎◌, inl, inr, true≢false, ◌≡◌, ℕ, ◌+◌, ◌<◌, List, [], ◌∷◌, ◌++◌, Bool, IsTrue, Option, None, Some, refl, sym, ap, subst, ◌∙◌, take, length, get_or, append_assoc, arith, drop, if◌then◌else◌}
-use Rattle.std.proofs.lemmas.List.{take_more, take-append-drop, append-nil, take_all}
+use Rattle.std.proofs.lemmas.List.{take_all}
 use Rattle.std.proofs.lemmas.List.Folds.{list_any_at}
-use Rattle.std.proofs.lemmas.List.Concat.{flat_map-append}
 use Rattle.std.specs.List.{flat_map, list_any}
 use Rattle.std.specs.Option.{option_or}
 use Rattle.std.specs.Str.{bytes_eq, str_to_ascii_lowercase}
+use Rattle.otel_base.proofs.shared.Options.{option_or-assoc, option_or-none}
+use Rattle.otel_base.proofs.shared.Steps.{flat_map-take_more, flat_map-split}
 use Rattle.opentelemetry.specs.Carrier.{CarrierState, Pairs, TextMap, at, last_value, Sets, SetsBeginning}
 use Rattle.opentelemetry.specs.Injection.{Injects}
 use Rattle.opentelemetry.specs.declared.propagation.error.PropagationError.{PropagationError}
 
-option_or-assoc : {A : Type 0} (a b c : Option A) → option_or (option_or a b) c ≡ option_or a (option_or b c)
-option_or-assoc None b c = refl
-option_or-assoc (Some x) b c = refl
-
-option_or-none : {A : Type 0} (a : Option A) → a ≡ option_or a None
-option_or-none None = refl
-option_or-none (Some x) = refl
-
-last_value-append : (ps qs : Pairs) (k : List ℕ) → last_value (ps ++ qs) k ≡ option_or (last_value qs k) (last_value ps k)
-last_value-append [] qs k = option_or-none (last_value qs k)
+pub last_value-append : (ps qs : Pairs) (k : List ℕ) → last_value (ps ++ qs) k ≡ option_or (last_value qs k) (last_value ps k)
+last_value-append [] qs k = sym (option_or-none (last_value qs k))
 last_value-append (p ∷ ps) qs k =
     let own : Option (List ℕ) = if bytes_eq (str_to_ascii_lowercase p.0) k then Some p.1 else None in
     ap (λ o. option_or o own) (last_value-append ps qs k) ∙ option_or-assoc (last_value qs k) (last_value ps k) own
@@ -32,17 +25,6 @@ sets_more a b c ps qs s t = record {
   at_key = λ k. t.at_key k ∙ ap (option_or (last_value qs k)) (s.at_key k)
       ∙ sym (ap (λ o. option_or o (at a k)) (last_value-append ps qs k) ∙ option_or-assoc (last_value qs k) (last_value ps k) (at a k));
 }
-
-module _ {X A : Type 0} (f : X → List A) where
-  pub flat_map-take_more : (xs : List X) (i : ℕ) (x : X) → i < length xs → x ≡ get_or xs i x → flat_map f (take (i + 1) xs) ≡ flat_map f (take i xs) ++ f x
-  flat_map-take_more xs i x h is =
-      ap (flat_map f) (take_more xs i x h) ∙ flat_map-append f (take i xs) (get_or xs i x ∷ [])
-      ∙ ap (λ r. flat_map f (take i xs) ++ r) (append-nil (f (get_or xs i x)) ∙ ap f (sym is))
-
-  pub flat_map-split : (xs : List X) (i : ℕ) (x : X) → i < length xs → x ≡ get_or xs i x → flat_map f xs ≡ (flat_map f (take i xs) ++ f x) ++ flat_map f (drop (i + 1) xs)
-  flat_map-split xs i x h is =
-      ap (flat_map f) (sym (take-append-drop (i + 1) xs)) ∙ flat_map-append f (take (i + 1) xs) (drop (i + 1) xs)
-      ∙ ap (λ r. r ++ flat_map f (drop (i + 1) xs)) (flat_map-take_more xs i x h is)
 
 -- a member that fails leaves a prefix of what all would set
 pub begins_all : {X : Type 0} (f : X → Pairs) (xs ys : List X) (i : ℕ) (x : X) (a b c : TextMap) → xs ≡ ys → i < length xs → x ≡ get_or xs i x →

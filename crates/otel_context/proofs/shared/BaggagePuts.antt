@@ -27,9 +27,9 @@ use Rattle.otel_context.specs.Baggage.{max_key_value_pairs, max_len_of_all_pairs
 use Rattle.otel_context.specs.Baggage.{get_with_metadata, put, accepts, insert, remove, IsBaggage}
 use Rattle.otel_context.specs.BaggageWeight.{weight_of_others, weight_after}
 use Rattle.otel_context.specs.BaggageView.{Entry, entry_member, entry_members}
-use Rattle.otel_context.proofs.BaggageLists.{same_text, keys, AreDistinct, filter_others, none_after}
+use Rattle.otel_context.proofs.shared.BaggageLists.{same_text, keys, AreDistinct, filter_others, none_after}
 use Rattle.otel_context.proofs.NameLemmas.{distinct_none}
-use Rattle.otel_context.proofs.BaggageLists.{put_here, put_later, remove_here, remove_later, tail}
+use Rattle.otel_context.proofs.shared.BaggageLists.{put_here, put_later, remove_here, remove_later, tail}
 
 at_here : (key : List ℕ) (o : Member) (ms : List Member) → has_key key o ≡ true → member_at (o ∷ ms) key ≡ Some o
 at_here key o ms e = cond-true (has_key key o) (Some o) (member_at ms key) e
