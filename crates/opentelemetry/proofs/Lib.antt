@@ -1,8 +1,5 @@
-pub mod Lists
-pub mod Maps
-pub mod Setting
+pub mod shared
 pub mod Union
-pub mod Rising
 pub mod RunLemmas
 pub mod SurvivorLemmas
 pub mod CurrentLemmas

@@ -15,7 +15,7 @@ use Rattle.opentelemetry.specs.declared.carry.event.AttachOutcome.TheVariants.{A
 use Rattle.opentelemetry.specs.Run.{attaches_of, detaches, left_by, survivors, IsOutcome, Legal}
 use Rattle.opentelemetry.specs.LongRuns.{attaches, detaches_below, in_order, AttachesInOrder, filled, filled_outcomes, emptied, IsBegunAgain, FilledAndBegunAgain}
 use Rattle.opentelemetry.proofs.RunLemmas.{Left, survivors_of, left_by-attach, left_by-detached, legal-attach, legal-detach, outcome_allowed}
-use Rattle.otel_context.proofs.LiveLemmas.{last_or-push}
+use Rattle.otel_context.proofs.shared.LiveLemmas.{last_or-push}
 use Rattle.opentelemetry.proofs.RefusalLemmas.{survivors-attach}
 use Rattle.opentelemetry.proofs.WorkedLemmas.{legal-none}
 

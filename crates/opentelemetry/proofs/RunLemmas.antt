@@ -1,12 +1,11 @@
 use Rattle.std.proofs.Common.{◌≡◌, ℕ, zero, suc, ◌+◌, ◌<◌, ◌≤◌, Bool, true, false, ◌||◌, List, [], ◌∷◌, ◌++◌, length, take, Option, Some, None, refl, sym, ap, ◌∙◌, arith, inl, inr, ◌⊎◌}
 use Rattle.std.specs.Prelude.{◌==◌, if◌then◌else◌, map, filter, option_map, IfSome, slice_set}
 use Rattle.std.specs.List.{list_any, filter_map, slice_get}
-use Rattle.std.proofs.lemmas.Bool.{cases_lt, ne_eqb, eq-eqb}
+use Rattle.std.proofs.lemmas.Bool.{ne_eqb, eq-eqb}
 use Rattle.std.proofs.lemmas.List.{map_push, map-set, set_past, take-append-le, length-append, length-map}
 use Rattle.std.proofs.Common.{add-zero, append-nil}
 use Rattle.std.proofs.lemmas.List.Folds.{list_any-append}
 use Rattle.std.proofs.lemmas.List.Elements.{filter_map-append, filter-append}
-use Rattle.std.proofs.lemmas.Option.{slice_get_within}
 use Rattle.std.proofs.Math.Seq.{take-append_seam}
 use Rattle.otel_context.specs.Context.{ContextRecord}
 use Rattle.otel_context.specs.Stack.{Live, StackState, newest_position, detach, RisesAbove, positions, IsLawful}
@@ -16,7 +15,8 @@ use Rattle.opentelemetry.specs.declared.carry.event.StackEvent.{StackEvent}
 use Rattle.opentelemetry.specs.declared.carry.event.StackEvent.TheVariants.{Attach, Detach}
 use Rattle.opentelemetry.specs.declared.carry.event.AttachOutcome.{AttachOutcome}
 use Rattle.opentelemetry.specs.declared.carry.event.AttachOutcome.TheVariants.{Attached, Full, NoMemory}
-use Rattle.otel_context.proofs.LiveLemmas.{detach-above}
+use Rattle.otel_base.proofs.shared.Steps.{slice_get-append, slice_get-append_end, last_or_before}
+use Rattle.otel_context.proofs.shared.LiveLemmas.{detach-above}
 use Rattle.opentelemetry.proofs.CurrentLemmas.{current_is}
 
 -- an attachment, or none
@@ -118,15 +118,6 @@ attaches_of-take (Detach n ∷ events) zero context e = cc
 attaches_of-take (Attach c ∷ events) (suc i) context e = let h = attaches_of-take events i context e in let k : suc (attaches_of (take i events)) < suc (attaches_of events) = omega (arith, h) in k
 attaches_of-take (Detach n ∷ events) (suc i) context e = attaches_of-take events i context e
 
-pub slice_get-append : {X : Type 0} (xs ys : List X) (i : ℕ) → i < length xs → slice_get (xs ++ ys) i ≡ slice_get xs i
-slice_get-append [] ys i h = absurd (omega arith)
-slice_get-append (x ∷ xs) ys zero h = refl
-slice_get-append (x ∷ xs) ys (suc i) h = slice_get-append xs ys i (omega arith)
-
-pub slice_get-append_end : {X : Type 0} (xs : List X) (y : X) → slice_get (xs ++ y ∷ []) (length xs) ≡ Some y
-slice_get-append_end [] y = refl
-slice_get-append_end (x ∷ xs) y = slice_get-append_end xs y
-
 -- `Legal` still holds for earlier events with one event more
 legal-more : (events : List StackEvent) (outcomes more : List AttachOutcome) (event : StackEvent) → Legal events outcomes
     → (i : ℕ) (context : ContextRecord) → i < length events → slice_get (events ++ event ∷ []) i ≡ Some (Attach context)
@@ -141,21 +132,10 @@ legal-more events outcomes more event legal i context within at =
     )
     (legal.each i context at')
 
--- with one event more, each is the new one or an earlier one
-place_of : (events : List StackEvent) (event : StackEvent) (i : ℕ) (x : StackEvent) → slice_get (events ++ event ∷ []) i ≡ Some x → (i < length events) ⊎ ((i ≡ length events) × (event ≡ x))
-place_of events event i x at = elim (cases_lt i (length events)) [
-  | inl h ↦ inl h
-  | inr h ↦
-      let w : i < length (events ++ event ∷ []) = slice_get_within (events ++ event ∷ []) i x at in
-      let e : i ≡ length events = omega (arith, w, length-append events (event ∷ [])) in
-      let s : Some event ≡ Some x = sym (slice_get-append_end events event) ∙ ap (λ k. slice_get (events ++ event ∷ []) k) (sym e) ∙ at in
-      inr (e, cc)
-]
-
 pub legal-detach : (events : List StackEvent) (outcomes : List AttachOutcome) (n : ℕ) → Legal events outcomes → Legal (events ++ Detach n ∷ []) outcomes
 legal-detach events outcomes n legal = record {
   one_each = rw filter-append (rw (length-append, add-zero) legal.one_each);
-  each = λ i context at. elim (place_of events (Detach n) i (Attach context) at) [
+  each = λ i context at. elim (last_or_before events (Detach n) i (Attach context) at) [
     | inl h ↦ rw append-nil at (legal-more events outcomes [] (Detach n) legal i context h at)
     | inr h ↦ absurd (let e : Detach n ≡ Attach context = h.1 in cc)
   ];
@@ -165,7 +145,7 @@ pub legal-attach : (events : List StackEvent) (outcomes : List AttachOutcome) (c
     → Legal (events ++ Attach context ∷ []) (outcomes ++ o ∷ [])
 legal-attach events outcomes context o legal allowed = record {
   one_each = rw (filter-append, length-append, length-append) (omega (arith, legal.one_each));
-  each = λ i other at. elim (place_of events (Attach context) i (Attach other) at) [
+  each = λ i other at. elim (last_or_before events (Attach context) i (Attach other) at) [
     | inl h ↦ legal-more events outcomes (o ∷ []) (Attach context) legal i other h at
     | inr h ↦
         rw (h.0, take-append_seam, ← legal.one_each, slice_get-append_end, left_by-more 0 events outcomes (o ∷ []) (omega (arith, legal.one_each))) allowed

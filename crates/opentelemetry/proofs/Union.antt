@@ -1,28 +1,17 @@
 -- The union of lists of texts, in order of first appearance.
-use Rattle.std.proofs.Common.{◌≡◌, ℕ, ◌+◌, ◌<◌, ◌≤◌, List, [], ◌∷◌, ◌++◌, Bool, true, false, cond, not, ◌||◌, refl, sym, ap, subst, ◌∙◌, take, length, get_or, append_assoc, map, string_bytes, filter, fold}
+use Rattle.std.proofs.Common.{◌≡◌, ℕ, ◌+◌, ◌<◌, ◌≤◌, List, [], ◌∷◌, ◌++◌, true, false, cond, not, ◌||◌, refl, sym, ap, subst, ◌∙◌, take, length, get_or, append_assoc, map, string_bytes, filter}
 use Rattle.std.specs.List.{flat_map, list_any}
 use Rattle.std.specs.Str.{bytes_eq}
 use Rattle.std.specs.String.{string_eq}
-use Rattle.std.specs.Cmp.Lexicographic.{nat_list_eq_equiv}
-use Rattle.opentelemetry.proofs.Setting.{flat_map-take_more}
+use Rattle.otel_base.proofs.shared.Bytes.{bytes_eq-sym}
+use Rattle.otel_base.proofs.shared.Steps.{flat_map-take_more}
 use Rattle.std.specs.declared.string.String.{String}
-use Rattle.std.proofs.lemmas.List.{take_more, append-nil, take_all, map-append}
+use Rattle.std.proofs.lemmas.List.{append-nil, take_all, map-append}
 use Rattle.std.proofs.lemmas.List.Sums.{fold-append}
 use Rattle.std.proofs.lemmas.List.Folds.{list_any-append}
 use Rattle.std.proofs.lemmas.Slice.Eq.{bytes_eq-Decides}
 use Rattle.indexmap.specs.IndexSet.{insert_key, insert_all}
 use Rattle.opentelemetry.specs.Composite.{first_appearances}
-
--- a step of a chain over the members
-pub fold-take_more : {A X : Type 0} (f : A → X → A) (a : A) (xs : List X) (i : ℕ) (x : X) → i < length xs → x ≡ get_or xs i x → fold f a (take (i + 1) xs) ≡ f (fold f a (take i xs)) x
-fold-take_more f a xs i x h is = ap (fold f a) (take_more xs i x h) ∙ fold-append f a (take i xs) (get_or xs i x ∷ []) ∙ ap (f (fold f a (take i xs))) (sym is)
-
-pub fold_all : {A X : Type 0} (f : A → X → A) (a b : A) (xs ys : List X) (i : ℕ) → xs ≡ ys → length xs ≤ i → b ≡ fold f a (take i xs) → b ≡ fold f a ys
-fold_all f a b xs ys i same h is = is ∙ ap (fold f a) (take_all i xs h ∙ same)
-
-pub list_any-map : {X Y : Type 0} (p : Y → Bool) (f : X → Y) (xs : List X) → list_any p (map f xs) ≡ list_any (λ x. p (f x)) xs
-list_any-map p f [] = refl
-list_any-map p f (x ∷ xs) = ap (λ b. p (f x) || b) (list_any-map p f xs)
 
 -- the strings' texts after one more
 list_any-texts : {A : Type 0} (k : String A) (ks : List (String A)) → list_any (string_eq k) ks ≡ list_any (bytes_eq (string_bytes k)) (map string_bytes ks)
@@ -56,9 +45,6 @@ others-known ks x (y ∷ ys) known =
           ap (λ b. cond (not b) (y ∷ others ks ys) (others ks ys)) there ∙ others-known ks x ys known
       | false ↦ λ is. ap (λ r. cond (not (list_any (bytes_eq y) ks)) (y ∷ r) r) (others-known ks x ys known)
     ] refl
-
-bytes_eq-sym : (x y : List ℕ) → bytes_eq x y ≡ bytes_eq y x
-bytes_eq-sym x y = nat_list_eq_equiv.symm x y
 
 -- a new text is left out of the others from then on
 others-new : (ks : List (List ℕ)) (x : List ℕ) (ys : List (List ℕ)) → others (ks ++ x ∷ []) ys ≡ others ks (filter (λ y. not (bytes_eq x y)) ys)

@@ -1,8 +1,8 @@
 -- The attributes of pairs.
-use Rattle.std.proofs.Common.{◌≡◌, inl, inr, ℕ, ℤ, pos, negsuc, List, [], ◌∷◌, ◌++◌, Bool, Option, Some, None, IfSome, option_map, refl, sym, subst, ◌∙◌, map, ap, rules}
+use Rattle.std.proofs.Common.{◌≡◌, inl, inr, ℕ, ℤ, pos, negsuc, List, [], ◌∷◌, ◌++◌, Bool, Option, Some, None, IfSome, option_map, refl, sym, subst, ◌∙◌, ap, rules}
 use Rattle.std.specs.Option.{option_map_or}
 use Rattle.std.specs.Fmt.{signed_decimal}
-use Rattle.std.specs.List.{FoldsTo, list_any}
+use Rattle.std.specs.List.{FoldsTo}
 use Rattle.log.specs.declared.kv.value.Value.{Value}
 use Rattle.log.specs.declared.kv.value.Value.TheVariants.{Null, I64, U64, I128, U128, F64, Str, Display}
 use Rattle.log.specs.declared.kv.value.Value.TheVariants as value
@@ -19,11 +19,6 @@ pub FoldsTo-view : {V W X : Type 0} (see : V → W) (R : W → X → W → Type 
     → FoldsTo (λ p x q. R (see p) x (see q)) a xs b → FoldsTo R (see a) xs (see b)
 FoldsTo-view see R a [] b h = ap see h
 FoldsTo-view see R a (x ∷ xs) b h = (see h.0, h.1, FoldsTo-view see R h.0 xs b h.2)
-
-pub list_any-map : {X Y : Type 0} (p : Y → Bool) (f : X → Y) (xs : List X)
-    → list_any (λ x. p (f x)) xs ≡ list_any p (map f xs)
-list_any-map p f [] = refl
-list_any-map p f (x ∷ xs) = rw (list_any-map p f xs)
 
 -- an integer that fits is the same integer
 as_signed-same : (k : ℕ) (z w : ℤ) → as_signed k z ≡ Some w → z ≡ w

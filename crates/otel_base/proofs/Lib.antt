@@ -1,6 +1,5 @@
+pub mod shared
 pub mod Decided
-pub mod Joined
 pub mod MapTrees
 pub mod Sorting
-pub mod Views
 pub mod Walk

@@ -3,7 +3,7 @@ use Rattle.std.proofs.Common.{◌≡◌, ℕ, ◌+◌, ◌<◌, ◌≤◌, List,
 use Rattle.std.proofs.Common.{drop, fold, Bool, true, false, not, ◌&&◌, Option, Some, None}
 use Rattle.std.proofs.Common.{option_map, refl, ap, sym, ◌∙◌, true≢false, subst, arith, append-nil}
 use Rattle.std.proofs.Common.{add-one}
-use Rattle.std.specs.List.{slice_get, flat_map, AllZip}
+use Rattle.std.specs.List.{slice_get, flat_map}
 use Rattle.std.specs.Option.{option_eq}
 use Rattle.std.specs.Cmp.Lexicographic.{pointwise}
 use Rattle.std.proofs.Math.Bool.{and-false}
@@ -140,14 +140,6 @@ first_false a false c h e = sym h
 pub first_true : (a b c : Bool) → a ≡ (b && c) → false ≡ not b → a ≡ c
 first_true a true c h e = h
 first_true a false c h e = absurd (true≢false (sym e))
-
--- ---- clones
-pub cloned_pairs : (xs ys : List KeyValue) → AllZip (λ x y. attribute_of y ≡ attribute_of x) xs ys
-    → map attribute_of ys ≡ map attribute_of xs
-cloned_pairs [] [] h = refl
-cloned_pairs [] (y ∷ ys) h = elim h [ ]
-cloned_pairs (x ∷ xs) [] h = elim h [ ]
-cloned_pairs (x ∷ xs) (y ∷ ys) h = λ i. h.0 i ∷ cloned_pairs xs ys h.1 i
 
 pub walk_done : (xs ys : List Attribute) (is js : List ℕ) (i : ℕ) → length is ≤ i → length js ≤ i
     → pointwise (option_eq attribute.eq) (map (slice_get xs) (drop i is))

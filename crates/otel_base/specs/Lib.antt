@@ -2,6 +2,7 @@ pub mod AnyValue
 pub mod AnyValueLaws
 pub mod Appends
 pub mod Array
+pub mod Blanks
 pub mod InstrumentationScope
 pub mod InstrumentationScopeLaws
 pub mod KeyOrder

@@ -4,6 +4,7 @@
 
 mod any_value;
 mod array;
+mod blanks;
 mod key;
 mod key_value;
 pub mod laws;
@@ -15,6 +16,7 @@ mod value;
 
 pub use any_value::AnyValue;
 pub use array::Array;
+pub use blanks::cut_blanks;
 pub use key::Key;
 pub use key_value::KeyValue;
 pub use scope::{InstrumentationScope, InstrumentationScopeBuilder};

@@ -1,31 +1,19 @@
 -- One more line.
-use Rattle.std.proofs.Common.{◌≡◌, ℕ, ◌+◌, ◌<◌, true, false, List, [], ◌∷◌, ◌++◌, length, take, get_or, Some, refl, sym, ap, subst, ◌∙◌, arith, inl, inr, ◌⊎◌, append-nil}
+use Rattle.std.proofs.Common.{◌≡◌, ℕ, ◌+◌, ◌<◌, true, false, List, [], ◌∷◌, ◌++◌, length, take, get_or, Some, refl, sym, ap, subst, ◌∙◌, arith, inl, inr, append-nil}
 use Rattle.std.specs.Prelude.{if◌then◌else◌}
 use Rattle.std.specs.List.{slice_get, enumerate_from}
 use Rattle.std.proofs.lemmas.List.FromFn.{length-enumerate_from, get_or-enumerate_from}
-use Rattle.std.proofs.lemmas.Bool.{cases_lt}
 use Rattle.std.proofs.lemmas.List.{take_more, take-append-le, length-append, take_all}
 use Rattle.std.proofs.lemmas.List.Elements.{filter-append}
-use Rattle.std.proofs.lemmas.Option.{slice_get_within, slice_get-get_or}
+use Rattle.std.proofs.lemmas.Option.{slice_get-get_or}
 use Rattle.std.proofs.Math.Seq.{take-append_seam}
 use Rattle.opentelemetry.specs.declared.carry.event.StackEvent.{StackEvent}
 use Rattle.opentelemetry.specs.declared.carry.event.StackEvent.TheVariants.{Attach, Detach}
 use Rattle.opentelemetry.specs.Run.{attaches_of, is_attach}
-use Rattle.opentelemetry.proofs.RunLemmas.{slice_get-append, slice_get-append_end}
+use Rattle.otel_base.proofs.shared.Steps.{slice_get-append, slice_get-append_end, last_or_before}
 use Rattle.otel_carry.specs.declared.failure.Failure.{Failure}
 use Rattle.otel_carry.specs.declared.failure.Failure.TheVariants.{Unreadable, NotUtf8, Line, NoMemory}
 use Rattle.otel_carry.specs.Events.{AskFor, AsksFor, IsReported, IsTold, asking, is_asking}
-
--- an element at an index of the extended list is the new one or an earlier one
-last_or_before : {X : Type 0} (xs : List X) (y : X) (i : ℕ) (x : X) → slice_get (xs ++ y ∷ []) i ≡ Some x → (i < length xs) ⊎ ((i ≡ length xs) × (y ≡ x))
-last_or_before xs y i x at = elim (cases_lt i (length xs)) [
-  | inl h ↦ inl h
-  | inr h ↦
-      let w : i < length (xs ++ y ∷ []) = slice_get_within (xs ++ y ∷ []) i x at in
-      let e : i ≡ length xs = omega (arith, w, length-append xs (y ∷ [])) in
-      let s : Some y ≡ Some x = sym (slice_get-append_end xs y) ∙ ap (λ k. slice_get (xs ++ y ∷ []) k) (sym e) ∙ at in
-      inr (e, cc)
-]
 
 pub asks_nothing : AskFor [] []
 asks_nothing = record { one_each = refl; each = λ index line at. absurd (cc) }

@@ -6,10 +6,10 @@ use Rattle.std.proofs.lemmas.Bool.{cases_Bool}
 use Rattle.std.proofs.lemmas.List.{append_cancel_left, length-append}
 use Rattle.std.proofs.lemmas.List.Folds.{list_any_none}
 use Rattle.std.proofs.lemmas.Option.{slice_get_within, slice_get-get_or}
-use Rattle.otel_ids.proofs.Readings.{no_fault_from_reads}
+use Rattle.otel_ids.proofs.shared.Readings.{no_fault_from_reads}
 use Rattle.otel_ids.specs.Reading.{fault_of, Reads as ReadsState}
 use Rattle.otel_ids.specs.TraceState.{Pair}
-use Rattle.otel_propagators.proofs.FirstCuts.{before_none, before_at}
+use Rattle.otel_base.proofs.shared.Searches.{before_none, before_at}
 use Rattle.opentelemetry.specs.declared.carry.event.StackEvent.{StackEvent}
 use Rattle.opentelemetry.specs.declared.carry.event.StackEvent.TheVariants.{Attach, Detach}
 use Rattle.opentelemetry.specs.Run.{attaches_of}

@@ -13,7 +13,7 @@ use Rattle.opentelemetry.specs.Extraction.{Extracts}
 use Rattle.opentelemetry.specs.declared.carry.event.AttachOutcome.{AttachOutcome}
 use Rattle.opentelemetry.specs.declared.propagation.error.PropagationError.{PropagationError}
 use Rattle.opentelemetry.specs.declared.propagation.error.PropagationError.TheVariants as errors
-use Rattle.opentelemetry.proofs.Setting.{flat_map-take_more}
+use Rattle.otel_base.proofs.shared.Steps.{flat_map-take_more}
 use Rattle.otel_carry.specs.declared.extraction.Extracted.{Extracted}
 use Rattle.otel_carry.specs.Extracted.{shown, shown_of_context, status_of, text_of}
 use Rattle.otel_carry.specs.Report.{AreTextLines, Writes, outcome_line, outcome_lines, current_line, text_line}

@@ -1,16 +1,12 @@
 -- Two texts that are cut at the same byte.
-use Rattle.std.proofs.Common.{◌≡◌, ℕ, Bool, true, List, [], ◌∷◌, ◌++◌, refl, ◌∙◌}
+use Rattle.std.proofs.Common.{◌≡◌, ℕ, true, List, [], ◌∷◌, ◌++◌, refl}
 use Rattle.std.specs.Prelude.{not, ◌==◌}
 use Rattle.std.specs.List.{list_all}
-use Rattle.std.proofs.lemmas.Bool.{and_parts, and_from, not-true, both_ways, eq-eqb}
-use Rattle.std.proofs.lemmas.List.Folds.{list_all-append}
+use Rattle.std.proofs.lemmas.Bool.{and_parts, not-true, both_ways, eq-eqb}
 
 -- the byte isn't in the text
 abbrev pub Lacks : ℕ → List ℕ → Type 0
 Lacks c xs = list_all (λ b. not (b == c)) xs ≡ true
-
-pub list_all-both : (p : ℕ → Bool) (xs ys : List ℕ) → list_all p xs ≡ true → list_all p ys ≡ true → list_all p (xs ++ ys) ≡ true
-list_all-both p xs ys h k = list_all-append p xs ys ∙ and_from (list_all p xs) (list_all p ys) h k
 
 not_first : (c x : ℕ) (xs : List ℕ) → Lacks c (x ∷ xs) → x ≡ c → ⊥
 not_first c x xs h e = both_ways (x == c) (not-true (x == c) (and_parts (not (x == c)) (list_all (λ b. not (b == c)) xs) h).0) (eq-eqb x c e)

@@ -12,7 +12,7 @@ use Rattle.percent_encoding.specs.Percent.{percent_encode, percent_encode_byte}
 use Rattle.std.specs.Fmt.{digit_glyph}
 use Rattle.otel_context.specs.declared.baggage.header.TheConstants.{ESCAPED}
 use Rattle.otel_context.specs.BaggageText.{is_unreserved, escape, escaped}
-use Rattle.otel_context.proofs.BaggageEscapes.{escaped_plain, escaped_other}
+use Rattle.otel_context.proofs.shared.BaggageEscapes.{escaped_plain, escaped_other}
 
 agrees : (b : ℕ) → b < 256 → should_percent_encode ESCAPED b ≡ not (is_unreserved b)
 unfolding percent_encoding_on_literals

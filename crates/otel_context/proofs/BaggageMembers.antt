@@ -8,16 +8,17 @@ use Rattle.std.proofs.lemmas.Bool.Decides.{nat_tests}
 use Rattle.std.proofs.lemmas.List.{append-nil}
 use Rattle.std.proofs.lemmas.List.Elements.{All-head, All-tail}
 use Rattle.std.proofs.lemmas.List.Sums.{sum_by-cons}
-use Rattle.otel_ids.proofs.Cuts.{list_all-weaker}
+use Rattle.otel_base.proofs.shared.Searches.{list_all-weaker}
 use Rattle.otel_context.specs.BaggageText.{is_key_byte, is_key, escaped}
 use Rattle.otel_context.specs.BaggageMember.{Member, member_of, weight_of, IsValidMember}
 use Rattle.otel_context.specs.Baggage.{weight}
 use Rattle.otel_context.specs.BaggageHeader.{metadata_text, member_text, header}
 use Rattle.otel_context.specs.BaggageLaws.{HasNoComma, HeaderDetermines, HeaderIsShort}
-use Rattle.otel_context.proofs.BaggageCuts.{Lacks, list_all-both, no_cut}
+use Rattle.otel_context.proofs.BaggageCuts.{Lacks, no_cut}
+use Rattle.otel_base.proofs.shared.Searches.{list_all-both}
 use Rattle.otel_context.proofs.BaggageCuts.{same_cut}
-use Rattle.otel_context.proofs.BaggageEscapes.{escaped-injective, escaped_no_comma}
-use Rattle.otel_context.proofs.BaggageEscapes.{escaped_no_semicolon, length-escaped}
+use Rattle.otel_context.proofs.shared.BaggageEscapes.{escaped-injective, escaped_no_comma}
+use Rattle.otel_context.proofs.shared.BaggageEscapes.{escaped_no_semicolon, length-escaped}
 
 -- ---- which bytes a member lacks
 

@@ -6,7 +6,7 @@ use Rattle.std.specs.declared.fmt.Formatter.{Formatter}
 use Rattle.std.specs.List.{join_with_byte}
 use Rattle.std.proofs.Output.{has_written_append, has_written_of_eq}
 use Rattle.otel_base.specs.Array.{separator}
-use Rattle.otel_base.proofs.Joined.{joined-push}
+use Rattle.otel_base.proofs.shared.Joined.{joined-push}
 use Rattle.otel_context.specs.BaggageMember.{Member}
 use Rattle.otel_context.specs.BaggageHeader.{member_text, header}
 use Rattle.otel_context.specs.BaggageView.{Entry, entry_member, entry_members}

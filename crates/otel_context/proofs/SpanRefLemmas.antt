@@ -7,7 +7,7 @@ use Rattle.std.specs.Cmp.{nat_cmp_total}
 use Rattle.std.specs.FinMap as map
 use Rattle.otel_context.specs.Spans.{SpansState, get, find, replace, replace_found}
 use Rattle.otel_context.specs.SpanCalls.{after_effect, BecomesOne, OthersStay}
-use Rattle.otel_context.proofs.SpansLemmas.{equal_of}
+use Rattle.otel_context.proofs.shared.SpansLemmas.{equal_of}
 
 module _ {S : Type 0} where
   kept : (b : Bool) (o v : Option S) → (b ≡ true → o ≡ v) → cond b v o ≡ o

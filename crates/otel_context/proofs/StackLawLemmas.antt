@@ -5,7 +5,7 @@ use Rattle.std.proofs.lemmas.Bool.{cases_Bool, ne_eqb, eq-eqb, eqb-true}
 use Rattle.otel_context.specs.Context.{ContextRecord, empty_context}
 use Rattle.otel_context.specs.Stack.{Live, last_or, newest_position, context_at, detach, RisesAbove, positions}
 use Rattle.otel_context.specs.StackLaws.{DetachRestores, AttachIsCurrent, AttachLeavesAll, RemovalLeavesOthers, RemovalKeepsOrder}
-use Rattle.otel_context.proofs.LiveLemmas.{length-RisesAbove}
+use Rattle.otel_context.proofs.shared.LiveLemmas.{length-RisesAbove}
 
 detach-pushed : (q p : ℕ) (c : ContextRecord) (xs : Live) → RisesAbove q (positions xs) → last_or q (positions xs) < p → detach p (xs ++ (p, c) ∷ []) ≡ xs
 detach-pushed q p c [] r h = rw (eq-eqb p p refl) refl

@@ -14,9 +14,9 @@ use Rattle.std.proofs.lemmas.List.Quantifiers.{position-Some}
 use Rattle.std.proofs.lemmas.List.Sorted.{list_any-IsPermutation}
 use Rattle.std.proofs.lemmas.Slice.Eq.{bytes_eq-Decides}
 use Rattle.opentelemetry.specs.Carrier.{text_map, AreKeys, Sets}
-use Rattle.opentelemetry.proofs.Maps.{at-text_map}
-use Rattle.opentelemetry.proofs.Rising.{rising_map}
-use Rattle.opentelemetry.proofs.Union.{list_any-map}
+use Rattle.opentelemetry.proofs.shared.Maps.{at-text_map}
+use Rattle.opentelemetry.proofs.shared.Rising.{rising_map}
+use Rattle.otel_base.proofs.shared.MappedLists.{list_any-map}
 
 -- names with their values
 abbrev PairsOf : Type 0 → Type 0

@@ -5,7 +5,7 @@ use Rattle.std.proofs.lemmas.List.{append-nil}
 use Rattle.otel_context.specs.Context.{ContextRecord, empty_context}
 use Rattle.opentelemetry.specs.Carrier.{Pairs, TextMap, Sets, SetsBeginning}
 use Rattle.opentelemetry.specs.declared.propagation.error.PropagationError.{PropagationError}
-use Rattle.opentelemetry.proofs.Setting.{sets_more}
+use Rattle.opentelemetry.proofs.shared.Setting.{sets_more}
 use Rattle.otel_propagators.specs.BaggagePropagator.{baggage_pairs, baggage_extracted}
 use Rattle.otel_propagators.specs.TraceContext.{trace_pairs, trace_extracted}
 use Rattle.otel_propagators.specs.Laws.{IsContext, ComesBack, ComesBackInTurn}

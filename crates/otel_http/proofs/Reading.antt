@@ -17,7 +17,7 @@ use Rattle.http_header.specs.Token.{is_visible_or_blank}
 use Rattle.http_header.proofs.HeaderMapLemmas.{get_all-insert_same, get_all-insert_other}
 use Rattle.opentelemetry.specs.Carrier.{TextMap, at, lower, Sets}
 use Rattle.opentelemetry.specs.Carrier.{text_map}
-use Rattle.opentelemetry.proofs.Maps.{sets_one}
+use Rattle.opentelemetry.proofs.shared.Maps.{sets_one}
 use Rattle.std.specs.HashMap as hash
 use Rattle.std.specs.HashMap.{HashMap}
 use Rattle.std.specs.String.{string_eq}

@@ -14,7 +14,7 @@ use Rattle.hex.proofs.Pairs.{decode_sized-pairs}
 use Rattle.hex.proofs.HexLemmas.{IsOk-decode_sized}
 use Rattle.otel_ids.specs.Ids.{ReadsId, number_of, two_digits}
 use Rattle.std.specs.Fmt.{digit_glyph}
-use Rattle.otel_ids.proofs.Numerals.{powers}
+use Rattle.otel_ids.proofs.shared.Numerals.{powers}
 
 -- ---- digits that are written
 

@@ -6,7 +6,7 @@ use Rattle.std.specs.Int.{bytes_high_first}
 use Rattle.std.proofs.Math.Nat.{div-div-eq-div-mul, pow-succ', zero-div}
 use Rattle.std.proofs.lemmas.Bool.{cases_Bool}
 use Rattle.otel_ids.specs.Ids.{some_digit, without_zeros, id_text, two_digits, bytes_digits, number_of}
-use Rattle.otel_ids.proofs.Numerals.{bytes_text, number_below}
+use Rattle.otel_ids.proofs.shared.Numerals.{bytes_text, number_below}
 
 pub zero_alone : (r zs : List ℕ) → r ≡ zs → (length r == 0) ≡ true → 48 ∷ [] ≡ some_digit zs
 zero_alone [] zs e t = rw (← e) refl

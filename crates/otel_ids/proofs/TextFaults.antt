@@ -1,20 +1,19 @@
 -- The fault that a text has by the grammar is the one that `fault_of` gives.
-use Rattle.std.proofs.Common.{◌≡◌, ℕ, suc, ◌+◌, true, false, List, [], ◌∷◌, ◌++◌, length, drop, Option, Some, None, refl, sym, ap, subst, ◌∙◌, arith, inl, inr, append_assoc, take}
+use Rattle.std.proofs.Common.{◌≡◌, ℕ, suc, ◌+◌, false, List, [], ◌∷◌, ◌++◌, Option, Some, None, refl, sym, ap, subst, ◌∙◌, arith, inl, inr, take}
 use Rattle.std.specs.Prelude.{map, replicate, ◌⊎◌}
 use Rattle.std.specs.List.{AllByRecursion, list_any, before_first, after_first, position_or_len}
-use Rattle.std.proofs.lemmas.Bool.{cases_Bool, false≢true}
-use Rattle.std.proofs.lemmas.List.{take_at, drop_at, length-append}
+use Rattle.std.proofs.lemmas.Bool.{cases_Bool}
 use Rattle.otel_ids.specs.Text.{is_equals, is_key, is_value}
 use Rattle.otel_ids.specs.TraceState.{Pair}
-use Rattle.otel_ids.specs.Reading.{pieces, members, key_of, value_of, without_equals, pair_of, list_fault}
+use Rattle.otel_ids.specs.Reading.{pieces, list_members, key_of, value_of, without_equals, pair_of, list_fault}
 use Rattle.otel_ids.specs.TraceStateError.{Fault, KeyFault, ValueFault, ListFault, pair_fault, first_of, pairs_fault}
-use Rattle.otel_ids.specs.Reading.{HasEquals, LacksEquals, begins_with_equals, IsSplit, IsValidMember, IsPairFault, IsFirst, IsFirstList, IsFirstPair}
+use Rattle.otel_ids.specs.Reading.{HasEquals, LacksEquals, begins_with_equals, IsSplit, IsValidListMember, IsPairFault, IsFirst, IsFirstList, IsFirstPair}
 use Rattle.otel_ids.specs.Laws.{FaultsAgree}
 use Rattle.otel_ids.proofs.Faults.{valid_from_none, none_from_valid}
-use Rattle.otel_ids.proofs.Cuts.{list_any_some}
-use Rattle.otel_ids.proofs.Readings.{text_split, without_equals-run, list_fault-none}
+use Rattle.otel_base.proofs.shared.Searches.{some_at, before_at, after_at}
+use Rattle.otel_ids.proofs.shared.Readings.{text_split, without_equals-run, list_fault-none}
 
--- ---- a member as key and value
+-- ---- a list member as key and value
 
 take_one : (n b : ℕ) (bs : List ℕ) → take (1 + n) (b ∷ bs) ≡ b ∷ take n bs
 take_one n b bs = let e : 1 + n ≡ suc n = omega arith in rw e refl
@@ -35,18 +34,10 @@ run_is_whole (b ∷ bs) =
       | inr f ↦ let kept : without_equals (b ∷ bs) ≡ b ∷ bs = rw f refl in rw kept f
     ]
 
-split_of : (member : List ℕ) → HasEquals member → IsSplit member (pair_of member)
-split_of member h =
-    let s = text_split member h in
-    record { more = s.0; spelled = s.1; ends_key = before_lacks member; whole_run = run_is_whole (after_first is_equals member) }
-
-place_after : (key tail : List ℕ) → LacksEquals key → position_or_len is_equals (key ++ 61 ∷ tail) ≡ length key
-place_after [] tail h = refl
-place_after (b ∷ key) tail h =
-    elim (cases_Bool (is_equals b)) [
-      | inl t ↦ let g : true ≡ false = rw t at h in absurd (false≢true (sym g))
-      | inr f ↦ let g : LacksEquals key = rw f at h in rw (f, place_after key tail g) (omega arith)
-    ]
+split_of : (list_member : List ℕ) → HasEquals list_member → IsSplit list_member (pair_of list_member)
+split_of list_member h =
+    let s = text_split list_member h in
+    record { more = s.0; spelled = s.1; ends_key = before_lacks list_member; whole_run = run_is_whole (after_first is_equals list_member) }
 
 run_kept : (value : List ℕ) → begins_with_equals value ≡ false → without_equals value ≡ value
 run_kept [] h = refl
@@ -55,25 +46,24 @@ run_kept (v ∷ value) h = rw h refl
 abbrev made : List ℕ → List ℕ → Pair
 made key value = record { key = key; value = value }
 
-record Parts (member : List ℕ) (pair : Pair) : Type 0 where
-  has_equals : HasEquals member
-  is : pair_of member ≡ pair
+record Parts (list_member : List ℕ) (pair : Pair) : Type 0 where
+  has_equals : HasEquals list_member
+  is : pair_of list_member ≡ pair
 
-parts : (member : List ℕ) (pair : Pair) → IsSplit member pair → Parts member pair
-parts member pair s =
+parts : (list_member : List ℕ) (pair : Pair) → IsSplit list_member pair → Parts list_member pair
+parts list_member pair s =
     let tail : List ℕ = replicate s.more 61 ++ pair.value in
     let text : List ℕ = pair.key ++ 61 ∷ tail in
-    let place : position_or_len is_equals text ≡ length pair.key = place_after pair.key tail s.ends_key in
-    let key_is : key_of text ≡ pair.key = rw place (take_at pair.key (61 ∷ tail) (length pair.key) refl) in
-    let after_is : after_first is_equals text ≡ tail = rw place (ap (drop (length pair.key + 1)) (sym (append_assoc pair.key (61 ∷ []) tail)) ∙ drop_at (pair.key ++ 61 ∷ []) tail (length pair.key + 1) (length-append pair.key (61 ∷ []))) in
+    let key_is : key_of text ≡ pair.key = before_at is_equals pair.key 61 tail s.ends_key refl in
+    let after_is : after_first is_equals text ≡ tail = after_at is_equals pair.key 61 tail s.ends_key refl in
     let value_is : value_of text ≡ pair.value = ap without_equals after_is ∙ without_equals-run s.more pair.value ∙ run_kept pair.value s.whole_run in
     let same : pair_of text ≡ pair = ap (λ (x : List ℕ). made x (value_of text)) key_is ∙ ap (made pair.key) value_is in
     record {
-      has_equals = ap (list_any is_equals) s.spelled ∙ list_any_some is_equals text (rw place (omega (arith, length-append pair.key (61 ∷ tail))));
+      has_equals = ap (list_any is_equals) s.spelled ∙ some_at is_equals pair.key 61 tail refl;
       is = ap pair_of s.spelled ∙ same;
     }
 
--- ---- the first member without =
+-- ---- the first list member without =
 
 first_list : (ms : List (List ℕ)) (fault : Fault) → list_fault ms ≡ Some fault → IsFirstList ms fault
 first_list [] fault e = absurd cc
@@ -82,10 +72,10 @@ first_list (m ∷ ms) fault e =
       | inl t ↦
           let g : list_fault ms ≡ Some fault = rw t at e in
           let r = first_list ms fault g in
-          record { before = m ∷ r.before; member = r.member; after = r.after; spelled = ap (λ (x : List (List ℕ)). m ∷ x) r.spelled; this = r.this; those = (t, r.those) }
+          record { before = m ∷ r.before; list_member = r.list_member; after = r.after; spelled = ap (λ (x : List (List ℕ)). m ∷ x) r.spelled; this = r.this; those = (t, r.those) }
       | inr f ↦
           let g : Some (ListFault m) ≡ Some fault = rw f at e in
-          record { before = []; member = m; after = ms; spelled = refl; this = (f, cc g); those = tt }
+          record { before = []; list_member = m; after = ms; spelled = refl; this = (f, cc g); those = tt }
     ]
 
 list_is : (before after : List (List ℕ)) (m : List ℕ) → AllByRecursion HasEquals before → LacksEquals m → list_fault (before ++ m ∷ after) ≡ Some (ListFault m)
@@ -123,26 +113,26 @@ abbrev IsAt : Fault → List ℕ → Type 0
 IsAt fault m = (pair : Pair) × IsSplit m pair × IsPairFault pair fault
 
 first_at : (o : Option Fault) (m : List ℕ) (ms : List (List ℕ)) (fault : Fault) → HasEquals m → pair_fault (pair_of m) ≡ o
-    → (pairs_fault (map pair_of ms) ≡ Some fault → IsFirst (IsAt fault) IsValidMember ms)
-    → first_of o (pairs_fault (map pair_of ms)) ≡ Some fault → IsFirst (IsAt fault) IsValidMember (m ∷ ms)
+    → (pairs_fault (map pair_of ms) ≡ Some fault → IsFirst (IsAt fault) IsValidListMember ms)
+    → first_of o (pairs_fault (map pair_of ms)) ≡ Some fault → IsFirst (IsAt fault) IsValidListMember (m ∷ ms)
 first_at None m ms fault h e rest g =
     let r = rest g in
     record {
       before = m ∷ r.before;
-      member = r.member;
+      list_member = r.list_member;
       after = r.after;
       spelled = ap (λ (x : List (List ℕ)). m ∷ x) r.spelled;
       this = r.this;
       those = ((pair_of m, split_of m h, valid_from_none (pair_of m) e), r.those);
     }
 first_at (Some other) m ms fault h e rest g =
-    record { before = []; member = m; after = ms; spelled = refl; this = (pair_of m, split_of m h, pair_fault_is (pair_of m) fault (e ∙ g)); those = tt }
+    record { before = []; list_member = m; after = ms; spelled = refl; this = (pair_of m, split_of m h, pair_fault_is (pair_of m) fault (e ∙ g)); those = tt }
 
-first_pair : (ms : List (List ℕ)) (fault : Fault) → AllByRecursion HasEquals ms → pairs_fault (map pair_of ms) ≡ Some fault → IsFirst (IsAt fault) IsValidMember ms
+first_pair : (ms : List (List ℕ)) (fault : Fault) → AllByRecursion HasEquals ms → pairs_fault (map pair_of ms) ≡ Some fault → IsFirst (IsAt fault) IsValidListMember ms
 first_pair [] fault h e = absurd cc
 first_pair (m ∷ ms) fault h e = first_at (pair_fault (pair_of m)) m ms fault h.0 refl (first_pair ms fault h.1) e
 
-pairs_is : (before after : List (List ℕ)) (m : List ℕ) (fault : Fault) → AllByRecursion IsValidMember before → IsAt fault m → pairs_fault (map pair_of (before ++ m ∷ after)) ≡ Some fault
+pairs_is : (before after : List (List ℕ)) (m : List ℕ) (fault : Fault) → AllByRecursion IsValidListMember before → IsAt fault m → pairs_fault (map pair_of (before ++ m ∷ after)) ≡ Some fault
 pairs_is [] after m fault h at =
     let p = parts m at.0 at.1 in
     let e : pair_fault (pair_of m) ≡ Some fault = ap pair_fault p.is ∙ fault_from_is at.0 fault at.2 in
@@ -156,12 +146,12 @@ pairs_is (b ∷ before) after m fault h at =
 
 from_list : (ms : List (List ℕ)) (fault : Fault) → IsFirstList ms fault → first_of (list_fault ms) (pairs_fault (map pair_of ms)) ≡ Some fault
 from_list ms fault h =
-    let e : list_fault ms ≡ Some fault = ap list_fault h.spelled ∙ list_is h.before h.after h.member h.those h.this.0 ∙ ap Some (sym h.this.1) in
+    let e : list_fault ms ≡ Some fault = ap list_fault h.spelled ∙ list_is h.before h.after h.list_member h.those h.this.0 ∙ ap Some (sym h.this.1) in
     rw e refl
 
 from_pair : (ms : List (List ℕ)) (fault : Fault) → IsFirstPair ms fault → first_of (list_fault ms) (pairs_fault (map pair_of ms)) ≡ Some fault
 from_pair ms fault h =
-    let e : pairs_fault (map pair_of ms) ≡ Some fault = ap (λ (x : List (List ℕ)). pairs_fault (map pair_of x)) h.1.spelled ∙ pairs_is h.1.before h.1.after h.1.member fault h.1.those h.1.this in
+    let e : pairs_fault (map pair_of ms) ≡ Some fault = ap (λ (x : List (List ℕ)). pairs_fault (map pair_of x)) h.1.spelled ∙ pairs_is h.1.before h.1.after h.1.list_member fault h.1.those h.1.this in
     rw (none_lacks ms h.0) e
 
 to_either : (o : Option Fault) (ms : List (List ℕ)) (fault : Fault) → list_fault ms ≡ o → first_of o (pairs_fault (map pair_of ms)) ≡ Some fault → IsFirstList ms fault ⊎ IsFirstPair ms fault
@@ -170,6 +160,6 @@ to_either (Some other) ms fault e g = inl (first_list ms fault (e ∙ g))
 
 pub faults_agree : FaultsAgree
 faults_agree text fault = (
-  λ h. elim h [ inl l ↦ from_list (members (pieces text)) fault l | inr p ↦ from_pair (members (pieces text)) fault p ],
-  λ e. to_either (list_fault (members (pieces text))) (members (pieces text)) fault refl e,
+  λ h. elim h [ inl l ↦ from_list (list_members (pieces text)) fault l | inr p ↦ from_pair (list_members (pieces text)) fault p ],
+  λ e. to_either (list_fault (list_members (pieces text))) (list_members (pieces text)) fault refl e,
 )

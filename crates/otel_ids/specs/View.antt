@@ -9,7 +9,7 @@ use Rattle.std.specs.Coded.{Coded, code_by, coded×, coded_ℕ, coded_bool, code
 use Rattle.std.specs.Str.{IsUtf8}
 use Rattle.std.specs.Global.{Global}
 use Rattle.std.specs.declared.rc.Rc.{Rc}
-use Rattle.otel_ids.specs.declared.members.Place.{Place}
+use Rattle.otel_ids.specs.declared.pairs.Place.{Place}
 use Rattle.otel_ids.specs.TraceState.{Pair, pair_with, has_key, header}
 use Rattle.otel_ids.specs.SpanContext.{SpanContextRecord}
 

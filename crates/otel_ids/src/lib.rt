@@ -2,20 +2,23 @@
 //! trace-context-2).
 #![tactic(auto)]
 
-mod blanks;
+mod digits;
 mod error;
+mod from_pairs;
 pub mod laws;
 mod list_member;
-mod members;
 mod pairs;
 mod reading;
 mod span_context;
-mod trace_context;
+mod span_id;
+mod trace_flags;
+mod trace_id;
 mod trace_state;
 
-pub use blanks::cut_blanks;
 pub use error::TraceStateError;
-pub use members::TraceStateIter;
+pub use pairs::TraceStateIter;
 pub use span_context::SpanContext;
-pub use trace_context::{SpanId, TraceFlags, TraceId};
+pub use span_id::SpanId;
+pub use trace_flags::TraceFlags;
+pub use trace_id::TraceId;
 pub use trace_state::TraceState;

@@ -5,7 +5,7 @@ use Rattle.std.specs.Int.{byte_at, bytes_high_first, w64, w128, to_be_bytes, fro
 use Rattle.std.specs.Prelude.{slice_index}
 use Rattle.hex.specs.Hex.{IsBytes, encode_lower, decode_of}
 use Rattle.hex.proofs.HexLemmas.{decode_of-encode_lower}
-use Rattle.otel_ids.proofs.Numerals.{bytes_again}
+use Rattle.otel_ids.proofs.shared.Numerals.{bytes_again}
 use Rattle.otel_otlp.specs.Json.{trace_id_text, span_id_text}
 
 byte_small : (i n : ℕ) → byte_at i n < 256

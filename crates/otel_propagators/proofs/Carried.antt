@@ -6,16 +6,17 @@ use Rattle.std.specs.Str.{bytes_eq}
 use Rattle.std.proofs.lemmas.Bool.{cases_Bool, and_parts, cond-true, cond-false, eqb-false, not-true}
 use Rattle.std.proofs.lemmas.List.{append-nil}
 use Rattle.std.proofs.lemmas.List.Elements.{All-nil, All-head, All-tail, All-weaker}
-use Rattle.std.proofs.lemmas.Slice.Eq.{bytes_eq-Decides}
 use Rattle.otel_ids.specs.TraceState.{Pair, IsState, header}
 use Rattle.otel_ids.specs.Laws.{cut_value}
 use Rattle.otel_ids.specs.SpanContext.{SpanContextRecord, IsValidSpanContext}
-use Rattle.otel_ids.proofs.Header.{header_reads}
+use Rattle.otel_ids.proofs.shared.Header.{header_reads}
 use Rattle.otel_context.specs.BaggageHeader.{header as baggage_text}
 use Rattle.otel_context.specs.BaggageMember.{Member}
 use Rattle.otel_context.specs.Context.{ContextRecord, SpanPart, span_context, with_baggage, with_remote_span_context}
 use Rattle.opentelemetry.specs.Carrier.{Pairs, TextMap, Sets, at, last_value, lower}
-use Rattle.opentelemetry.proofs.Setting.{sets_more}
+use Rattle.otel_base.proofs.shared.Bytes.{differs}
+use Rattle.otel_base.proofs.shared.Options.{option_or-none}
+use Rattle.opentelemetry.proofs.shared.Setting.{sets_more, last_value-append}
 use Rattle.otel_propagators.specs.TraceParent.{Parent, IsParent, parent_text, parent_of}
 use Rattle.otel_propagators.specs.TraceContext.{traceparent_key, tracestate_key, parent, is_valid, trace_pairs, state_of, remote, extracted_by, trace_extracted}
 use Rattle.otel_propagators.specs.BaggageReading.{read_baggage}
@@ -34,26 +35,6 @@ abbrev tracestate_pair : SpanContextRecord → List ℕ × List ℕ
 tracestate_pair s = (tracestate_key, header s.trace_state)
 
 -- ---- which pairs count at a key
-
-option_or-assoc : {A : Type 0} (a b c : Option A) → option_or (option_or a b) c ≡ option_or a (option_or b c)
-option_or-assoc None b c = refl
-option_or-assoc (Some x) b c = refl
-
-option_or-none : {A : Type 0} (a : Option A) → option_or a None ≡ a
-option_or-none None = refl
-option_or-none (Some x) = refl
-
-last_value-append : (ps qs : Pairs) (k : List ℕ) → last_value (ps ++ qs) k ≡ option_or (last_value qs k) (last_value ps k)
-last_value-append [] qs k = sym (option_or-none (last_value qs k))
-last_value-append (p ∷ ps) qs k =
-    ap (λ o. option_or o (if bytes_eq (lower p.0) k then Some p.1 else None)) (last_value-append ps qs k)
-    ∙ option_or-assoc (last_value qs k) (last_value ps k) (if bytes_eq (lower p.0) k then Some p.1 else None)
-
-differs : (x y : List ℕ) → x ≢ y → bytes_eq x y ≡ false
-differs x y h = elim (bytes_eq x y) as (λ b. bytes_eq x y ≡ b → b ≡ false) [
-  | true ↦ λ is. absurd (h ((bytes_eq-Decides x y).0 is))
-  | false ↦ λ is. refl
-] refl
 
 -- no pair of the other members counts
 no_value : (ps : Pairs) (k : List ℕ) → All (λ (p : List ℕ × List ℕ). lower p.0 ≢ k) ps → last_value ps k ≡ None

@@ -8,9 +8,9 @@ use Rattle.std.proofs.lemmas.Bool.Decides.{nat_tests}
 use lib.Utf8.{scalar, scalars, encode, encodes, scalar_cases}
 use Rattle.percent_encoding.specs.Percent.{percent_encode_byte, percent_decode}
 use Rattle.percent_encoding.proofs.PercentLemmas.{percent_decode-nil, percent_decode-percent_encode_byte, percent_decode_not_percent}
-use Rattle.otel_context.proofs.BaggageEscapes.{no_percent}
+use Rattle.otel_context.proofs.shared.BaggageEscapes.{no_percent}
 use Rattle.otel_context.specs.BaggageText.{is_unreserved, escape, escaped_byte, escaped}
-use Rattle.otel_context.proofs.BaggageCuts.{list_all-both}
+use Rattle.otel_base.proofs.shared.Searches.{list_all-both}
 
 abbrev is_byte : ℕ → Bool
 is_byte b = nat_lt b 256

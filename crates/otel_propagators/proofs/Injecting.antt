@@ -6,13 +6,13 @@ use Rattle.std.proofs.lemmas.Bool.Decides.{nat_tests}
 use Rattle.otel_ids.specs.TraceState.{Pair, header}
 use Rattle.otel_ids.specs.Reading.{Reads}
 use Rattle.otel_ids.specs.SpanContext.{SpanContextRecord, IsValidSpanContext}
-use Rattle.otel_ids.proofs.Header.{reading_agrees}
+use Rattle.otel_ids.proofs.shared.Header.{reading_agrees}
 use Rattle.opentelemetry.specs.declared.propagation.error.PropagationError.{PropagationError}
 use Rattle.opentelemetry.specs.declared.propagation.error.PropagationError.TheVariants.{Memory, Refused}
 use Rattle.opentelemetry.specs.Carrier.{CarrierState, Sets}
 use Rattle.opentelemetry.specs.Injection.{Injects}
 use Rattle.opentelemetry.specs.Refusal.{is_refused}
-use Rattle.opentelemetry.proofs.Setting.{sets_more}
+use Rattle.opentelemetry.proofs.shared.Setting.{sets_more}
 use Rattle.otel_propagators.specs.TraceParent.{parent_text}
 use Rattle.otel_propagators.specs.TraceContext.{traceparent_key, tracestate_key, parent, is_valid, span_context_pairs, state_of}
 

@@ -1,19 +1,14 @@
 -- The properties of every context, if it has no baggage.
-use Rattle.std.proofs.Common.{◌≡◌, refl, [], Option, None, arith, ap, ◌∙◌, subst, sym}
+use Rattle.std.proofs.Common.{◌≡◌, [], Option, None, ap, ◌∙◌, subst, sym}
 use Rattle.std.specs.Option.{option_map, option_map_or}
-use Rattle.std.proofs.lemmas.Cmp.{nat_list_eq_equiv}
-use Rattle.std.proofs.lemmas.List.Elements.{All-nil}
-use Rattle.std.proofs.lemmas.Map.Made.{IsDistinct-from_count}
 use Rattle.otel_ids.specs.SpanContext.{SpanContextRecord}
 use Rattle.otel_context.specs.Baggage.{IsBaggage}
-use Rattle.otel_context.specs.BaggageMember.{Member, IsValidMember}
+use Rattle.otel_context.specs.BaggageMember.{Member}
 use Rattle.otel_context.specs.Context.{ContextRecord, span_context}
 use Rattle.otel_propagators.specs.Laws.{IsSpanContext, IsContext}
+use Rattle.otel_propagators.proofs.PieceReads.{no_members}
 use denote.Ref.{Bor}
 use Rattle.std.specs.Prelude.{List}
-
-no_members : IsBaggage []
-no_members = record { few = omega arith; distinct = IsDistinct-from_count nat_list_eq_equiv [] refl; valid = All-nil IsValidMember; light = omega arith }
 
 pub without_baggage : (context : ContextRecord) (s : SpanContextRecord) → s ≡ span_context context → IsSpanContext s
     → (o : Option (Bor (List Member))) → o ≡ None → option_map (λ b. b.now) o ≡ context.baggage → IsContext context

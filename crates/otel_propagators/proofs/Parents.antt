@@ -11,10 +11,10 @@ use Rattle.std.proofs.lemmas.Bool.Decides.{nat_tests}
 use Rattle.std.proofs.lemmas.List.{length-append, append-nil, take-append-drop, take_all, take_at}
 use Rattle.std.proofs.lemmas.Option.{cond_some}
 use Rattle.std.proofs.lemmas.Slice.Eq.{bytes_eq-Decides}
-use Rattle.otel_ids.specs.Text.{is_blank, ends_in_blank, cut_front, cut_end, cut_blanks}
+use Rattle.otel_base.specs.Blanks.{is_blank, ends_in_blank, cut_front, cut_end, cut_blanks}
 use Rattle.otel_ids.specs.Ids.{number_of, id_text, ReadsId}
-use Rattle.otel_ids.proofs.Cuts.{cut_end-kept}
-use Rattle.otel_ids.proofs.Numerals.{length_text, reads_text}
+use Rattle.otel_base.proofs.shared.BlankCuts.{cut_end-kept, ends-append}
+use Rattle.otel_ids.proofs.shared.Numerals.{length_text, reads_text}
 use Rattle.otel_propagators.specs.TraceParent.{Parent, parent_with, IsParent, parent_text, ReadsParent, numbers_in, is_parent, parent_in, parent_of, ParentsAgree, ParentReads, OneParent, ParentLength}
 use Rattle.otel_propagators.specs.Digits.{IsNumberOf, AreNumbersOf, IsParentFrom}
 
@@ -124,12 +124,6 @@ same_parent t s f p text e a b c v g =
 
 digit_no_blank : (d : ℕ) → is_blank (digit_glyph false d) ≡ false
 digit_no_blank d = grind (arith, nat_tests)
-
-ends-append : (xs ys : List ℕ) → 0 < length ys → ends_in_blank (xs ++ ys) ≡ ends_in_blank ys
-ends-append [] ys h = refl
-ends-append (x ∷ []) [] h = absurd (omega arith)
-ends-append (x ∷ []) (y ∷ ys) h = refl
-ends-append (x ∷ z ∷ xs) ys h = ends-append (z ∷ xs) ys h
 
 ends_digits : (f : ℕ) → ends_in_blank (id_text 2 f) ≡ false
 unfolding id_text

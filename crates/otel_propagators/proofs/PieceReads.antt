@@ -1,33 +1,35 @@
 -- The members read from the pieces of a header.
 use Rattle.std.proofs.Common.{◌≡◌, ℕ, ◌+◌, ◌<◌, ◌≤◌, Bool, true, false, List, [], ◌∷◌, ◌++◌, length, drop, get_or, Option, Some, None, inl, inr, refl, sym, ap, subst, ◌∙◌, arith, append_assoc, All}
-use Rattle.std.specs.Prelude.{◌&&◌, ◌||◌, nat_lt, nat_le, map, IsUtf8, if◌then◌else◌}
+use Rattle.std.specs.Prelude.{◌&&◌, nat_lt, nat_le, map, IsUtf8, if◌then◌else◌}
 use Rattle.std.specs.List.{list_all, list_any, before_first, after_first, join_with_byte, AllByRecursion}
-use Rattle.std.specs.Str.{bytes_eq, trim, is_utf8}
-use Rattle.otel_ids.proofs.Turns.{next_piece}
+use Rattle.std.specs.Str.{trim, is_utf8}
+use Rattle.otel_base.proofs.shared.Steps.{next_element}
 use Rattle.std.proofs.Math.Bool.{and-false}
-use Rattle.std.proofs.lemmas.Bool.{cases_Bool, and_parts, and_from, or_from, or_right, or_parts, cond-true, cond-false, cond_both, le-leb, lt-ltb, eqb-true, eq-eqb, both_ways, false_from_ne_true}
+use Rattle.std.proofs.lemmas.Bool.{cases_Bool, and_parts, and_from, or_from, or_parts, cond-true, cond-false, cond_both, le-leb, eqb-true, eq-eqb, both_ways, false_from_ne_true}
 use Rattle.std.proofs.lemmas.Bool.Decides.{nat_tests}
 use Rattle.std.proofs.lemmas.List.{append-nil, length-append, drop_all}
 use Rattle.std.proofs.lemmas.List.Elements.{All-head, All-tail, All-nil}
 use Rattle.std.proofs.lemmas.List.Splits.{slice_split_none, slice_split_at, join_with_byte-slice_split}
-use Rattle.std.proofs.lemmas.List.Sums.{sum_by-append, sum_by-cons}
-use Rattle.std.proofs.lemmas.Map.Keys.{IsDistinct-head, IsDistinct-tail}
+use Rattle.std.proofs.lemmas.List.Sums.{sum_by-cons}
 use Rattle.std.proofs.lemmas.Str.{IsUtf8-from_is_utf8, is_utf8-from_IsUtf8}
 use Rattle.percent_encoding.specs.Percent.{percent_decode}
 use Rattle.percent_encoding.proofs.PercentLemmas.{percent_decode-nil, percent_decode_not_percent, length-percent_decode}
-use Rattle.otel_ids.specs.Text.{is_comma, is_equals, is_blank, cut_blanks}
+use Rattle.otel_base.specs.Blanks.{is_blank, cut_blanks}
+use Rattle.otel_base.proofs.shared.BlankCuts.{no_blanks}
+use Rattle.otel_ids.specs.Text.{is_comma, is_equals}
 use Rattle.otel_context.specs.BaggageText.{is_key_byte, is_key, escaped, IsTrimmed}
-use Rattle.otel_context.specs.BaggageMember.{Member, member_of, has_key, weight_of, IsValidMember}
+use Rattle.otel_context.specs.BaggageMember.{Member, member_of, weight_of, IsValidMember}
 use Rattle.otel_context.specs.Baggage.{max_key_value_pairs, max_len_of_all_pairs, weight, put, accepts, insert, IsBaggage}
 use Rattle.otel_context.specs.BaggageHeader.{metadata_text, member_text, header}
 use Rattle.otel_context.specs.BaggageLaws.{HasNoComma}
-use Rattle.otel_context.proofs.BaggageTrims.{trim_twice}
+use Rattle.otel_context.proofs.shared.BaggageTrims.{trim_twice}
 use Rattle.otel_propagators.specs.BaggagePieces.{is_percent, decoded_value, with_value}
 use Rattle.otel_propagators.specs.BaggageReading.{is_semicolon, pieces, key_and_value, key_in, written_value, value_in, metadata_in, member_in, is_member, with_piece, with_pieces, BaggageReads, ReadsBaggage}
-use Rattle.otel_propagators.proofs.FirstCuts.{none_append, some_at, none_from_all, none_from_not, none_All, before_at, after_at, before_none, after_none, no_blanks, utf8_cut, utf8_after}
+use Rattle.otel_base.proofs.shared.Searches.{none_append, some_at, none_from_all, none_from_not, none_All, before_at, after_at, before_none, after_none, utf8_cut, utf8_after}
 use Rattle.otel_propagators.proofs.EscapedValues.{is_written, all_written, decoded}
-use Rattle.otel_context.proofs.BaggageLists.{AreDistinct, HasNone}
-use Rattle.otel_propagators.proofs.PutMembers.{distinct_nil, turned, insert_baggage, too_long}
+use Rattle.otel_context.proofs.shared.BaggageAppends.{is_new, weight_more, inserted}
+use Rattle.otel_context.proofs.shared.BaggageLists.{AreDistinct}
+use Rattle.otel_propagators.proofs.PutMembers.{distinct_nil, insert_baggage, too_long}
 
 -- ---- bytes that occur neither in keys nor in escaped values
 
@@ -126,35 +128,6 @@ module _ (m : Member) (good : IsValidMember m) where
       rest [] h = refl
       rest (b ∷ bs) h = h
 
--- ---- a further member
-
-weight_more : (ms ys : List Member) → weight (ms ++ ys) ≡ weight ms + weight ys
-weight_more ms ys = sum_by-append weight_of ms ys
-
-put_last : (ms : List Member) (m : Member) → list_any (has_key m.key) ms ≡ false → put ms m ≡ ms ++ m ∷ []
-put_last ms m h = cond-false (list_any (has_key m.key) ms) (map (λ other. if has_key m.key other then m else other) ms) (ms ++ m ∷ []) h
-
-not_among : (k : List ℕ) (xs : List Member) (m : Member) (ys : List Member) → HasNone k (xs ++ m ∷ ys) → bytes_eq k m.key ≡ false
-not_among k [] m ys h = h.0
-not_among k (x ∷ xs) m ys h = not_among k xs m ys h.1
-
-is_new : (xs : List Member) (m : Member) (ys : List Member) → AreDistinct (xs ++ m ∷ ys) → list_any (has_key m.key) xs ≡ false
-is_new [] m ys d = refl
-is_new (x ∷ xs) m ys d =
-    or_from (has_key m.key x) (list_any (has_key m.key) xs)
-    (turned x.key m.key (not_among x.key xs m ys (IsDistinct-head bytes_eq x.key (map (λ o. o.key) (xs ++ m ∷ ys)) d)))
-    (is_new xs m ys (IsDistinct-tail bytes_eq x.key (map (λ o. o.key) (xs ++ m ∷ ys)) d))
-
-inserted : (ms : List Member) (m : Member) → list_any (has_key m.key) ms ≡ false → is_key m.key ≡ true → length ms < max_key_value_pairs → weight ms + weight_of m ≤ max_len_of_all_pairs → insert ms m ≡ ms ++ m ∷ []
-inserted ms m new key few light =
-    let p = put_last ms m new in
-    let w = weight_more ms (m ∷ []) in
-    let one = sum_by-cons weight_of m [] in
-    let a : accepts ms m ≡ true = and_from (nat_le (weight (put ms m)) max_len_of_all_pairs) (list_any (has_key m.key) ms || (is_key m.key && nat_lt (length ms) max_key_value_pairs))
-    (le-leb (weight (put ms m)) max_len_of_all_pairs (omega (arith, ap weight p)))
-    (or_right (list_any (has_key m.key) ms) (is_key m.key && nat_lt (length ms) max_key_value_pairs) (and_from (is_key m.key) (nat_lt (length ms) max_key_value_pairs) key (lt-ltb (length ms) max_key_value_pairs few))) in
-    cond-true (accepts ms m) (put ms m) ms a ∙ p
-
 -- ---- all members
 
 all_inserted : (ms ys : List Member) → All IsValidMember ys → AreDistinct (ms ++ ys) → length ms + length ys ≤ max_key_value_pairs → weight ms + weight ys ≤ max_len_of_all_pairs → with_pieces ms (map member_text ys) ≡ ms ++ ys
@@ -184,7 +157,7 @@ baggage_reads (m ∷ ms) held none =
 
 -- ---- the result of reading is a baggage
 
-no_members : IsBaggage []
+pub no_members : IsBaggage []
 no_members = record { few = omega arith; distinct = distinct_nil; valid = All-nil IsValidMember; light = omega arith }
 
 semicolon_small : (b : ℕ) → is_semicolon b ≡ true → b < 128
@@ -285,7 +258,7 @@ module _ (ms : List Member) (piece key value metadata : List ℕ) (some : list_a
 
 pub goes_on : (ps : List (List ℕ)) (n k : ℕ) (piece : List ℕ) (ms new total : List Member) → k ≡ n + 1 → (n < length ps) × (piece ≡ get_or ps n piece) → new ≡ with_piece ms piece → with_pieces ms (drop n ps) ≡ total → with_pieces new (drop k ps) ≡ total
 goes_on ps n k piece ms new total next turn is so_far =
-    rw (next, is) (sym (ap (with_pieces ms) (next_piece ps n piece turn)) ∙ so_far)
+    rw (next, is) (sym (ap (with_pieces ms) (next_element ps n piece turn)) ∙ so_far)
 
 pub ends : (ps : List (List ℕ)) (n : ℕ) (ms total : List Member) → length ps ≤ n → with_pieces ms (drop n ps) ≡ total → ms ≡ total
 ends ps n ms total le so_far = ap (with_pieces ms) (sym (drop_all n ps le)) ∙ so_far

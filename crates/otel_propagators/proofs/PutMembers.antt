@@ -4,19 +4,16 @@ use Rattle.std.specs.Prelude.{◌&&◌, ◌||◌, nat_le, nat_lt, map, if◌then
 use Rattle.std.specs.List.{IsDistinct, list_any}
 use Rattle.std.specs.Str.{bytes_eq, is_utf8}
 use Rattle.std.proofs.lemmas.Bool.Decides.{nat_tests}
-use Rattle.std.proofs.lemmas.Bool.{cases_Bool, cond-true, cond_both, false_from_ne_true, both_ways}
+use Rattle.std.proofs.lemmas.Bool.{cases_Bool, cond-true, cond_both}
 use Rattle.std.proofs.lemmas.Map.Keys.{IsDistinct-head}
-use Rattle.std.proofs.lemmas.Slice.Eq.{bytes_eq-Decides}
 use Rattle.std.proofs.lemmas.List.Sums.{sum_by-append, sum_by-cons}
+use Rattle.otel_base.proofs.shared.Bytes.{turned}
 use Rattle.otel_context.specs.BaggageText.{is_key, IsTrimmed}
 use Rattle.otel_context.specs.BaggageMember.{Member, has_key, weight_of}
 use Rattle.otel_context.specs.Baggage.{max_key_value_pairs, max_len_of_all_pairs, weight, put, accepts, insert, IsBaggage}
-use Rattle.otel_context.proofs.BaggageLists.{keys, AreDistinct, HasNone, none_after}
-use Rattle.otel_context.proofs.BaggageLists.{put_here, put_later, tail}
-use Rattle.otel_context.proofs.BaggagePuts.{put_baggage}
-
-pub turned : (a b : List ℕ) → bytes_eq a b ≡ false → bytes_eq b a ≡ false
-turned a b f = false_from_ne_true (bytes_eq b a) (λ t. both_ways (bytes_eq a b) f ((bytes_eq-Decides a b).1 (sym ((bytes_eq-Decides b a).0 t))))
+use Rattle.otel_context.proofs.shared.BaggageLists.{keys, AreDistinct, HasNone, none_after}
+use Rattle.otel_context.proofs.shared.BaggageLists.{put_here, put_later, tail}
+use Rattle.otel_context.proofs.shared.BaggagePuts.{put_baggage}
 
 distinct_cons : (o : Member) (ms : List Member) → HasNone o.key ms → AreDistinct ms → AreDistinct (o ∷ ms)
 unfolding IsDistinct

@@ -5,7 +5,8 @@ use Rattle.std.specs.List.{list_any, slice_split, before_first, after_first}
 use Rattle.std.specs.Char.{encode_utf8}
 use Rattle.std.specs.Str.{chars, is_utf8, trim, trim_start, trim_end}
 use Rattle.percent_encoding.specs.Percent.{percent_decode}
-use Rattle.otel_ids.specs.Text.{is_comma, is_equals, cut_blanks}
+use Rattle.otel_base.specs.Blanks.{cut_blanks}
+use Rattle.otel_ids.specs.Text.{is_comma, is_equals}
 use Rattle.otel_context.specs.Baggage.{IsBaggage, insert}
 use Rattle.otel_context.specs.BaggageHeader.{header}
 use Rattle.otel_context.specs.BaggageLaws.{HasNoComma}

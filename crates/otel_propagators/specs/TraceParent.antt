@@ -5,7 +5,7 @@ use Rattle.std.specs.Prelude.{List, ◌∷◌, ◌++◌, take, drop, length, Opt
 use Rattle.std.specs.Prelude.{if◌then◌else◌}
 use Rattle.std.specs.Str.{bytes_eq}
 use Rattle.otel_ids.specs.Ids.{id_text, number_of}
-use Rattle.otel_ids.specs.Text.{cut_blanks}
+use Rattle.otel_base.specs.Blanks.{cut_blanks}
 
 -- the ids of a trace and of a span in it, and the flags as a byte
 pub record Parent : Type 0 where

@@ -5,8 +5,8 @@ use Rattle.std.specs.List.{position_from, enumerate_from}
 use Rattle.std.proofs.lemmas.List.FromFn.{length-enumerate_from, get_or-enumerate_from}
 use Rattle.std.proofs.lemmas.Iterator.Adapters.{position_from-zero}
 use Rattle.std.proofs.lemmas.List.{drop_all}
-use Rattle.otel_ids.specs.Text.{cut_blanks}
-use Rattle.otel_ids.proofs.Turns.{next_piece}
+use Rattle.otel_base.specs.Blanks.{cut_blanks}
+use Rattle.otel_base.proofs.shared.Steps.{next_element as next_piece}
 use Rattle.otel_base.specs.KeyValue.{Attribute}
 use Rattle.otel_sdk_base.specs.Attributes.{put, put_all}
 use Rattle.otel_sdk_base.specs.ResourceTexts.{is_fault, attribute_in}

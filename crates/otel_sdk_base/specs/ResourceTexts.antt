@@ -10,7 +10,8 @@ use Rattle.std.specs.declared.vec.Vec.{Vec}
 use denote.Ref.{Bor}
 use Rattle.std.specs.declared.alloc.Global.{Global}
 use Rattle.percent_encoding.specs.Percent.{percent_decode, percent_sign}
-use Rattle.otel_ids.specs.Text.{is_comma, is_equals, cut_blanks}
+use Rattle.otel_base.specs.Blanks.{cut_blanks}
+use Rattle.otel_ids.specs.Text.{is_comma, is_equals}
 use Rattle.otel_base.specs.KeyValue.{Attribute}
 use Rattle.otel_base.specs.View.{attribute_of}
 use Rattle.otel_base.specs.declared.key_value.KeyValue.{KeyValue}

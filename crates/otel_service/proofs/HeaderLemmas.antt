@@ -18,11 +18,11 @@ use Rattle.std.proofs.lemmas.Map.Text.{hash_map_updates_text}
 use Rattle.std.proofs.lemmas.Slice.Eq.{bytes_eq-Decides}
 use Rattle.std.proofs.lemmas.Str.{IsUtf8-from_is_utf8, is_utf8-from_IsUtf8}
 use borrow.Author.Tests.{ltb-true, ltb-false}
-use Rattle.otel_ids.proofs.Readings.{place_of_any}
-use Rattle.otel_propagators.proofs.FirstCuts.{none_All}
+use Rattle.otel_base.proofs.shared.Searches.{place_of_any}
+use Rattle.otel_base.proofs.shared.Searches.{none_All}
 use Rattle.otel_context.specs.BaggageText.{is_key}
 use Rattle.opentelemetry.specs.Carrier.{lower}
-use Rattle.otel_ids.specs.Text.{cut_blanks}
+use Rattle.otel_base.specs.Blanks.{cut_blanks}
 use Rattle.otel_service.specs.Headers.{is_line_feed, is_colon, IsFirstLine, header_in, header_of, headers_of, values_under, combined_value, value_at}
 
 -- what isn't UTF-8 doesn't pass the test

@@ -11,7 +11,7 @@ use Rattle.std.specs.Str.{bytes_eq, is_utf8}
 use Rattle.std.specs.Str.Lines.{strip_carriage_return}
 use Rattle.std.specs.declared.string.String.{String}
 use denote.Ref.{Bor}
-use Rattle.otel_ids.specs.Text.{cut_blanks}
+use Rattle.otel_base.specs.Blanks.{cut_blanks}
 use Rattle.otel_context.specs.BaggageText.{is_key}
 use Rattle.opentelemetry.specs.Carrier.{lower}
 

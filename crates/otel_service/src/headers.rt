@@ -10,7 +10,7 @@ ghost use Rattle.otel_service.specs.Headers.{header_in, header_of, headers_of};
 ghost use Rattle.otel_service.specs.Headers.{AddsValues, HasValuesOf, with_value};
 ghost use Rattle.otel_service.specs.Headers.{is_line_text, lines_of};
 
-use otel_ids::cut_blanks;
+use otel_base::cut_blanks;
 use std::alloc::{AllocError, Global};
 use std::collections::HashMap;
 use std::io::{self, Write};

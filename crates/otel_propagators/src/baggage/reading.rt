@@ -11,8 +11,8 @@ ghost use Rattle.otel_propagators.specs.BaggageReading.{with_piece, read_baggage
 
 use opentelemetry::baggage::{Baggage, BaggageMetadata};
 use opentelemetry::{Key, StringValue};
+use otel_base::cut_blanks;
 use otel_context::baggage::MAX_LEN_OF_ALL_PAIRS;
-use otel_ids::cut_blanks;
 use percent_encoding::percent_decode;
 use std::alloc::{AllocError, Global};
 use std::str;

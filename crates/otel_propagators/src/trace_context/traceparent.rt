@@ -6,7 +6,7 @@ ghost use Rattle.otel_propagators.specs.Digits.{IsAfter, AreNumbersOf, IsParentF
 
 use crate::trace_context::digits::{byte_text, number_before};
 use opentelemetry::trace::{SpanContext, SpanId, TraceFlags, TraceId, TraceState};
-use otel_ids::cut_blanks;
+use otel_base::cut_blanks;
 use std::alloc::{AllocError, Global};
 use std::marker::Model;
 

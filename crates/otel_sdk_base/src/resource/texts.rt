@@ -4,8 +4,7 @@ ghost use Rattle.otel_base.specs.View.{attribute_of};
 ghost use Rattle.otel_sdk_base.specs.ResourceTexts as spec;
 
 use crate::attributes::put;
-use otel_base::{Key, KeyValue, Value};
-use otel_ids::cut_blanks;
+use otel_base::{Key, KeyValue, Value, cut_blanks};
 use percent_encoding::percent_decode_str;
 use std::alloc::{AllocError, Global};
 use thiserror::Error;

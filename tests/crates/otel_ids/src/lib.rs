@@ -1,6 +1,6 @@
 //! What no clause says: rows of outside documents, printed texts, limits and odd inputs.
 #![tactic(auto)]
 
+mod ids_and_flags;
 mod span_context;
-mod trace_context;
 mod trace_state;

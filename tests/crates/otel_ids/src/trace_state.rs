@@ -182,8 +182,8 @@ fn of_64_pairs_the_first_32_are_taken(rt: HostRuntime) -> Result<(), Fail> {
     let alloc = rt.alloc();
     let text = numbered(alloc, 64)?;
     let mut pairs = Vec::new(alloc);
-    for member in text.as_str().split(',') {
-        if let Some(pair) = member.split_once('=') {
+    for list_member in text.as_str().split(',') {
+        if let Some(pair) = list_member.split_once('=') {
             pairs.push(pair)?;
         }
     }

@@ -2,7 +2,7 @@ use Rattle.std.proofs.Common.{refl, sym, ap, ◌∙◌}
 use denote.Param.Object.{read_made}
 use borrow.Pointer.Hide.{carried_sameᵐ}
 use Rattle.opentelemetry.specs.Carrier.{CarrierState, map_state}
-use Rattle.opentelemetry.proofs.Setting.{injects_moved, texts_moved}
+use Rattle.opentelemetry.proofs.shared.Setting.{injects_moved, texts_moved}
 use Rattle.opentelemetry.proofs.carry.send.OwnLists as own
 use Rattle.opentelemetry.proofs.carry.send.Goals as goal
 

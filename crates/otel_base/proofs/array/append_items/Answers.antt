@@ -3,7 +3,7 @@ use Rattle.std.proofs.Common.{string_len, string_capacity, ap, ◌∙◌, append
 use Rattle.std.proofs.Common.{length-append, arith, rules}
 use Rattle.std.specs.List.{join_with_byte}
 use Rattle.otel_base.specs.Array.{bracketed}
-use Rattle.otel_base.proofs.Joined.{joined_more, joined_room}
+use Rattle.otel_base.proofs.shared.Joined.{joined_more, joined_room}
 use Rattle.otel_base.proofs.array.append_items.Goals as goal
 
 -- the separator found no room

@@ -1,6 +1,6 @@
 use Rattle.std.proofs.Common.{refl, ap, ◌++◌}
 use Rattle.std.proofs.Output.{has_written_append, has_written_of_eq}
-use Rattle.otel_base.proofs.Joined.{written_more}
+use Rattle.otel_base.proofs.shared.Joined.{written_more}
 use Rattle.otel_base.proofs.array.write_items.Goals as goal
 
 pub loop-i-preserved : goal.loop-i-preserved

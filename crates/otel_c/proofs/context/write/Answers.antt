@@ -2,7 +2,7 @@ use Rattle.std.proofs.Common.{refl, sym, ap, ◌∙◌}
 use denote.Param.Object.{read_made}
 use borrow.Pointer.Hide.{carried_sameᵐ}
 use Rattle.opentelemetry.specs.Carrier.{CarrierState}
-use Rattle.opentelemetry.proofs.Setting.{injects_moved}
+use Rattle.opentelemetry.proofs.shared.Setting.{injects_moved}
 use Rattle.otel_http.specs.Headers.{texts}
 use Rattle.otel_c.proofs.context.write.OwnLists as own
 use Rattle.otel_c.proofs.context.write.Goals as goal

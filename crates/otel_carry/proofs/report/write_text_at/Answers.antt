@@ -1,7 +1,7 @@
 use Rattle.std.proofs.Common.{refl}
 use Rattle.std.proofs.KnownBytes.{Appends-nil}
 use Rattle.opentelemetry.specs.Carrier.{text_map}
-use Rattle.opentelemetry.proofs.Maps.{at_found}
+use Rattle.opentelemetry.proofs.shared.Maps.{at_found}
 use Rattle.otel_carry.proofs.ReportLemmas.{text_written}
 use Rattle.otel_carry.proofs.report.write_text_at.Goals as goal
 

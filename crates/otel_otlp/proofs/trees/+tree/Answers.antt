@@ -3,7 +3,7 @@ use Rattle.std.proofs.lemmas.List.{map-append, take_all}
 use Rattle.serde_json.specs.Data.{Data}
 use Rattle.serde_json.specs.View.{view}
 use Rattle.otel_base.specs.View.{tree, entries_view}
-use Rattle.otel_base.proofs.Views.{tree-Map}
+use Rattle.otel_base.proofs.shared.Views.{tree-Map}
 use Rattle.otel_otlp.specs.Common.{pair, tree_value, entry_values, map_value}
 use Rattle.otel_otlp.proofs.TreeValues.{Entry, entry_value, tree_values-view, entry_values-view}
 use Rattle.otel_otlp.proofs.trees.+tree.Goals as goal

@@ -1,5 +1,5 @@
 use Rattle.std.proofs.Common.{lit<}
-use Rattle.otel_ids.proofs.Cuts.{list_any_none}
+use Rattle.otel_base.proofs.shared.Searches.{list_any_none}
 use Rattle.otel_service.specs.Headers.{is_colon}
 use Rattle.otel_service.proofs.headers.split_header.Goals as goal
 

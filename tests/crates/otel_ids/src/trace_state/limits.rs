@@ -84,8 +84,8 @@ fn a_value_has_at_most_256_bytes(rt: HostRuntime) -> Result<(), Fail> {
 /// The pairs of a text of pairs that are joined by commas.
 fn pairs_of(alloc: Global, text: &str) -> Result<Vec<(&str, &str)>, AllocError> {
     let mut pairs = Vec::new(alloc);
-    for member in text.split(',') {
-        if let Some(pair) = member.split_once('=') {
+    for list_member in text.split(',') {
+        if let Some(pair) = list_member.split_once('=') {
             pairs.push(pair)?;
         }
     }

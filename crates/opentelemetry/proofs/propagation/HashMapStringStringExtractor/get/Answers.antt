@@ -1,5 +1,5 @@
 use Rattle.std.proofs.Common.{rules, sym}
-use Rattle.opentelemetry.proofs.Maps.{at_found}
+use Rattle.opentelemetry.proofs.shared.Maps.{at_found}
 use Rattle.opentelemetry.proofs.propagation.HashMapStringStringExtractor.get.Goals as goal
 
 pub returns-in-Some : goal.returns-in-Some

@@ -1,6 +1,6 @@
 use Rattle.std.proofs.Common.{◌++◌, map, string_bytes, sym, ap, ◌∙◌}
 use Rattle.std.proofs.lemmas.List.{append-nil}
-use Rattle.opentelemetry.proofs.Rising.{keys_sorted}
+use Rattle.opentelemetry.proofs.shared.Rising.{keys_sorted}
 use Rattle.opentelemetry.proofs.propagation.HashMapStringStringExtractor.keys.Goals as goal
 
 pub returns : goal.returns

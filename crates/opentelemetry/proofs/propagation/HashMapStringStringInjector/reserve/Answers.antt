@@ -1,4 +1,4 @@
-use Rattle.opentelemetry.proofs.Maps.{same_map_state}
+use Rattle.opentelemetry.proofs.shared.Maps.{same_map_state}
 use Rattle.opentelemetry.proofs.propagation.HashMapStringStringInjector.reserve.Goals as goal
 
 pub returns : goal.returns

@@ -1,5 +1,5 @@
 use Rattle.std.proofs.Common.{rules}
-use Rattle.opentelemetry.proofs.Maps.{sets_one}
+use Rattle.opentelemetry.proofs.shared.Maps.{sets_one}
 use Rattle.opentelemetry.proofs.propagation.HashMapStringStringInjector.set.Goals as goal
 
 pub returns-clause-ok : goal.returns-clause-ok

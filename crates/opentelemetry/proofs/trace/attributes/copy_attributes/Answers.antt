@@ -1,4 +1,4 @@
-use Rattle.otel_base.proofs.Walk.{cloned_pairs}
+use Rattle.otel_base.proofs.shared.MappedLists.{cloned_pairs}
 use Rattle.opentelemetry.proofs.trace.attributes.copy_attributes.Goals as goal
 
 pub returns : goal.returns

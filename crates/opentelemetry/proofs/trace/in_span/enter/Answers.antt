@@ -1,6 +1,6 @@
 use Rattle.std.proofs.Common.{◌≡◌, ◌∙◌, Some, sym}
 use Rattle.std.proofs.lemmas.Bool.{false≢true}
-use Rattle.otel_context.proofs.SpansLemmas.{get-insert, cause_of-memory, HasSameSpans-take_back}
+use Rattle.otel_context.proofs.shared.SpansLemmas.{get-insert, cause_of-memory, HasSameSpans-take_back}
 use Rattle.opentelemetry.proofs.trace.in_span.enter.Goals as goal
 
 pub unreachable-requires : goal.unreachable-requires

@@ -1,4 +1,4 @@
-use Rattle.opentelemetry.proofs.Lists.{same_views}
+use Rattle.otel_base.proofs.shared.MappedLists.{same_views}
 use Rattle.opentelemetry.specs.View.{link_of}
 use Rattle.opentelemetry.proofs.trace.span_builder.copy_links.Goals as goal
 

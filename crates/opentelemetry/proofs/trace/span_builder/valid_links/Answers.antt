@@ -1,6 +1,6 @@
 use Rattle.std.proofs.Common.{◌∙◌, ap, map, sym, rules}
 use Rattle.std.proofs.lemmas.Fn.{filter_same}
-use Rattle.opentelemetry.proofs.Lists.{filter_views}
+use Rattle.otel_base.proofs.shared.MappedLists.{filter_views}
 use Rattle.opentelemetry.specs.SpanBuilder.{is_valid_link}
 use Rattle.opentelemetry.specs.View.{link_of}
 use Rattle.opentelemetry.proofs.trace.span_builder.valid_links.Goals as goal

@@ -2,7 +2,7 @@ use Rattle.std.proofs.Common.{◌≡◌, map, ◌∙◌, rules}
 use Rattle.std.specs.List.{AllZip, each_same}
 use Rattle.otel_base.specs.View.{attribute_of}
 use Rattle.otel_base.specs.InstrumentationScope.{Scope}
-use Rattle.otel_base.proofs.Walk.{cloned_pairs}
+use Rattle.otel_base.proofs.shared.MappedLists.{cloned_pairs}
 use Rattle.otel_base.proofs.scope.InstrumentationScopeClone.clone.Goals as goal
 
 pub invariant_of-result : goal.invariant_of-result

@@ -1,7 +1,7 @@
 use Rattle.std.proofs.Common.{sym, ap, ◌∙◌}
 use Rattle.std.specs.Option.{option_copied}
 use Rattle.otel_context.specs.Baggage.{get_with_metadata}
-use Rattle.otel_context.proofs.BaggagePuts.{found_pair, not_found}
+use Rattle.otel_context.proofs.shared.BaggagePuts.{found_pair, not_found}
 use Rattle.otel_context.proofs.baggage.Baggage.get_with_metadata.Goals as goal
 
 pub returns-in_err-index : goal.returns-in_err-index

@@ -5,7 +5,7 @@ use Rattle.std.proofs.lemmas.Str.{is_utf8-from_IsUtf8}
 use Rattle.otel_context.specs.Baggage.{member_at, get_with_metadata, put, accepts, insert, replaced}
 use Rattle.otel_context.specs.BaggageMember.{member_of}
 use Rattle.otel_context.specs.BaggageView.{entry_members}
-use Rattle.otel_context.proofs.BaggagePuts.{get_is, member_missing, after_some, inserted, refused}
+use Rattle.otel_context.proofs.shared.BaggagePuts.{get_is, member_missing, after_some, inserted, refused}
 use Rattle.otel_context.proofs.baggage.Baggage.insert_with_metadata.Goals as goal
 
 pub returns-in_default : goal.returns-in_default

@@ -1,4 +1,4 @@
-use Rattle.otel_context.proofs.BaggagePuts.{none_held}
+use Rattle.otel_context.proofs.shared.BaggagePuts.{none_held}
 use Rattle.otel_context.proofs.baggage.Baggage.new.Goals as goal
 
 pub invariant_of-result : goal.invariant_of-result

@@ -1,6 +1,6 @@
 use Rattle.std.proofs.Common.{sym, ap, ◌∙◌, arith, length}
 use Rattle.otel_context.specs.Baggage.{remove, get_with_metadata}
-use Rattle.otel_context.proofs.BaggagePuts.{removed, not_found, not_removed, not_past}
+use Rattle.otel_context.proofs.shared.BaggagePuts.{removed, not_found, not_removed, not_past}
 use Rattle.otel_context.proofs.baggage.Baggage.remove.Goals as goal
 
 pub returns-in_err-index-clause-list : goal.returns-in_err-index-clause-list

@@ -1,7 +1,7 @@
 use Rattle.std.proofs.Common.{sym, ◌∙◌}
 use Rattle.otel_context.specs.BaggageMember.{member_of}
 use Rattle.otel_context.specs.BaggageView.{entry_members}
-use Rattle.otel_context.proofs.BaggagePuts.{after_is, after_none}
+use Rattle.otel_context.proofs.shared.BaggagePuts.{after_is, after_none}
 use Rattle.otel_context.proofs.baggage.weight.weight_after.Goals as goal
 
 pub returns-in_err-others : goal.returns-in_err-others

@@ -1,8 +1,8 @@
 use Rattle.std.proofs.Common.{◌-◌, Some, sym, ap, ◌∙◌, arith}
 use Rattle.std.specs.Option.{option_copied}
 use Rattle.otel_context.specs.BaggageView.{entry_member, entry_members}
-use Rattle.otel_context.proofs.BaggagePuts.{get_is, member_found, weight_held, others_held, others_taken}
-use Rattle.otel_context.proofs.BaggagePuts.{others_refused}
+use Rattle.otel_context.proofs.shared.BaggagePuts.{get_is, member_found, weight_held, others_held, others_taken}
+use Rattle.otel_context.proofs.shared.BaggagePuts.{others_refused}
 use Rattle.otel_context.proofs.baggage.weight.weight_of_others.Goals as goal
 
 pub weight_of-requires : goal.weight_of-requires

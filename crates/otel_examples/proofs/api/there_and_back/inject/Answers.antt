@@ -2,7 +2,7 @@ use Rattle.std.proofs.Common.{refl, sym, ap, ◌∙◌}
 use denote.Param.Object.{read_made}
 use borrow.Pointer.Hide.{carried_sameᵐ}
 use Rattle.opentelemetry.specs.Carrier.{CarrierState, map_state}
-use Rattle.opentelemetry.proofs.Setting.{injects_moved}
+use Rattle.opentelemetry.proofs.shared.Setting.{injects_moved}
 use Rattle.otel_examples.proofs.api.there_and_back.inject.OwnLists as own
 use Rattle.otel_examples.proofs.api.there_and_back.inject.Goals as goal
 

@@ -1,6 +1,6 @@
 use Rattle.std.proofs.Common.{lit<}
 use Rattle.otel_ids.specs.Text.{is_equals}
-use Rattle.otel_ids.proofs.Cuts.{list_any_none}
+use Rattle.otel_base.proofs.shared.Searches.{list_any_none}
 use Rattle.otel_propagators.proofs.baggage.reading.split_value.Goals as goal
 
 pub returns-in_err-key : goal.returns-in_err-key

@@ -1,7 +1,7 @@
 use Rattle.std.proofs.Common.{◌≡◌, false, List, length, map, sym, ap, subst, ◌∙◌, eqb}
 use Rattle.std.specs.Prelude.{OnOk, codes}
 use Rattle.std.proofs.lemmas.Bool.{cond-false}
-use Rattle.otel_ids.specs.Text.{cut_blanks}
+use Rattle.otel_base.specs.Blanks.{cut_blanks}
 use Rattle.otel_base.specs.KeyValue.{Attribute}
 use Rattle.otel_base.specs.Value.{text}
 use Rattle.otel_base.specs.View.{attribute_of}

@@ -1,6 +1,6 @@
 use Rattle.std.proofs.Common.{arith, refl, ap, ◌∙◌, length}
 use Rattle.std.proofs.lemmas.Result.{err_from_is_err_and}
-use Rattle.opentelemetry.proofs.Setting.{sets_nothing, more_all, injects_all, injects_until}
+use Rattle.opentelemetry.proofs.shared.Setting.{sets_nothing, more_all, injects_all, injects_until}
 use Rattle.opentelemetry.proofs.propagation.composite.TextMapCompositePropagator.inject_context.Goals as goal
 
 pub loop-member-init : goal.loop-member-init

@@ -1,5 +1,5 @@
 use Rattle.std.proofs.Common.{sym, ◌∙◌}
-use Rattle.otel_context.proofs.SpansLemmas.{get-view}
+use Rattle.otel_context.proofs.shared.SpansLemmas.{get-view}
 use Rattle.otel_context.proofs.span.spans.Spans.get.Goals as goal
 
 pub returns : goal.returns

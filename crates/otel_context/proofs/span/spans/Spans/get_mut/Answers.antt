@@ -2,7 +2,7 @@ use Rattle.std.proofs.Common.{refl, sym, ap, ◌∙◌}
 use Rattle.std.specs.Prelude.{◌==◌}
 use Rattle.std.specs.HashMap as hash
 use Rattle.otel_context.specs.View.{map_of}
-use Rattle.otel_context.proofs.SpansLemmas.{get-view, view-updates, IsSome-same_keys, OnSome-found}
+use Rattle.otel_context.proofs.shared.SpansLemmas.{get-view, view-updates, IsSome-same_keys, OnSome-found}
 use Rattle.otel_context.proofs.span.spans.Spans.get_mut.Goals as goal
 
 pub invariant_of-self-lent : goal.invariant_of-self-lent

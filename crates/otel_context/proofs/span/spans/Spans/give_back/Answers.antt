@@ -1,5 +1,5 @@
 use Rattle.std.proofs.Common.{ap}
-use Rattle.otel_context.proofs.SpansLemmas.{view-reordered}
+use Rattle.otel_context.proofs.shared.SpansLemmas.{view-reordered}
 use Rattle.otel_context.proofs.span.spans.Spans.give_back.Goals as goal
 
 pub returns-then-capacity-len : goal.returns-then-capacity-len

@@ -1,5 +1,5 @@
 use Rattle.std.proofs.Common.{◌+◌, ap, ◌∙◌, arith}
-use Rattle.otel_context.proofs.SpansLemmas.{get-view, numbered-view, view-updates, None-absent}
+use Rattle.otel_context.proofs.shared.SpansLemmas.{get-view, numbered-view, view-updates, None-absent}
 use Rattle.otel_context.proofs.span.spans.Spans.insert.Goals as goal
 
 pub returns-in-Ok-clause-fresh : goal.returns-in-Ok-clause-fresh

@@ -1,5 +1,5 @@
 use Rattle.std.proofs.Common.{sym, ◌∙◌}
-use Rattle.otel_context.proofs.SpansLemmas.{len-view}
+use Rattle.otel_context.proofs.shared.SpansLemmas.{len-view}
 use Rattle.otel_context.proofs.span.spans.Spans.len.Goals as goal
 
 pub returns : goal.returns

@@ -1,5 +1,5 @@
 use Rattle.std.proofs.Common.{◌∙◌, arith}
-use Rattle.otel_context.proofs.SpansLemmas.{get-view, numbered-view, None-absent}
+use Rattle.otel_context.proofs.shared.SpansLemmas.{get-view, numbered-view, None-absent}
 use Rattle.otel_context.proofs.span.spans.Spans.next_number.Goals as goal
 
 pub returns-clause-fresh : goal.returns-clause-fresh

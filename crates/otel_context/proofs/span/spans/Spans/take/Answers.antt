@@ -1,5 +1,5 @@
 use Rattle.std.proofs.Common.{sym, ap, ◌∙◌}
-use Rattle.otel_context.proofs.SpansLemmas.{get-view, view-removes}
+use Rattle.otel_context.proofs.shared.SpansLemmas.{get-view, view-removes}
 use Rattle.otel_context.proofs.span.spans.Spans.take.Goals as goal
 
 pub returns-clause-value : goal.returns-clause-value

@@ -1,6 +1,6 @@
 use Rattle.std.proofs.Common.{rules, ◌≡◌, ◌∙◌, sym}
 use Rattle.std.specs.Str.{str_to_ascii_lowercase}
-use Rattle.opentelemetry.proofs.Maps.{at_found}
+use Rattle.opentelemetry.proofs.shared.Maps.{at_found}
 use Rattle.otel_examples.proofs.HeaderLemmas.{found, not_found}
 use Rattle.otel_examples.proofs.api.headers.HeadersExtractor.get.Goals as goal
 

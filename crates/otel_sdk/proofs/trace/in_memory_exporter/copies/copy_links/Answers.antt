@@ -1,4 +1,4 @@
-use Rattle.opentelemetry.proofs.Lists.{same_views}
+use Rattle.otel_base.proofs.shared.MappedLists.{same_views}
 use Rattle.opentelemetry.specs.View.{link_of}
 use Rattle.otel_sdk.proofs.trace.in_memory_exporter.copies.copy_links.Goals as goal
 

@@ -1,0 +1,4 @@
+-- Lemmas that crates above use too.
+pub mod Maps
+pub mod Rising
+pub mod Setting

@@ -1,0 +1,9 @@
+-- Lemmas that crates above use too.
+pub mod BlankCuts
+pub mod Bytes
+pub mod Joined
+pub mod MappedLists
+pub mod Options
+pub mod Searches
+pub mod Steps
+pub mod Views

@@ -1,0 +1,4 @@
+-- Lemmas that crates above use too.
+pub mod Header
+pub mod Numerals
+pub mod Readings
