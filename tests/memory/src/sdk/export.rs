@@ -232,8 +232,7 @@ fn child(alloc: Global, id: u64, parent: u64) -> Result<SpanData, AllocError> {
     let mut child = span(alloc)?;
     let (trace_id, span_id) = (TraceId::from(1), SpanId::from(id));
     let state = TraceState::NONE;
-    child.span_context =
-        SpanContext::new(trace_id, span_id, TraceFlags::SAMPLED, false, state);
+    child.span_context = SpanContext::new(trace_id, span_id, TraceFlags::SAMPLED, false, state);
     child.parent_span_id = SpanId::from(parent);
     let event = Event::new(StringValue::from("e"), 1, Vec::new(alloc), 0);
     child.events.events.push(event)?;
