@@ -25,7 +25,7 @@ const BAGGAGE_HEADER: &str = "baggage";
 /// Keys are tokens and values are escaped, but metadata is written as it is and may hold CR, LF and
 /// NUL: a carrier of text lines must refuse such a value.
 ///
-/// `otel_examples::service` takes it, like any propagator.
+/// `otel_examples::api::service` takes it, like any propagator.
 #[derive(Drop)]
 pub struct BaggagePropagator {
     alloc: Global,

@@ -28,7 +28,7 @@ const TRACESTATE: &str = "tracestate";
 /// A value of a `tracestate` may hold any byte but `,` and `=`, so CR, LF and NUL too: a carrier of
 /// text lines must refuse such a value.
 ///
-/// `otel_examples::service` takes it, like any propagator.
+/// `otel_examples::api::service` takes it, like any propagator.
 #[derive(Drop)]
 pub struct TraceContextPropagator {
     alloc: Global,

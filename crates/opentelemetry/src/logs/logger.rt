@@ -11,7 +11,7 @@ use std::alloc::{AllocError, Global};
 /// it may answer if asked whether an event is enabled (`may_enable`). They are relations and not
 /// functions, so that it may read a clock and its configuration may change.
 ///
-/// See `otel_examples::log_bridge`.
+/// See `otel_examples::api::log_bridge`.
 pub trait Logger {
     ghost use Rattle.std.specs.Prelude.{ℕ, List, Option, Bool};
     ghost use Rattle.otel_base.specs.declared.severity.Severity.{Severity};

@@ -14,7 +14,7 @@ use std::alloc::{AllocError, Global};
 /// code that had called the body couldn't discard its result, since [`SpanBody::Out`] has no `Drop`
 /// bound, and so wouldn't compile.
 ///
-/// See `otel_examples::in_span`.
+/// See `otel_examples::api::in_span`.
 #[derive(Drop)]
 pub enum StartError<S> {
     /// Out of memory before there was a span. The table is unchanged.
@@ -31,7 +31,7 @@ pub enum StartError<S> {
 /// the stack, the table and the context that it is given. If it can't always be called, `can_call`
 /// says when it can.
 ///
-/// See `otel_examples::in_span` for two implementations.
+/// See `otel_examples::api::in_span` for two implementations.
 pub trait SpanBody<S>: Drop {
     ghost use Rattle.opentelemetry.specs.InSpan.{MayLeave};
 

@@ -19,8 +19,8 @@ use std::alloc::{AllocError, Global};
 /// builder under a parent context. It is a relation and not a function, so that ids may be random.
 /// The other methods are built on `build_with_context`.
 ///
-/// See `otel_examples::in_span` and `otel_examples::service`. `RecordingTracer` of the crate
-/// `otel_recording` is a tracer.
+/// See `otel_examples::api::in_span` and `otel_examples::api::service`. `RecordingTracer` of
+/// `otel_examples::recording` is a tracer.
 pub trait Tracer {
     ghost use Rattle.otel_context.specs.Context.{ContextRecord};
     ghost use Rattle.opentelemetry.specs.SpanBuilder.{BuilderRecord};

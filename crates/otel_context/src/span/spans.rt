@@ -21,7 +21,7 @@ pub enum SpanCause {
 
 /// A span that was refused, and why. Not in the Rust crate.
 ///
-/// See `otel_examples::service`, where the span goes back to the caller.
+/// See `otel_examples::api::service`, where the span goes back to the caller.
 #[derive(Drop)]
 pub struct SpanRefused<S> {
     /// The span that was passed in.
@@ -64,7 +64,7 @@ impl<S> SpanRefused<S> {
 /// let mut spans = Spans::new(alloc);
 /// ```
 ///
-/// See `otel_examples::service`.
+/// See `otel_examples::api::service`.
 #[derive(Drop)]
 pub struct Spans<S> {
     table: HashMap<u64, S>,
