@@ -27,7 +27,7 @@ pub use text_map_propagator::TextMapPropagator;
 /// key or a value that contains CR, LF or NUL (RFC 9110, section 5.5). Otherwise the sender of a
 /// value could add headers.
 ///
-/// See `otel_examples::headers` for an implementation.
+/// See `otel_examples::api::headers` for an implementation.
 pub trait Injector {
     ghost state: { Self → CarrierState };
 
@@ -74,7 +74,7 @@ impl<S: BuildHasher> Injector for HashMap<String, String, S> {
 ///
 /// Contracts see it as its `texts`, a finite map.
 ///
-/// See `otel_examples::headers` for an implementation.
+/// See `otel_examples::api::headers` for an implementation.
 pub trait Extractor {
     ghost texts: { Self → TextMap };
 

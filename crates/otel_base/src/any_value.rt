@@ -19,7 +19,7 @@ use std::default::Emptied;
 /// equal; maps are equal if they have equal trees under the same keys.
 ///
 /// `AnyValue::from("text")` and `AnyValue::from(1)` are trees; a list and a map take memory.
-/// See `otel_examples::log_bridge`, where one is the body of a record.
+/// See `otel_examples::api::log_bridge`, where one is the body of a record.
 #[derive(Debug, Drop)]
 pub enum AnyValue {
     /// An integer.

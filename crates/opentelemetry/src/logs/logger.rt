@@ -11,7 +11,7 @@ use std::alloc::{AllocError, Global};
 /// answers that `event_enabled` may return (`may_enable`). These are relations rather than
 /// functions, so that a logger may read a clock and its configuration may change.
 ///
-/// See `otel_examples::log_bridge`.
+/// See `otel_examples::api::log_bridge`.
 pub trait Logger {
     ghost use Rattle.std.specs.Prelude.{ℕ, List, Option, Bool};
     ghost use Rattle.otel_base.specs.declared.severity.Severity.{Severity};

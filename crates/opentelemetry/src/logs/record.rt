@@ -19,7 +19,7 @@ use std::alloc::{AllocError, Global};
 /// Times are nanoseconds since 1970-01-01T00:00:00Z. In the Rust crate, times are of type
 /// `SystemTime`, and attributes are passed as an iterator.
 ///
-/// See `otel_examples::log_bridge`.
+/// See `otel_examples::api::log_bridge`.
 pub trait LogRecord: Drop {
     ghost use Rattle.std.specs.Prelude.{ℕ, List, Option};
     ghost use Rattle.otel_base.specs.AnyValue.{Tree};

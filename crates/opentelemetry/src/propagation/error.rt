@@ -7,7 +7,7 @@ use thiserror::Error;
 
 /// The error of a carrier or a propagator. Not in the Rust crate, whose calls return no error.
 ///
-/// See `otel_examples::service`.
+/// See `otel_examples::api::service`.
 #[derive(Clone, Copy, Debug, PartialEq, Eq, Drop, Error)]
 pub enum PropagationError {
     /// Out of memory.

@@ -15,7 +15,7 @@ use std::alloc::{AllocError, Global};
 /// run, but its type does: [`SpanBody::Out`] has no `Drop` bound, so code that had run the body
 /// couldn't discard its result and wouldn't compile.
 ///
-/// See `otel_examples::in_span`.
+/// See `otel_examples::api::in_span`.
 #[derive(Drop)]
 pub enum StartError<S> {
     /// Out of memory before the span was built. The table is unchanged.
@@ -32,7 +32,7 @@ pub enum StartError<S> {
 /// that a body is given, its result, and the stack and the table that it leaves. If a body can't
 /// always be called, `can_call` says when it can.
 ///
-/// See `otel_examples::in_span` for two implementations.
+/// See `otel_examples::api::in_span` for two implementations.
 pub trait SpanBody<S>: Drop {
     ghost use Rattle.opentelemetry.specs.InSpan.{MayLeave};
 
