@@ -38,7 +38,7 @@ use std::fmt::Display;
 /// ghost name_keeps = { λ span name. refl };
 /// ```
 ///
-/// For a complete span type, see `RecordingSpan` in the crate `otel_examples`.
+/// For a complete span type, see `RecordingSpan` of `otel_examples::recording`.
 ///
 /// Timestamps are nanoseconds since 1970-01-01T00:00:00Z. The Rust crate reads the clock in
 /// `add_event`, `record_error` and `end`; here the caller passes the time.

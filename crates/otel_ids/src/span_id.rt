@@ -17,7 +17,7 @@ use std::num::ParseIntError;
 /// Contracts see the number below 2 ^ 64. It is printed as 16 lower-case hexadecimal digits, by
 /// `{:x}` as a number. See W3C trace-context-2, "parent-id".
 ///
-/// See `otel_examples::log_bridge`.
+/// See `otel_examples::api::log_bridge`.
 #[derive(Clone, Copy, Eq, Hash)]
 pub struct SpanId(u64);
 

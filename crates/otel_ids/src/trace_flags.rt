@@ -16,7 +16,7 @@ use std::ops::{BitAnd, BitOr, Not};
 ///
 /// Contracts see the byte as a number. `{:x}` prints it. See W3C trace-context-2, "trace-flags".
 ///
-/// See `otel_examples::log_bridge`.
+/// See `otel_examples::api::log_bridge`.
 #[derive(Clone, Copy, Debug, Eq, Hash)]
 pub struct TraceFlags(u8);
 

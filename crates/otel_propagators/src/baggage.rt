@@ -25,7 +25,7 @@ const BAGGAGE_HEADER: &str = "baggage";
 /// Keys are tokens and values are escaped, but metadata is written as it is and may contain CR, LF
 /// and NUL. A carrier of text lines must refuse such a text.
 ///
-/// See `otel_examples::service`, which uses a propagator of any type.
+/// See `otel_examples::api::service`, which uses a propagator of any type.
 #[derive(Drop)]
 pub struct BaggagePropagator {
     alloc: Global,

@@ -28,7 +28,7 @@ const TRACESTATE: &str = "tracestate";
 /// A value of a `tracestate` may contain any byte except `,` and `=`, even CR, LF and NUL. A
 /// carrier of text lines must refuse such a value.
 ///
-/// See `otel_examples::service`, which uses a propagator of any type.
+/// See `otel_examples::api::service`, which uses a propagator of any type.
 #[derive(Drop)]
 pub struct TraceContextPropagator {
     alloc: Global,

@@ -47,7 +47,7 @@ pub trait Logger {
 /// `may_give`: the loggers that may be returned for a scope.
 ///
 /// For a provider, see `SdkLoggerProvider` in the crate `otel_sdk_logs`.
-/// See `otel_examples::log_bridge`.
+/// See `otel_examples::api::log_bridge`.
 pub trait LoggerProvider {
     ghost use Rattle.otel_base.specs.InstrumentationScope.{Scope};
     ghost use Rattle.opentelemetry.specs.Scope.{scope_of_name};

@@ -15,7 +15,8 @@ use std::marker::Model;
 /// to return for a context and a map of texts (`extracted`), the names of the fields
 /// (`field_names`), and whether the propagator itself may refuse (`may_refuse`).
 ///
-/// See `otel_examples::request_id` for an implementation and `otel_examples::service` for a caller.
+/// See `otel_examples::api::request_id` for an implementation and `otel_examples::api::service` for
+/// a caller.
 pub trait TextMapPropagator: Drop {
     ghost use Rattle.std.specs.Prelude.{Bool, ℕ, List};
     ghost use Rattle.otel_context.specs.Context.{ContextRecord};
@@ -99,7 +100,7 @@ pub trait TextMapPropagator: Drop {
 
 /// The names of a propagator's fields, in order (the Rust crate's `FieldIter`).
 ///
-/// See `otel_examples::request_id`.
+/// See `otel_examples::api::request_id`.
 #[derive(Drop)]
 pub struct FieldIter<'a> {
     rest: &'a [String],

@@ -19,8 +19,8 @@ use std::alloc::{AllocError, Global};
 /// and a parent context. It is a relation rather than a function, so that ids may be random. The
 /// other methods call `build_with_context`.
 ///
-/// See `otel_examples::in_span` and `otel_examples::service`. For a tracer, see `RecordingTracer`
-/// in the crate `otel_examples`.
+/// See `otel_examples::api::in_span` and `otel_examples::api::service`. For a tracer, see
+/// `RecordingTracer` of `otel_examples::recording`.
 pub trait Tracer {
     ghost use Rattle.otel_context.specs.Context.{ContextRecord};
     ghost use Rattle.opentelemetry.specs.SpanBuilder.{BuilderRecord};

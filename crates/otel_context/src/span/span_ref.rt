@@ -16,7 +16,7 @@ use std::snapshot::Snapshot;
 /// a remote span, or the span was removed from the table, a call does nothing, returns `Ok`, and
 /// doesn't allocate.
 ///
-/// See `otel_examples::in_span`, which sets an attribute on the span of a context.
+/// See `otel_examples::api::in_span`, which sets an attribute on the span of a context.
 pub struct SpanRef<'a, S> {
     pub(crate) context: &'a SpanContext,
     pub(crate) number: Option<u64>,

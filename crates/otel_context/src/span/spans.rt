@@ -21,7 +21,7 @@ pub enum SpanCause {
 
 /// A refused span, and the reason. Not in the Rust crate.
 ///
-/// See `otel_examples::service`, which returns the span to the caller.
+/// See `otel_examples::api::service`, which returns the span to the caller.
 #[derive(Drop)]
 pub struct SpanRefused<S> {
     /// The span that was passed in.
@@ -60,7 +60,7 @@ impl<S> SpanRefused<S> {
 /// Each inserted span gets the next number. No number is used twice, even after its span was taken.
 /// Contracts see a finite map from numbers to spans, and the next number.
 ///
-/// See `otel_examples::service`.
+/// See `otel_examples::api::service`.
 #[derive(Drop)]
 pub struct Spans<S> {
     table: HashMap<u64, S>,
