@@ -1,0 +1,6 @@
+use Rattle.opentelemetry.proofs.Lists.{same_views}
+use Rattle.opentelemetry.specs.View.{link_of}
+use Rattle.otel_sdk_span.proofs.copies.copy_links.Goals as goal
+
+pub returns : goal.returns
+returns c = same_views link_of _ _ c.in_ok-clone.ensures.cases.0
