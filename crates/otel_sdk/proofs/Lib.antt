@@ -1,6 +1,5 @@
 mod Agreement
 mod ApplyLemmas
-mod BatchLemmas
 pub mod EndLemmas
 mod KinLemmas
 mod KinRuns

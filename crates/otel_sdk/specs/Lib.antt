@@ -1,5 +1,4 @@
 pub mod Ended
-pub mod Export
 pub mod LiveState
 pub mod Parents
 pub mod Processor

@@ -9,14 +9,14 @@ mod event;
 use crate::trace::live::LiveSpans;
 use crate::trace::processor::SpanProcessor;
 use crate::trace::processor::batch::BatchSpanProcessor;
-use crate::trace::processor::config::BatchConfig;
 use crate::trace::tracer::{Pipeline, SdkTracer};
 pub use event::{EventOutcome, SpanEvent};
 use opentelemetry::Context;
 use opentelemetry::context::ContextStack;
 use opentelemetry::trace::{SpanBuilder, SpanCause, Tracer};
-use otel_sdk_span::SpanExporter;
+use otel_sdk_base::BatchConfig;
 use otel_sdk_base::error::OTelSdkError;
+use otel_sdk_span::SpanExporter;
 use std::alloc::{AllocError, Global};
 
 /// The greatest position of an attachment.

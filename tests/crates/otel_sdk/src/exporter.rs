@@ -2,7 +2,7 @@
 use crate::processor::span;
 use opentelemetry::trace::SpanId;
 use otel_sdk::error::OTelSdkError;
-use otel_sdk::trace::{InMemorySpanExporter, SpanExporter};
+use otel_sdk::trace::{Exporter, FinishedSpans, InMemorySpanExporter};
 use std::test::Fail;
 
 #[test]

@@ -5,8 +5,8 @@ use opentelemetry::trace::{
 use opentelemetry::{InstrumentationScope, StringValue};
 use otel_sdk::error::{OTelSdkError, OTelSdkResult};
 use otel_sdk::trace::{
-    BatchConfigBuilder, BatchSpanProcessor, InMemorySpanExporter, SimpleSpanProcessor, SpanData,
-    SpanEvents, SpanExporter, SpanLinks, SpanProcessor,
+    BatchConfigBuilder, BatchSpanProcessor, Exporter, InMemorySpanExporter, SimpleSpanProcessor,
+    SpanData, SpanEvents, SpanLinks, SpanProcessor,
 };
 use std::alloc::{AllocError, Global};
 use std::rc::Rc;
@@ -65,7 +65,7 @@ impl Planned {
     }
 }
 
-impl SpanExporter for Planned {
+impl Exporter<SpanData> for Planned {
     ghost accepted = { λ e. e.kept.accepted };
 
     ghost shuts_down = { λ _ _. Unit {0} };
