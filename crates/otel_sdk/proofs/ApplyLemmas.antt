@@ -10,8 +10,9 @@ use Rattle.otel_context.specs.Stack as stack
 use Rattle.otel_context.specs.Stack.{Live}
 use Rattle.otel_sdk.specs.Ended.{AreCollected, of}
 use Rattle.otel_sdk.specs.LiveState.{LiveState, no_spans, with_started, with_changed, with_ended}
-use Rattle.otel_sdk.specs.Processor.{FailedIfOpen, FlushedIfClosed, IsClosed, IsFlushed, IsRefusedIfClosed, cause}
-use Rattle.otel_sdk.specs.Processor.{new as new_processor, Limits, ProcessorState}
+use Rattle.otel_sdk_base.specs.Queue.{FailedIfOpen, FlushedIfClosed, IsClosed, IsFlushed, IsRefusedIfClosed, cause}
+use Rattle.otel_sdk.specs.Processor.{ProcessorState}
+use Rattle.otel_sdk_base.specs.Queue.{new as new_processor, Limits}
 use Rattle.opentelemetry.specs.declared.trace.span_builder.SpanBuilder.{SpanBuilder}
 use Rattle.opentelemetry.specs.View.{builder_of}
 use Rattle.otel_sdk_base.specs.declared.error.OTelSdkError.TheVariants.{AlreadyShutdown, Memory}

@@ -15,9 +15,10 @@ use Rattle.otel_context.specs.Spans as table
 use Rattle.otel_context.specs.Spans.{SpansState}
 use Rattle.otel_sdk.specs.Ended.{Collecting, Fate, NothingLost, after_end_of, after_end_if, dropped, ended_data, exported}
 use Rattle.otel_sdk.specs.Ended.{AreHandedOn, AreListed, EachIsHandedOn, OnlyFlushes, is_ended, kept, waiting}
-use Rattle.otel_sdk.specs.Export.{spans_of}
-use Rattle.otel_sdk.specs.Processor.{ProcessorState, Taken, counted, is_sampled, one_more, queued, taken_of}
-use Rattle.otel_sdk.proofs.BatchLemmas.{keeps}
+use Rattle.otel_sdk_base.specs.Export.{items_of}
+use Rattle.otel_sdk.specs.Processor.{ProcessorState, is_sampled}
+use Rattle.otel_sdk_base.specs.Queue.{Received, counted, one_more, queued, received_of}
+use Rattle.otel_sdk_base.proofs.BatchLemmas.{keeps}
 use Rattle.otel_sdk_span.specs.Span.{SpanState}
 use Rattle.otel_sdk_span.specs.SpanData.{SpanRecord}
 
@@ -78,8 +79,8 @@ module _ {E : Type 0} (accepted : E → List (List SpanRecord)) (earlier ends : 
   -- what is known while the data waits
   pub record Before (rest : List SpanRecord) (p : ProcessorState E) (fates : List Fate) : Type 0 where
     pub ended : ends ≡ map (λ f. f.span) fates ++ rest
-    pub taken : spans_of (accepted p.exporter) ++ p.queue ≡ earlier ++ filter_map kept fates
-    pub counted : p.dropped_spans ≡ min (length (filter_map dropped fates)) (2 ^ 64 - 1)
+    pub received : items_of (accepted p.exporter) ++ p.queue ≡ earlier ++ filter_map kept fates
+    pub counted : p.dropped ≡ min (length (filter_map dropped fates)) (2 ^ 64 - 1)
 
   with_fate : (d : SpanRecord) (b : Bool) (rest : List SpanRecord) (fates : List Fate)
       → ends ≡ map (λ f. f.span) fates ++ d ∷ rest
@@ -99,8 +100,8 @@ module _ {E : Type 0} (accepted : E → List (List SpanRecord)) (earlier ends : 
         fates ++ last ∷ [],
         record {
           ended = with_fate d false rest fates h.ended;
-          taken = sym (append_assoc (spans_of (accepted p.exporter)) p.queue (d ∷ []))
-              ∙ ap (λ (xs : List SpanRecord). xs ++ d ∷ []) h.taken
+          received = sym (append_assoc (items_of (accepted p.exporter)) p.queue (d ∷ []))
+              ∙ ap (λ (xs : List SpanRecord). xs ++ d ∷ []) h.received
               ∙ append_assoc earlier (filter_map kept fates) (d ∷ [])
               ∙ ap (λ (xs : List SpanRecord). earlier ++ xs) (sym (filter_map-append kept fates (last ∷ [])));
           counted = h.counted
@@ -113,7 +114,7 @@ module _ {E : Type 0} (accepted : E → List (List SpanRecord)) (earlier ends : 
         fates ++ last ∷ [],
         record {
           ended = with_fate d true rest fates h.ended;
-          taken = h.taken
+          received = h.received
               ∙ ap (λ (xs : List SpanRecord). earlier ++ xs)
               (sym (filter_map-append kept fates (last ∷ []) ∙ append-nil (filter_map kept fates)));
           counted = ap one_more h.counted
@@ -137,12 +138,12 @@ module _ {E : Type 0} (accepted : E → List (List SpanRecord)) (earlier ends : 
   step c n ns distinct h =
       let o : Option SpanState = table.get c.spans n in
       let got = any (ended_data o) (waiting c.spans ns) c.processor h.fates
-      (record { ended = h.ended; taken = h.taken; counted = h.counted }) in
+      (record { ended = h.ended; received = h.received; counted = h.counted }) in
       record {
         fates = got.0;
         ended = got.1.ended ∙ ap (λ (xs : List SpanRecord). map (λ (f : Fate). f.span) got.0 ++ xs)
             (sym (left_waiting c.spans n (is_ended o) ns distinct));
-        taken = got.1.taken;
+        received = got.1.received;
         counted = got.1.counted;
       }
 
@@ -189,13 +190,13 @@ module _ {E : Type 0} (accepted : E → List (List SpanRecord)) where
   pub flush-loses_nothing : (earlier ends : List SpanRecord) (c d : Collecting E) (ns : List ℕ) → OnlyFlushes accepted c d
       → NothingLost accepted earlier ends c ns → NothingLost accepted earlier ends d ns
   flush-loses_nothing earlier ends c d ns f h =
-      let taken : taken_of accepted d.processor ≡ taken_of accepted c.processor =
+      let received : received_of accepted d.processor ≡ received_of accepted c.processor =
       keeps accepted c.processor d.processor f.flushed in
       record {
         fates = h.fates;
         ended = h.ended ∙ ap (λ (x : SpansState SpanState). map (λ (f : Fate). f.span) h.fates ++ waiting x ns) (sym f.spans);
-        taken = ap (λ (t : Taken). t.spans) taken ∙ h.taken;
-        counted = ap (λ (t : Taken). t.dropped) taken ∙ h.counted;
+        received = ap (λ (t : Received SpanRecord). t.items) received ∙ h.received;
+        counted = ap (λ (t : Received SpanRecord). t.dropped) received ∙ h.counted;
       }
 
   flush-listed : (c d : Collecting E) (ns : List ℕ) → OnlyFlushes accepted c d → AreListed c.spans ns → AreListed d.spans ns

@@ -6,10 +6,11 @@ use Rattle.otel_context.specs.Stack as stack
 use Rattle.otel_context.specs.Stack.{Live}
 use Rattle.opentelemetry.specs.SpanBuilder.{BuilderRecord}
 use Rattle.opentelemetry.specs.View.{builder_of}
-use Rattle.otel_sdk.specs.Export.{spans_of}
+use Rattle.otel_sdk_base.specs.Export.{items_of}
 use Rattle.otel_sdk.specs.LiveState.{LiveState, with_changed, with_ended, with_started}
 use Rattle.otel_sdk.specs.Parents.{ComesFrom, IsActiveIn, StartChildren, given, given_by}
-use Rattle.otel_sdk.specs.Processor.{Limits, ProcessorState}
+use Rattle.otel_sdk.specs.Processor.{ProcessorState}
+use Rattle.otel_sdk_base.specs.Queue.{Limits}
 use Rattle.otel_sdk.specs.Run.{Fails, FailsToClose, Follows, HasRun, Plays, RunState, RunsOut, StaysUnattached, Takes}
 use Rattle.otel_sdk.specs.Run.{active_context, at_start, state_of}
 use Rattle.otel_sdk.specs.SpanChange.{change_of}
@@ -155,7 +156,7 @@ module _ {E : Type 0} (accepted : E → List (List SpanRecord)) (shuts_down : E 
       → HasRun accepted shuts_down may_start exporter config es os live after p
   has_run exporter config es os history parents live after p plays =
       let begun = start_stands accepted shuts_down may_start exporter config in
-      let stands = plays-stands accepted shuts_down (spans_of (accepted exporter)) may_start es os (at_start exporter config)
+      let stands = plays-stands accepted shuts_down (items_of (accepted exporter)) may_start es os (at_start exporter config)
       (state_of history parents live after p) plays begun in
       record {
         history = history;
@@ -164,6 +165,6 @@ module _ {E : Type 0} (accepted : E → List (List SpanRecord)) (shuts_down : E 
         before = stands.before;
         was_open = stands.was_open;
         nothing_lost = stands.lost;
-        have_parents = λ under. (plays-kin accepted shuts_down may_start under (given es) (spans_of (accepted exporter)) es os
+        have_parents = λ under. (plays-kin accepted shuts_down may_start under (given es) (items_of (accepted exporter)) es os
             (at_start exporter config) (state_of history parents live after p) plays (λ part i. i) begun (no-kin (given es))).parents_are;
       }

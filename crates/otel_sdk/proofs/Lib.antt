@@ -1,6 +1,5 @@
 mod Agreement
 mod ApplyLemmas
-mod BatchLemmas
 mod DrawLemmas
 pub mod EndLemmas
 mod KinLemmas

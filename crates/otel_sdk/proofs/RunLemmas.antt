@@ -11,10 +11,12 @@ use Rattle.opentelemetry.specs.SpanBuilder.{BuilderRecord}
 use Rattle.otel_context.specs.Stack as stack
 use Rattle.otel_context.specs.Stack.{Live}
 use Rattle.otel_sdk.specs.Ended.{Collecting, Fate, NothingLost, after_end_if, after_end_of, ended_data, exported, is_ended, of, waiting}
-use Rattle.otel_sdk.specs.Export.{spans_of}
+use Rattle.otel_sdk_base.specs.Export.{items_of}
 use Rattle.otel_sdk.specs.LiveState.{LiveState, with_started, with_changed, with_ended}
-use Rattle.otel_sdk.specs.Processor.{IsFlushed, counted, is_sampled}
-use Rattle.otel_sdk.specs.Processor.{new as new_processor, queued, Limits, ProcessorState}
+use Rattle.otel_sdk.specs.Processor.{is_sampled}
+use Rattle.otel_sdk_base.specs.Queue.{IsFlushed, counted}
+use Rattle.otel_sdk.specs.Processor.{ProcessorState}
+use Rattle.otel_sdk_base.specs.Queue.{new as new_processor, queued, Limits}
 use Rattle.otel_sdk.specs.Run.{RunState, IsCollected, IsExported, IsShutDown, Plays, Follows}
 use Rattle.otel_sdk.specs.Run.{Takes, Fails, FailsToClose, RunsOut, StaysUnattached, WasOpen, active_context, at_start, with_both, with_child, with_stack}
 use Rattle.otel_sdk_span.specs.Span.{SpanState, after_end}
@@ -98,7 +100,7 @@ module _ {E : Type 0} (accepted : E → List (List SpanRecord)) (shuts_down : E 
             ∙ append_assoc fate_spans (waiting l.spans l.ended) (waiting k.spans more)
             ∙ ap (λ (xs : List SpanRecord). fate_spans ++ (waiting l.spans l.ended ++ xs)) same
             ∙ ap (λ (xs : List SpanRecord). fate_spans ++ xs) (sym part);
-        taken = lost.taken;
+        received = lost.received;
         counted = lost.counted;
       }
 
@@ -325,10 +327,10 @@ module _ {E : Type 0} (accepted : E → List (List SpanRecord)) (shuts_down : E 
 module _ {E : Type 0} (accepted : E → List (List SpanRecord)) (shuts_down : E → E → Type 0)
     (may_start : BuilderRecord → ContextRecord → SpanState → Type 0) where
   pub start_stands : (exporter : E) (config : Limits)
-      → Stands accepted shuts_down (spans_of (accepted exporter)) (at_start exporter config)
+      → Stands accepted shuts_down (items_of (accepted exporter)) (at_start exporter config)
   start_stands exporter config = record {
     agree = none-agree;
     before = new_processor exporter config;
     was_open = (refl, inl refl);
-    lost = record { fates = []; ended = refl; taken = refl; counted = refl };
+    lost = record { fates = []; ended = refl; received = refl; counted = refl };
   }

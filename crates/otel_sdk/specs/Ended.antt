@@ -5,7 +5,8 @@ use Rattle.std.specs.Prelude.{map, fold, Option, Some, None, if◌then◌else◌
 use Rattle.std.specs.List.{filter_map, AllByRecursion, IsDistinct}
 use Rattle.otel_context.specs.Spans as table
 use Rattle.otel_context.specs.Spans.{SpansState}
-use Rattle.otel_sdk.specs.Processor.{IsFlushed, ProcessorState, after_end, is_sampled, taken_of}
+use Rattle.otel_sdk.specs.Processor.{ProcessorState, after_end, is_sampled}
+use Rattle.otel_sdk_base.specs.Queue.{IsFlushed, received_of}
 use Rattle.otel_sdk_span.specs.Span.{SpanState}
 use Rattle.otel_sdk_span.specs.SpanData.{SpanRecord}
 
@@ -97,8 +98,8 @@ module _ {E : Type 0} where
     -- what became of those that were collected
     pub fates : List Fate
     pub ended : ends ≡ map (λ f. f.span) fates ++ waiting c.spans numbers
-    pub taken : (taken_of accepted c.processor).spans ≡ earlier ++ filter_map kept fates
-    pub counted : c.processor.dropped_spans ≡ min (length (filter_map dropped fates)) (2 ^ 64 - 1)
+    pub received : (received_of accepted c.processor).items ≡ earlier ++ filter_map kept fates
+    pub counted : c.processor.dropped ≡ min (length (filter_map dropped fates)) (2 ^ 64 - 1)
 
   -- if nothing was lost before, nothing is lost after
   abbrev pub LosesNothing : (E → List (List SpanRecord)) → (numbers left : List ℕ)

@@ -1,5 +1,4 @@
 pub mod Ended
-pub mod Export
 pub mod IdGenerator
 pub mod LiveState
 pub mod ParentBased

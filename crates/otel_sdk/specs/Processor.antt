@@ -1,152 +1,22 @@
--- What processors of ended spans keep, and what their calls do.
-use Rattle.std.specs.Prelude.{◌≡◌, ◌⊎◌, ℕ, ◌+◌, ◌-◌, ◌^◌, Bool, true, false, List, [], ◌∷◌, ◌++◌}
-use Rattle.std.specs.Prelude.{length, Result, IsErr, IsErrOf, IsTrue, not, MatchBool, nat_lt, min, max}
-use Rattle.std.specs.Prelude.{if◌then◌else◌, alloc_error, refl}
+-- What the end of a span does to a processor.
+use Rattle.std.specs.Prelude.{◌≡◌, Bool, MatchBool, if◌then◌else◌}
 use Rattle.otel_ids.specs.TraceFlags as flags
+use Rattle.otel_sdk_base.specs.Queue.{IsKeptOrDropped, QueueState, Received, after_add}
 use Rattle.otel_sdk_span.specs.SpanData.{SpanRecord}
-use Rattle.otel_sdk.specs.Export.{AreExported, spans_of}
-use Rattle.otel_sdk_base.specs.declared.error.OTelSdkError.{OTelSdkError}
-use Rattle.otel_sdk_base.specs.declared.error.OTelSdkError.TheVariants.{AlreadyShutdown, Memory}
 
 -- whether the span is exported: its flag `sampled` is set (OpenTelemetry trace SDK, "Sampling")
 abbrev pub is_sampled : SpanRecord → Bool
 is_sampled span = flags.is_sampled span.span_context.trace_flags
 
--- ---- what every processor owes
--- The sampled spans that a processor took, in order: those that its exporter accepted, followed by
--- those that are queued; and how many it dropped because the queue was full.
-pub record Taken : Type 0 where
-  pub spans : List SpanRecord
-  pub dropped : ℕ
+-- A sampled span is kept, as the last one, or dropped and counted; any other is dropped.
+abbrev pub IsHandedIn : SpanRecord → Received SpanRecord → Received SpanRecord → Type 0
+IsHandedIn span old new = MatchBool (is_sampled span) (IsKeptOrDropped span old new) (new ≡ old)
 
--- one more, up to the greatest `u64`
-abbrev pub one_more : ℕ → ℕ
-one_more count = min (count + 1) (2 ^ 64 - 1)
+-- what a processor of spans with a queue keeps
+abbrev pub ProcessorState : Type 0 → Type 0
+ProcessorState E = QueueState SpanRecord E
 
--- the span is now the last one taken
-abbrev pub with_last : SpanRecord → Taken → Taken
-with_last span taken = record taken { spans = taken.spans ++ span ∷ [] }
-
--- one more was dropped
-abbrev pub with_dropped : Taken → Taken
-with_dropped taken = record taken { dropped = one_more taken.dropped }
-
--- A sampled span is taken, as the last one, or dropped and counted; any other is dropped.
-abbrev pub IsHandedIn : SpanRecord → Taken → Taken → Type 0
-IsHandedIn span old new =
-    MatchBool (is_sampled span) ((new ≡ with_last span old) ⊎ (new ≡ with_dropped old)) (new ≡ old)
-
--- ---- limits
--- How many spans are queued at most, and how many a batch has at most (OpenTelemetry trace SDK,
--- "Batching processor")
-pub record Limits : Type 0 where
-  pub max_queue_size : ℕ
-  pub max_export_batch_size : ℕ
-
--- what the limits count as: 0 as 1, and a batch has at most what a queue has (own)
-abbrev pub effective : Limits → Limits
-effective given = record {
-  max_queue_size = max given.max_queue_size 1;
-  max_export_batch_size = min (max given.max_export_batch_size 1) (max given.max_queue_size 1);
-}
-
--- the limits if none are given (OpenTelemetry trace SDK, "Batching processor")
-abbrev pub default_limits : Limits
-default_limits = record { max_queue_size = 2048; max_export_batch_size = 512 }
-
--- the limits of a processor that exports each span by itself
-abbrev pub single_limits : Limits
-single_limits = record { max_queue_size = 2048; max_export_batch_size = 1 }
-
--- ---- a processor with a queue
--- The exporter, the spans that are queued in order, how many were dropped, the limits, and whether
--- the processor was shut down.
-pub record ProcessorState (E : Type 0) : Type 0 where
-  pub exporter : E
-  pub queue : List SpanRecord
-  pub dropped_spans : ℕ
-  pub config : Limits
-  pub is_shut_down : Bool
-
-module _ {E : Type 0} where
-  -- with an empty queue, and open
-  abbrev pub new : E → Limits → ProcessorState E
-  new exporter config = record {
-    exporter = exporter;
-    queue = [];
-    dropped_spans = 0;
-    config = config;
-    is_shut_down = false;
-  }
-
-  -- what it took: the accepted spans, followed by the queued ones
-  abbrev pub taken_of : (E → List (List SpanRecord)) → ProcessorState E → Taken
-  taken_of accepted p = record {
-    spans = spans_of (accepted p.exporter) ++ p.queue;
-    dropped = p.dropped_spans;
-  }
-
-  -- the span is queued last
-  abbrev pub queued : SpanRecord → ProcessorState E → ProcessorState E
-  queued span p = record p { queue = p.queue ++ span ∷ [] }
-
-  -- one more span was dropped
-  abbrev pub counted : ProcessorState E → ProcessorState E
-  counted p = record p { dropped_spans = one_more p.dropped_spans }
-
-  -- after the end of a span: a sampled one is queued last, or dropped and counted if the queue is
-  -- full; any other is dropped (OpenTelemetry trace SDK, "Batching processor")
-  abbrev pub after_end : SpanRecord → ProcessorState E → ProcessorState E
-  after_end span p =
-      if is_sampled span
-      then (if nat_lt (length p.queue) p.config.max_queue_size then queued span p else counted p)
-      else p
-
-  -- why a span isn't taken: the processor was shut down, or memory ran out
-  abbrev pub cause : ProcessorState E → OTelSdkError
-  cause p = if p.is_shut_down then AlreadyShutdown else Memory alloc_error
-
-  -- The first batches of the queue were accepted, and the queue keeps the rest. Nothing else
-  -- changes but the exporter.
-  pub record IsFlushed (accepted : E → List (List SpanRecord)) (old new : ProcessorState E)
-      : Type 0 where
-    pub exported : AreExported old.config.max_export_batch_size old.queue
-        (accepted old.exporter) (accepted new.exporter) new.queue
-    pub same : new ≡ record old { exporter = new.exporter; queue = new.queue }
-
-  -- The processor was flushed, and its queue is empty; then its exporter was shut down, and it is
-  -- closed.
-  pub record IsClosed (accepted : E → List (List SpanRecord)) (shuts_down : E → E → Type 0)
-      (old new : ProcessorState E) : Type 0 where
-    pub flushed : ProcessorState E
-    pub is_flushed : IsFlushed accepted old flushed
-    pub is_empty : flushed.queue ≡ []
-    pub exporter : shuts_down flushed.exporter new.exporter
-    pub closed : new ≡ record flushed { exporter = new.exporter; is_shut_down = true }
-
-  -- a call of a processor that was shut down changes nothing
-  abbrev pub IsRefusedIfClosed : Result (Unit {0}) OTelSdkError
-      → ProcessorState E → ProcessorState E → Type 0
-  IsRefusedIfClosed answer old new =
-      IsTrue old.is_shut_down → IsErrOf answer AlreadyShutdown × (new ≡ old)
-
-  -- a shutdown that leaves the processor open failed in the flush
-  abbrev pub FailedIfOpen : (E → List (List SpanRecord)) → Result (Unit {0}) OTelSdkError
-      → ProcessorState E → ProcessorState E → Type 0
-  FailedIfOpen accepted answer old new =
-      IsTrue (not new.is_shut_down) → IsErr answer × IsFlushed accepted old new
-
-  -- a shutdown that closes the processor flushed it first
-  abbrev pub FlushedIfClosed : (E → List (List SpanRecord)) → (E → E → Type 0)
-      → ProcessorState E → ProcessorState E → Type 0
-  FlushedIfClosed accepted shuts_down old new =
-      IsTrue (not old.is_shut_down) → IsTrue new.is_shut_down → IsClosed accepted shuts_down old new
-
--- ---- worked rows
-limits_example : effective (record { max_queue_size = 2; max_export_batch_size = 4 })
-    ≡ record { max_queue_size = 2; max_export_batch_size = 2 }
-limits_example = refl
-
-no_limits_example : effective (record { max_queue_size = 0; max_export_batch_size = 0 })
-    ≡ record { max_queue_size = 1; max_export_batch_size = 1 }
-no_limits_example = refl
+-- after the end of a span: a sampled one is queued last, or dropped and counted if the queue is
+-- full; any other is dropped (OpenTelemetry trace SDK, "Batching processor")
+abbrev pub after_end : {E : Type 0} → SpanRecord → ProcessorState E → ProcessorState E
+after_end span p = if is_sampled span then after_add span p else p

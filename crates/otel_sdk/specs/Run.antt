@@ -9,10 +9,11 @@ use Rattle.otel_context.specs.declared.span.spans.SpanCause.TheVariants as cause
 use Rattle.opentelemetry.specs.SpanBuilder.{BuilderRecord}
 use Rattle.opentelemetry.specs.View.{builder_of}
 use Rattle.otel_sdk.specs.Ended.{AreCollected, NothingLost, of, waiting}
-use Rattle.otel_sdk.specs.Export.{spans_of}
+use Rattle.otel_sdk_base.specs.Export.{items_of}
 use Rattle.otel_sdk.specs.LiveState.{LiveState, no_spans, with_started, with_changed, with_ended}
 use Rattle.otel_sdk.specs.Parents.{HaveParents, StartChildren, given}
-use Rattle.otel_sdk.specs.Processor.{IsClosed, IsFlushed, Limits, ProcessorState, cause, new as new_processor}
+use Rattle.otel_sdk.specs.Processor.{ProcessorState}
+use Rattle.otel_sdk_base.specs.Queue.{IsClosed, IsFlushed, Limits, cause, new as new_processor}
 use Rattle.otel_sdk_span.specs.Span.{SpanState}
 use Rattle.otel_sdk.specs.SpanChange.{change_of}
 use Rattle.otel_sdk_span.specs.SpanData.{SpanRecord}
@@ -250,7 +251,7 @@ module _ {E : Type 0} where
       -- the processor before its shutdown, if it was shut down
       pub before : ProcessorState E
       pub was_open : WasOpen shuts_down before processor
-      pub nothing_lost : NothingLost accepted (spans_of (accepted exporter))
+      pub nothing_lost : NothingLost accepted (items_of (accepted exporter))
           (waiting history.spans history.ended) (of before live.spans) live.ended
       -- each span has the trace id of its parent, and its parent's span id, if the tracer starts
       -- such

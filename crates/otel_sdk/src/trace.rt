@@ -13,12 +13,13 @@ mod tracer;
 
 pub use change::SpanChange;
 pub use id_generator::{CountedIdGenerator, IdError, IdGenerator, RandomIdGenerator};
-pub use in_memory_exporter::InMemorySpanExporter;
+pub use in_memory_exporter::{FinishedSpans, InMemorySpanExporter};
 pub use live::LiveSpans;
-pub use otel_sdk_base::{Clock, ManualClock, SystemClock};
+pub use otel_sdk_base::{
+    BatchConfig, BatchConfigBuilder, Clock, Exporter, InMemoryExporter, ManualClock, SystemClock,
+};
 pub use otel_sdk_span::{SdkSpan, SpanData, SpanEvents, SpanExporter, SpanLimits, SpanLinks};
 pub use processor::batch::BatchSpanProcessor;
-pub use processor::config::{BatchConfig, BatchConfigBuilder};
 pub use processor::simple::SimpleSpanProcessor;
 pub use processor::{EndRefused, SpanProcessor};
 pub use program::{EventOutcome, RunReport, SpanEvent, run};

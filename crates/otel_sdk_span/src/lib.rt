@@ -2,6 +2,7 @@
 //! `otel_sdk` re-exports all of it.
 #![tactic(auto)]
 
+mod copies;
 mod data;
 mod export;
 mod limits;

@@ -8,7 +8,7 @@ ghost use Rattle.otel_context.specs.Stack.{current};
 ghost use Rattle.otel_context.specs.declared.span.spans.SpanCause.TheVariants.{NumbersUsedUp};
 ghost use Rattle.otel_sdk.specs.SpanChange.{change_of};
 ghost use Rattle.otel_sdk.specs.LiveState.{no_spans, with_started, with_changed, with_ended};
-ghost use Rattle.otel_sdk.specs.Processor.{cause};
+ghost use Rattle.otel_sdk_base.specs.Queue.{cause};
 ghost use Rattle.otel_sdk.specs.Ended.{of, AreCollected};
 
 use crate::trace::change::{SpanChange, change_in, end_in};

@@ -3,8 +3,6 @@ ghost use Rattle.std.specs.Prelude.{◌≡◌, IfErr, OnOk, MatchOption};
 ghost use Rattle.otel_sdk.specs.Processor.{IsHandedIn};
 
 pub(crate) mod batch;
-mod batches;
-pub(crate) mod config;
 pub(crate) mod simple;
 
 use otel_sdk_base::error::{OTelSdkError, OTelSdkResult};
@@ -26,14 +24,15 @@ pub struct EndRefused {
 /// Takes ended spans, and hands the sampled ones to an exporter (the Rust crate's
 /// `SpanProcessor`). There are no threads: spans are exported in the calls only.
 ///
-/// A processor names, by the ghost member `taken`, the sampled spans that it took, in order, and
-/// how many it dropped.
+/// A processor names, by the ghost member `received`, the sampled spans that it received and keeps,
+/// in order, and how many it dropped.
 ///
 /// See [`crate::trace::BatchSpanProcessor`] and [`crate::trace::SimpleSpanProcessor`].
 pub trait SpanProcessor: Drop {
-    ghost use Rattle.otel_sdk.specs.Processor.{Taken};
+    ghost use Rattle.otel_sdk_base.specs.Queue.{Received};
+    ghost use Rattle.otel_sdk_span.specs.SpanData.{SpanRecord};
 
-    ghost taken: { Self → Taken };
+    ghost received: { Self → Received SpanRecord };
 
     /// Takes a span that has ended. A span that isn't sampled is dropped.
     ///
@@ -43,10 +42,10 @@ pub trait SpanProcessor: Drop {
     /// changes, and the span comes back. If no span comes back, it was taken, and the error is that
     /// of the exporter.
     fn on_end(&mut self, span: SpanData) -> Result<(), EndRefused>
-        ensures ok { OnOk result (IsHandedIn span (taken self.old) (taken self.new)) }
+        ensures ok { OnOk result (IsHandedIn span (received self.old) (received self.new)) }
         ensures err { IfErr result (λ refused. MatchOption refused.span
-            (IsHandedIn span (taken self.old) (taken self.new))
-            (λ back. (back ≡ span) × (taken self.new ≡ taken self.old))) };
+            (IsHandedIn span (received self.old) (received self.new))
+            (λ back. (back ≡ span) × (received self.new ≡ received self.old))) };
 
     /// Hands the spans that are queued to the exporter, and flushes it.
     ///
@@ -55,7 +54,7 @@ pub trait SpanProcessor: Drop {
     /// `AlreadyShutdown` after [`SpanProcessor::shutdown`], or the exporter's error. What it didn't
     /// accept stays queued, in order.
     fn force_flush(&mut self) -> OTelSdkResult
-        ensures { taken self.new ≡ taken self.old };
+        ensures { received self.new ≡ received self.old };
 
     /// Flushes the processor, and shuts it and its exporter down. From then on each call returns
     /// `AlreadyShutdown`.
@@ -68,6 +67,6 @@ pub trait SpanProcessor: Drop {
 
     /// Tells the exporter the resource of the spans to come. Does nothing by default.
     fn set_resource(&mut self, _resource: Rc<Resource>)
-        ensures { taken self.new ≡ taken self.old }
+        ensures { received self.new ≡ received self.old }
     {}
 }

@@ -1,7 +1,7 @@
 //! What an exporter keeps in memory, and what errors print.
 use opentelemetry::trace::SpanId;
 use otel_sdk::error::OTelSdkError;
-use otel_sdk::trace::{InMemorySpanExporter, SpanExporter};
+use otel_sdk::trace::{Exporter, FinishedSpans, InMemorySpanExporter};
 use std::test::Fail;
 use test_support::span_data;
 

@@ -2,8 +2,8 @@
 use opentelemetry::trace::SpanId;
 use otel_sdk::error::{OTelSdkError, OTelSdkResult};
 use otel_sdk::trace::{
-    BatchConfigBuilder, BatchSpanProcessor, InMemorySpanExporter, SimpleSpanProcessor, SpanData,
-    SpanExporter, SpanProcessor,
+    BatchConfigBuilder, BatchSpanProcessor, Exporter, InMemorySpanExporter, SimpleSpanProcessor,
+    SpanData, SpanProcessor,
 };
 use std::alloc::{AllocError, Global};
 use std::test::Fail;
@@ -30,7 +30,7 @@ impl Planned {
     }
 }
 
-impl SpanExporter for Planned {
+impl Exporter<SpanData> for Planned {
     ghost accepted = { λ e. e.kept.accepted };
 
     ghost shuts_down = { λ _ _. Unit {0} };

@@ -7,8 +7,8 @@ use opentelemetry::trace::{
 };
 use opentelemetry::{Context, Key, KeyValue, StringValue, Value};
 use otel_sdk::trace::{
-    BatchConfig, BatchConfigBuilder, CountedIdGenerator, EventOutcome, InMemorySpanExporter,
-    LiveSpans, ManualClock, ParentBased, RunReport, Sampler, SamplingDecision, SdkSpan,
+    BatchConfig, BatchConfigBuilder, CountedIdGenerator, EventOutcome, FinishedSpans,
+    InMemorySpanExporter, LiveSpans, ManualClock, ParentBased, RunReport, Sampler, SamplingDecision, SdkSpan,
     SdkTracerProvider, ShouldSample, SpanChange, SpanEvent, SpanExporter, SpanLimits, run,
 };
 use std::alloc::Global;

@@ -1,4 +1,5 @@
-//! What no clause says of resources: that calls succeed, and worked cases.
+//! What no clause says of resources and queues: that calls succeed, and worked cases.
 #![tactic(auto)]
 
+mod queue;
 mod resource;

@@ -1,10 +1,11 @@
 //! What processors hand to an exporter: worked runs.
 use opentelemetry::logs::LogRecord;
 use opentelemetry::{InstrumentationScope, StringValue};
+use otel_sdk_base::Exporter;
 use otel_sdk_base::error::{OTelSdkError, OTelSdkResult};
 use otel_sdk_logs::{
-    BatchConfig, BatchConfigBuilder, BatchLogProcessor, LogData, LogExporter, LogProcessor,
-    SdkLogRecord, SimpleLogProcessor,
+    BatchConfig, BatchConfigBuilder, BatchLogProcessor, LogData, LogProcessor, SdkLogRecord,
+    SimpleLogProcessor,
 };
 use std::alloc::{AllocError, Global};
 use std::rc::Rc;
@@ -29,7 +30,7 @@ pub struct Planned {
     pub log: String,
 }
 
-impl LogExporter for Planned {
+impl Exporter<LogData> for Planned {
     ghost accepted = { λ _. [] };
 
     ghost shuts_down = { λ _ _. Unit {0} };

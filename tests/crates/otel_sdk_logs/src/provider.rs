@@ -2,11 +2,11 @@
 use crate::processor::{planned, two};
 use opentelemetry::logs::{LogRecord, Logger, LoggerProvider, Severity};
 use opentelemetry::{Key, KeyValue, StringValue, Value};
-use otel_sdk_base::ManualClock;
+use otel_sdk_base::{Exporter, ManualClock};
 use otel_sdk_base::error::{OTelSdkError, OTelSdkResult};
 use otel_sdk_base::resource::Resource;
 use otel_sdk_logs::{
-    BatchConfig, BatchLogProcessor, InMemoryLogExporter, LogData, LogExporter, LogProcessor,
+    BatchConfig, BatchLogProcessor, EmittedLogs, InMemoryLogExporter, LogData, LogProcessor,
     SdkLoggerProvider, SimpleLogProcessor,
 };
 use std::alloc::{AllocError, Global};
@@ -105,7 +105,7 @@ struct Named {
     service: Option<Rc<Resource>>,
 }
 
-impl LogExporter for Named {
+impl Exporter<LogData> for Named {
     ghost accepted = { λ _. [] };
 
     ghost shuts_down = { λ _ _. Unit {0} };

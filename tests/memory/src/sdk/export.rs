@@ -7,8 +7,8 @@ use opentelemetry::trace::{
 };
 use otel_sdk::error::OTelSdkResult;
 use otel_sdk::trace::{
-    BatchSpanProcessor, EndRefused, InMemorySpanExporter, SdkSpan, SimpleSpanProcessor, SpanData,
-    SpanExporter, SpanLimits, SpanProcessor,
+    BatchSpanProcessor, EndRefused, Exporter, FinishedSpans, InMemorySpanExporter, SdkSpan,
+    SimpleSpanProcessor, SpanData, SpanLimits, SpanProcessor,
 };
 use otel_waterfall::WaterfallExporter;
 use std::alloc::{AllocError, Global};
@@ -212,8 +212,8 @@ fn export<R: Print>(alloc: Global, lines: &Lines<'_, R>) -> Result<(), AllocErro
     let batch = [span(alloc)?];
     let mut exporter = InMemorySpanExporter::new(alloc);
     lines.answer_named("accepted", exporter.export(&batch));
-    lines.free_ok("InMemorySpanExporter::force_flush", exporter.force_flush());
-    lines.free_ok("InMemorySpanExporter::shutdown", exporter.shutdown());
+    lines.free_ok("InMemoryExporter::force_flush", exporter.force_flush());
+    lines.free_ok("InMemoryExporter::shutdown", exporter.shutdown());
     Ok(())
 }
 

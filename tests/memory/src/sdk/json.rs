@@ -7,7 +7,7 @@ use opentelemetry::trace::{
 use opentelemetry::{Array, Key, KeyValue, StringValue, Value};
 use otel_otlp::{OtlpJsonSpanExporter, traces_data, traces_text};
 use otel_sdk::resource::Resource;
-use otel_sdk::trace::{SpanData, SpanExporter};
+use otel_sdk::trace::{Exporter, SpanData};
 use std::alloc::{AllocError, Global};
 use std::io::{self, ErrorKind, Write};
 

@@ -5,11 +5,11 @@ use opentelemetry::logs::{AnyValue, LogRecord, Logger, LoggerProvider};
 use opentelemetry::{InstrumentationScope, Key, KeyValue, StringValue, Value};
 use otel_sdk::error::OTelSdkResult;
 use otel_sdk::logs::{
-    BatchConfig, BatchLogProcessor, InMemoryLogExporter, LogData, LogExporter, SdkLoggerProvider,
+    BatchConfig, BatchLogProcessor, EmittedLogs, InMemoryLogExporter, LogData, SdkLoggerProvider,
     SimpleLogProcessor,
 };
 use otel_sdk::resource::Resource;
-use otel_sdk::trace::ManualClock;
+use otel_sdk::trace::{Exporter, ManualClock};
 use std::alloc::{AllocError, Global};
 use std::default::Default;
 
@@ -63,8 +63,8 @@ fn export<R: Print>(alloc: Global, lines: &Lines<'_, R>) -> Result<(), AllocErro
     let batch = [record(alloc)?];
     let mut exporter = InMemoryLogExporter::new(alloc);
     lines.answer_named("accepted", exporter.export(&batch));
-    lines.free_ok("InMemoryLogExporter::force_flush", exporter.force_flush());
-    lines.free_ok("InMemoryLogExporter::shutdown", exporter.shutdown());
+    lines.free_ok("InMemoryExporter::force_flush", exporter.force_flush());
+    lines.free_ok("InMemoryExporter::shutdown", exporter.shutdown());
     Ok(())
 }
 

@@ -4,9 +4,9 @@ use opentelemetry::logs::{AnyValue, LogRecord};
 use opentelemetry::{InstrumentationScope, Key, StringValue};
 use otel_sdk::error::{OTelSdkError, OTelSdkResult};
 use otel_sdk::logs::{
-    BatchConfig, BatchLogProcessor, LogData, LogExporter, LogProcessor, SdkLogRecord,
-    SimpleLogProcessor,
+    BatchConfig, BatchLogProcessor, LogData, LogProcessor, SdkLogRecord, SimpleLogProcessor,
 };
+use otel_sdk::trace::Exporter;
 use std::alloc::{AllocError, Global};
 use std::cell::Cell;
 use std::default::Default;
@@ -59,7 +59,7 @@ impl Sizes {
     }
 }
 
-impl LogExporter for Sizes {
+impl Exporter<LogData> for Sizes {
     ghost accepted = { λ _. [] };
 
     ghost shuts_down = { λ _ _. Unit {0} };

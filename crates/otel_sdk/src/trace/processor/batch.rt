@@ -1,16 +1,18 @@
 //! The processor that exports spans in batches.
-ghost use Rattle.std.specs.Prelude.{◌≡◌, [], false, length, Some, IfErr, OnOk, OnErr};
+ghost use Rattle.std.specs.Prelude.{◌≡◌, false, length, Some, IfErr, OnOk, OnErr};
 ghost use Rattle.otel_sdk.specs.Processor as spec;
-ghost use Rattle.otel_sdk.specs.Processor.{IsFlushed, IsHandedIn, taken_of};
-ghost use Rattle.otel_sdk.specs.Processor.{IsRefusedIfClosed, FailedIfOpen, FlushedIfClosed};
+ghost use Rattle.otel_sdk.specs.Processor.{IsHandedIn};
+ghost use Rattle.otel_sdk_base.specs.Queue as queue_spec;
+ghost use Rattle.otel_sdk_base.specs.Queue.{IsForceFlushed, IsShutDown, OnlyExporterChanges};
+ghost use Rattle.otel_sdk_base.specs.Queue.{received_of};
 
 mod ended;
+mod reserved;
 
-use crate::trace::processor::batches::export_batches;
-use crate::trace::processor::config::BatchConfig;
 use crate::trace::processor::{EndRefused, SpanProcessor};
-use otel_sdk_base::error::{OTelSdkError, OTelSdkResult};
+use otel_sdk_base::error::OTelSdkResult;
 use otel_sdk_base::resource::Resource;
+use otel_sdk_base::{BatchConfig, Queue};
 use otel_sdk_span::{SpanData, SpanExporter};
 use std::alloc::Global;
 use std::marker::Model;
@@ -27,38 +29,25 @@ use std::rc::Rc;
 /// ```
 #[derive(Drop)]
 pub struct BatchSpanProcessor<E> {
-    exporter: E,
-    queue: Vec<SpanData>,
-    dropped_spans: u64,
-    config: BatchConfig,
-    is_shut_down: bool,
+    queue: Queue<SpanData, E>,
 }
 
 impl<E> Model for BatchSpanProcessor<E> {
     ghost use Rattle.otel_sdk.specs.Processor.{ProcessorState};
+    ghost use Rattle.otel_sdk_base.specs.QueueView.{state};
 
     ghost Value = { ProcessorState E };
 
-    ghost view = { λ p. record {
-      exporter = p.exporter;
-      queue = p.queue.items;
-      dropped_spans = p.dropped_spans;
-      config = p.config;
-      is_shut_down = p.is_shut_down;
-    } };
+    ghost view = { λ p. state p.queue };
 }
 
 impl<E: SpanExporter> BatchSpanProcessor<E> {
     /// Returns a processor without spans. Takes no memory.
     pub fn new(alloc: Global, exporter: E, config: BatchConfig) -> BatchSpanProcessor<E>
-        ensures { result ≡ spec.new exporter config }
+        ensures { result ≡ queue_spec.new exporter config }
     {
         BatchSpanProcessor {
-            exporter,
-            queue: Vec::new(alloc),
-            dropped_spans: 0,
-            config,
-            is_shut_down: false,
+            queue: Queue::new(alloc, exporter, config),
         }
     }
 
@@ -66,15 +55,15 @@ impl<E: SpanExporter> BatchSpanProcessor<E> {
     pub fn exporter(&self) -> &E
         ensures { result.now ≡ self.now.exporter }
     {
-        &self.exporter
+        self.queue.exporter()
     }
 
     /// Returns how many sampled spans met a full queue and were dropped. Stops at the greatest
     /// `u64`.
     pub fn dropped_spans(&self) -> u64
-        ensures { result ≡ self.now.dropped_spans }
+        ensures { result ≡ self.now.dropped }
     {
-        self.dropped_spans
+        self.queue.dropped()
     }
 
     /// Returns the number of spans that are queued.
@@ -87,26 +76,14 @@ impl<E: SpanExporter> BatchSpanProcessor<E> {
     pub(crate) fn is_shut_down(&self) -> bool
         ensures { result ≡ self.now.is_shut_down }
     {
-        self.is_shut_down
-    }
-
-    // Exports what is queued. The batches that were accepted leave the queue.
-    fn export_queue(&mut self) -> OTelSdkResult
-        ensures flushed { IsFlushed E.accepted self.old self.new }
-        ensures ok { OnOk result (self.new.queue ≡ []) }
-    {
-        let size = self.config.max_export_batch_size;
-        let (left, outcome) = export_batches(&mut self.exporter, self.queue.as_slice(), size);
-        let accepted = self.queue.len() - left;
-        drop(self.queue.drain(..accepted));
-        outcome
+        self.queue.is_shut_down()
     }
 }
 
 impl<E: SpanExporter> SpanProcessor for BatchSpanProcessor<E> {
-    ghost use Rattle.otel_sdk.specs.Processor.{taken_of};
+    ghost use Rattle.otel_sdk_base.specs.Queue.{received_of};
 
-    ghost taken = { taken_of E.accepted };
+    ghost received = { received_of E.accepted };
 
     /// Queues a sampled span, or drops and counts it if the queue is full. A span that isn't
     /// sampled is dropped.
@@ -120,30 +97,18 @@ impl<E: SpanExporter> SpanProcessor for BatchSpanProcessor<E> {
         ensures open { OnOk result (self.old.is_shut_down ≡ false) }
         ensures err { OnErr result (self.new ≡ self.old) }
         ensures refused { IfErr result (λ refused.
-            refused ≡ record { span = Some span; error = spec.cause self.old }) }
+            refused ≡ record { span = Some span; error = queue_spec.cause self.old }) }
         ensures handed_in { OnOk result
-            (IsHandedIn span (taken_of E.accepted self.old) (taken_of E.accepted self.new)) }
+            (IsHandedIn span (received_of E.accepted self.old) (received_of E.accepted self.new)) }
     {
-        if self.is_shut_down {
+        let is_sampled = span.span_context.is_sampled();
+        if let Err(error) = reserved::reserve(&mut self.queue, is_sampled) {
             return Err(EndRefused {
                 span: Some(span),
-                error: OTelSdkError::AlreadyShutdown,
+                error,
             });
         }
-        if !span.span_context.is_sampled() {
-            return Ok(());
-        }
-        if self.queue.len() >= self.config.max_queue_size {
-            self.dropped_spans = self.dropped_spans.saturating_add(1);
-            return Ok(());
-        }
-        if let Err(error) = self.queue.reserve(1) {
-            return Err(EndRefused {
-                span: Some(span),
-                error: OTelSdkError::Memory(error),
-            });
-        }
-        self.queue.push_reserved(span);
+        reserved::add(&mut self.queue, span);
         Ok(())
     }
 
@@ -155,35 +120,21 @@ impl<E: SpanExporter> SpanProcessor for BatchSpanProcessor<E> {
     /// `AlreadyShutdown` after [`SpanProcessor::shutdown`]: nothing changes. Otherwise the error of
     /// the first refused batch, or of the exporter's flush. What was accepted has left the queue.
     fn force_flush(&mut self) -> OTelSdkResult
-        ensures flushed { IsFlushed E.accepted self.old self.new }
-        ensures taken { taken_of E.accepted self.new ≡ taken_of E.accepted self.old }
-        ensures ok { OnOk result (self.new.queue ≡ []) }
-        ensures closed { IsRefusedIfClosed result self.old self.new }
+        ensures { IsForceFlushed E.accepted result self.old self.new }
     {
-        if self.is_shut_down {
-            return Err(OTelSdkError::AlreadyShutdown);
-        }
-        self.export_queue()?;
-        self.exporter.force_flush()
+        self.queue.force_flush()
     }
 
     fn shutdown(&mut self) -> OTelSdkResult
-        ensures closed { IsRefusedIfClosed result self.old self.new }
-        ensures open { FailedIfOpen E.accepted result self.old self.new }
-        ensures shut_down { FlushedIfClosed E.accepted E.shuts_down self.old self.new }
+        ensures { IsShutDown E.accepted E.shuts_down result self.old self.new }
     {
-        self.force_flush()?;
-        let outcome = self.exporter.shutdown();
-        self.is_shut_down = true;
-        outcome
+        self.queue.shutdown()
     }
 
     /// Tells the exporter the resource of the spans to come.
     fn set_resource(&mut self, resource: Rc<Resource>)
-        ensures exporter { E.accepted self.new.exporter ≡ E.accepted self.old.exporter }
-        ensures same { self.new ≡ record self.old { exporter = self.new.exporter } }
-        ensures taken { taken_of E.accepted self.new ≡ taken_of E.accepted self.old }
+        ensures { OnlyExporterChanges E.accepted self.old self.new }
     {
-        self.exporter.set_resource(resource);
+        self.queue.set_resource(resource);
     }
 }

@@ -1,14 +1,16 @@
 //! The processor that exports each span when it ends.
 ghost use Rattle.std.specs.Prelude.{◌≡◌, [], false, length, IfErr, OnOk, MatchOption};
 ghost use Rattle.otel_sdk.specs.Processor as spec;
-ghost use Rattle.otel_sdk.specs.Processor.{IsFlushed, IsHandedIn, taken_of};
-ghost use Rattle.otel_sdk.specs.Processor.{IsRefusedIfClosed, FailedIfOpen, FlushedIfClosed};
+ghost use Rattle.otel_sdk.specs.Processor.{IsHandedIn};
+ghost use Rattle.otel_sdk_base.specs.Queue as queue_spec;
+ghost use Rattle.otel_sdk_base.specs.Queue.{IsFlushed, IsForceFlushed, IsShutDown};
+ghost use Rattle.otel_sdk_base.specs.Queue.{OnlyExporterChanges, received_of};
 
 mod ended;
 
 use crate::trace::processor::batch::BatchSpanProcessor;
-use crate::trace::processor::config::BatchConfigBuilder;
 use crate::trace::processor::{EndRefused, SpanProcessor};
+use otel_sdk_base::BatchConfigBuilder;
 use otel_sdk_base::error::OTelSdkResult;
 use otel_sdk_base::resource::Resource;
 use otel_sdk_span::{SpanData, SpanExporter};
@@ -41,7 +43,7 @@ impl<E> Model for SimpleSpanProcessor<E> {
 impl<E: SpanExporter> SimpleSpanProcessor<E> {
     /// Returns a processor without spans. Takes no memory.
     pub fn new(alloc: Global, exporter: E) -> SimpleSpanProcessor<E>
-        ensures { result ≡ spec.new exporter spec.single_limits }
+        ensures { result ≡ queue_spec.new exporter queue_spec.single_limits }
     {
         let config = BatchConfigBuilder::default()
             .with_max_export_batch_size(1)
@@ -61,7 +63,7 @@ impl<E: SpanExporter> SimpleSpanProcessor<E> {
     /// Returns how many sampled spans met a full queue and were dropped. Stops at the greatest
     /// `u64`.
     pub fn dropped_spans(&self) -> u64
-        ensures { result ≡ self.now.dropped_spans }
+        ensures { result ≡ self.now.dropped }
     {
         self.inner.dropped_spans()
     }
@@ -75,9 +77,9 @@ impl<E: SpanExporter> SimpleSpanProcessor<E> {
 }
 
 impl<E: SpanExporter> SpanProcessor for SimpleSpanProcessor<E> {
-    ghost use Rattle.otel_sdk.specs.Processor.{taken_of};
+    ghost use Rattle.otel_sdk_base.specs.Queue.{received_of};
 
-    ghost taken = { taken_of E.accepted };
+    ghost received = { received_of E.accepted };
 
     /// Queues a sampled span, and flushes the processor. A span that isn't sampled is dropped.
     ///
@@ -93,13 +95,13 @@ impl<E: SpanExporter> SpanProcessor for SimpleSpanProcessor<E> {
         ensures refused { IfErr result (λ refused. MatchOption refused.span
             (IsFlushed E.accepted (spec.after_end span self.old) self.new)
             (λ back. (back ≡ span) × (self.new ≡ self.old)
-            × (refused.error ≡ spec.cause self.old))) }
+            × (refused.error ≡ queue_spec.cause self.old))) }
         ensures handed_in { OnOk result
-            (IsHandedIn span (taken_of E.accepted self.old) (taken_of E.accepted self.new)) }
+            (IsHandedIn span (received_of E.accepted self.old) (received_of E.accepted self.new)) }
         ensures not_exported { IfErr result (λ refused. MatchOption refused.span
-            (IsHandedIn span (taken_of E.accepted self.old) (taken_of E.accepted self.new))
+            (IsHandedIn span (received_of E.accepted self.old) (received_of E.accepted self.new))
             (λ back. (back ≡ span)
-            × (taken_of E.accepted self.new ≡ taken_of E.accepted self.old))) }
+            × (received_of E.accepted self.new ≡ received_of E.accepted self.old))) }
     {
         self.inner.on_end(span)?;
         match self.inner.force_flush() {
@@ -109,27 +111,20 @@ impl<E: SpanExporter> SpanProcessor for SimpleSpanProcessor<E> {
     }
 
     fn force_flush(&mut self) -> OTelSdkResult
-        ensures flushed { IsFlushed E.accepted self.old self.new }
-        ensures taken { taken_of E.accepted self.new ≡ taken_of E.accepted self.old }
-        ensures ok { OnOk result (self.new.queue ≡ []) }
-        ensures closed { IsRefusedIfClosed result self.old self.new }
+        ensures { IsForceFlushed E.accepted result self.old self.new }
     {
         self.inner.force_flush()
     }
 
     fn shutdown(&mut self) -> OTelSdkResult
-        ensures closed { IsRefusedIfClosed result self.old self.new }
-        ensures open { FailedIfOpen E.accepted result self.old self.new }
-        ensures shut_down { FlushedIfClosed E.accepted E.shuts_down self.old self.new }
+        ensures { IsShutDown E.accepted E.shuts_down result self.old self.new }
     {
         self.inner.shutdown()
     }
 
     /// Tells the exporter the resource of the spans to come.
     fn set_resource(&mut self, resource: Rc<Resource>)
-        ensures exporter { E.accepted self.new.exporter ≡ E.accepted self.old.exporter }
-        ensures same { self.new ≡ record self.old { exporter = self.new.exporter } }
-        ensures taken { taken_of E.accepted self.new ≡ taken_of E.accepted self.old }
+        ensures { OnlyExporterChanges E.accepted self.old self.new }
     {
         self.inner.set_resource(resource);
     }

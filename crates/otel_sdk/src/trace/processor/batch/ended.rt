@@ -2,11 +2,11 @@
 ghost use Rattle.std.specs.Prelude.{◌≡◌, ◌≤◌, ◌==◌, false, [], length, take, fold, IfErr, OnOk, OnErr, IsTrue};
 ghost use Rattle.std.specs.List.{IsDistinct};
 ghost use Rattle.std.specs.Vec.{vec_capacity};
-ghost use Rattle.otel_sdk.specs.Processor.{cause};
+ghost use Rattle.otel_sdk_base.specs.Queue.{cause};
 ghost use Rattle.otel_sdk.specs.Ended as spec;
 ghost use Rattle.otel_sdk.specs.Ended.{AreCollected, AreListed, LosesNothing};
 
-use super::BatchSpanProcessor;
+use super::{BatchSpanProcessor, reserved};
 use opentelemetry::trace::Spans;
 use otel_sdk_base::error::{OTelSdkError, OTelSdkResult};
 use otel_sdk_span::{SdkSpan, SpanExporter};
@@ -40,25 +40,16 @@ impl<E: SpanExporter> BatchSpanProcessor<E> {
         ensures table { OnErr result (spans.new ≡ spans.old) }
         ensures refused { IfErr result (λ error. error ≡ cause self.old) }
     {
-        if self.is_shut_down {
-            return Err(OTelSdkError::AlreadyShutdown);
-        }
-        let is_exported = match spans.get(number) {
-            Some(span) if span.has_ended() => is_exported(span),
-            _ => return Ok(()),
+        let (has_ended, is_exported) = match spans.get(number) {
+            Some(span) if span.has_ended() => (true, is_exported(span)),
+            _ => (false, false),
         };
-        let has_room = self.queue.len() < self.config.max_queue_size;
-        if is_exported && has_room {
-            self.queue.reserve(1)?;
-        }
-        let data = match spans.take(number) {
-            Some(span) => span.into_data(),
-            None => None,
-        };
-        match data {
-            Some(data) if is_exported && has_room => self.queue.push_reserved(data),
-            Some(_) if is_exported => self.dropped_spans = self.dropped_spans.saturating_add(1),
-            _ => (),
+        reserved::reserve(&mut self.queue, is_exported)?;
+        if has_ended
+            && let Some(span) = spans.take(number)
+            && let Some(data) = span.into_data()
+        {
+            reserved::add(&mut self.queue, data);
         }
         Ok(())
     }
@@ -88,7 +79,7 @@ impl<E: SpanExporter> BatchSpanProcessor<E> {
             × (spans.new ≡ spans.old) × (self.new ≡ self.old) }
         ensures room { vec_capacity ended.new ≡ vec_capacity ended.old }
     {
-        if self.is_shut_down {
+        if self.is_shut_down() {
             return Err(OTelSdkError::AlreadyShutdown);
         }
         let (taken, outcome) = self.take_each(spans, ended.as_slice());

@@ -3,7 +3,7 @@ ghost use Rattle.std.specs.Prelude.{◌≡◌, ◌≤◌, ◌==◌, ◌⊎◌, f
 ghost use Rattle.std.specs.Prelude.{IfErr, IsErrOf, IsTrue, OnOk};
 ghost use Rattle.std.specs.List.{IsDistinct};
 ghost use Rattle.std.specs.Vec.{vec_capacity};
-ghost use Rattle.otel_sdk.specs.Processor.{cause};
+ghost use Rattle.otel_sdk_base.specs.Queue.{cause};
 ghost use Rattle.otel_sdk.specs.Ended as spec;
 ghost use Rattle.otel_sdk.specs.Ended.{AreHandedOn, AreListed, EachIsHandedOn, IsHandedOn};
 ghost use Rattle.otel_sdk.specs.Ended.{LosesNothing};

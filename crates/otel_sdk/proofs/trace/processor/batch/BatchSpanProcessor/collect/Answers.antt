@@ -4,7 +4,7 @@ use Rattle.otel_sdk.proofs.trace.processor.batch.BatchSpanProcessor.collect.Goal
 
 pub returns-clause-nothing_lost : goal.returns-clause-nothing_lost
 returns-clause-nothing_lost g c = λ d earlier ends h.
-    loses_nothing g.E.SpanExporter.accepted earlier ends c.args.ended.now.items c.as_slice.result.now _
+    loses_nothing g.E.Exporter.accepted earlier ends c.args.ended.now.items c.as_slice.result.now _
     c.take_each-taken.result.0 (_) (_) (search rules) c.take_each-taken.ensures.handed_in (search rules) d h
 
 pub returns-clause-listed : goal.returns-clause-listed

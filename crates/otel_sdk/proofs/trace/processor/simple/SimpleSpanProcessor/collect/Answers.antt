@@ -6,14 +6,14 @@ use Rattle.otel_sdk.proofs.trace.processor.simple.SimpleSpanProcessor.collect.Go
 
 pub returns-clause-nothing_lost : goal.returns-clause-nothing_lost
 returns-clause-nothing_lost g c = λ d earlier ends h.
-    handed_on-loses_nothing g.E.SpanExporter.accepted earlier ends c.args.ended.now.items _ _ _
-    (handed_on_part g.E.SpanExporter.accepted c.args.ended.now.items c.as_slice.result.now _ c.export_each-taken.result.0 _ _
+    handed_on-loses_nothing g.E.Exporter.accepted earlier ends c.args.ended.now.items _ _ _
+    (handed_on_part g.E.Exporter.accepted c.args.ended.now.items c.as_slice.result.now _ c.export_each-taken.result.0 _ _
     (search rules) c.export_each-taken.ensures.within c.export_each-taken.ensures.handed_on (search rules)) d
     (subst (λ (p : ProcessorState g.row.E.Denot).
-    NothingLost g.E.SpanExporter.accepted earlier ends (of p c.args.spans.now) c.args.ended.now.items) (search rules) h)
+    NothingLost g.E.Exporter.accepted earlier ends (of p c.args.spans.now) c.args.ended.now.items) (search rules) h)
 
 pub returns-clause-listed : goal.returns-clause-listed
 returns-clause-listed g c = λ h.
-    handed_on-listed g.E.SpanExporter.accepted c.args.ended.now.items _ _ _
-    (handed_on_part g.E.SpanExporter.accepted c.args.ended.now.items c.as_slice.result.now _ c.export_each-taken.result.0 _ _
+    handed_on-listed g.E.Exporter.accepted c.args.ended.now.items _ _ _
+    (handed_on_part g.E.Exporter.accepted c.args.ended.now.items c.as_slice.result.now _ c.export_each-taken.result.0 _ _
     (search rules) c.export_each-taken.ensures.within c.export_each-taken.ensures.handed_on (search rules)) h

@@ -1,6 +1,6 @@
 use Rattle.otel_base.proofs.shared.MappedLists.{same_views}
 use Rattle.opentelemetry.specs.View.{event_of}
-use Rattle.otel_sdk.proofs.trace.in_memory_exporter.copies.copy_events.Goals as goal
+use Rattle.otel_sdk_span.proofs.copies.copy_events.Goals as goal
 
 pub returns : goal.returns
 returns c = same_views event_of _ _ c.in_ok-clone.ensures.cases.0

@@ -1,13 +1,15 @@
 //! Copies of spans.
-ghost use Rattle.std.specs.Prelude.{◌≡◌, ◌++◌, OnOk, IfOk, map};
+ghost use Rattle.std.specs.Prelude.{◌≡◌, IfOk, map};
 ghost use Rattle.std.specs.Rc.{rc_value};
 ghost use Rattle.opentelemetry.specs.View.{event_of, link_of};
 ghost use Rattle.otel_base.specs.View.{attribute_of};
 
+use crate::data::{SpanData, SpanEvents, SpanLinks};
 use opentelemetry::trace::{Event, Link, SpanContext, Status};
 use opentelemetry::{InstrumentationScope, KeyValue, StringValue};
-use otel_sdk_span::{SpanData, SpanEvents, SpanLinks};
+use otel_sdk_base::ExactClone;
 use std::alloc::AllocError;
+use std::clone::Clone;
 use std::rc::Rc;
 
 // Each attribute of the copy means the same as the original's.
@@ -74,50 +76,41 @@ fn copy_parts(span: &SpanData) -> Result<Parts, AllocError>
     })
 }
 
-/// Returns a copy of the span.
-///
-/// # Errors
-///
-/// `AllocError` if out of memory.
-fn copy(span: &SpanData) -> Result<SpanData, AllocError>
-    ensures { IfOk result (λ copy. copy ≡ span.now) }
-{
-    let lists = copy_lists(span)?;
-    let parts = copy_parts(span)?;
-    Ok(SpanData {
-        span_context: parts.span_context,
-        parent_span_id: span.parent_span_id,
-        parent_span_is_remote: span.parent_span_is_remote,
-        span_kind: span.span_kind,
-        name: parts.name,
-        start_time: span.start_time,
-        end_time: span.end_time,
-        attributes: lists.attributes,
-        dropped_attributes_count: span.dropped_attributes_count,
-        events: SpanEvents {
-            events: lists.events,
-            dropped_count: span.events.dropped_count,
-        },
-        links: SpanLinks {
-            links: lists.links,
-            dropped_count: span.links.dropped_count,
-        },
-        status: parts.status,
-        instrumentation_scope: parts.scope,
-    })
+impl Clone for SpanData {
+    ghost is_clone = { λ d copy. copy ≡ d };
+
+    /// Returns a copy, which shares the scope.
+    ///
+    /// # Errors
+    ///
+    /// `AllocError` if out of memory.
+    fn clone(&self) -> Result<SpanData, AllocError> {
+        let lists = copy_lists(self)?;
+        let parts = copy_parts(self)?;
+        Ok(SpanData {
+            span_context: parts.span_context,
+            parent_span_id: self.parent_span_id,
+            parent_span_is_remote: self.parent_span_is_remote,
+            span_kind: self.span_kind,
+            name: parts.name,
+            start_time: self.start_time,
+            end_time: self.end_time,
+            attributes: lists.attributes,
+            dropped_attributes_count: self.dropped_attributes_count,
+            events: SpanEvents {
+                events: lists.events,
+                dropped_count: self.events.dropped_count,
+            },
+            links: SpanLinks {
+                links: lists.links,
+                dropped_count: self.links.dropped_count,
+            },
+            status: parts.status,
+            instrumentation_scope: parts.scope,
+        })
+    }
 }
 
-/// Appends copies of the spans, in order.
-///
-/// # Errors
-///
-/// `AllocError` if out of memory. Some of the copies may have been appended.
-pub(crate) fn append(copies: &mut Vec<SpanData>, spans: &[SpanData]) -> Result<(), AllocError>
-    ensures { OnOk result (copies.new.items ≡ copies.old.items ++ spans.now) }
-{
-    copies.reserve(spans.len())?;
-    for span in spans {
-        copies.push(copy(span)?)?;
-    }
-    Ok(())
+impl ExactClone for SpanData {
+    ghost is_exact = { λ _ _ same. same };
 }
