@@ -6,10 +6,11 @@ use Rattle.otel_context.specs.Context.{ContextRecord}
 use Rattle.opentelemetry.specs.SpanBuilder.{BuilderRecord, from_name}
 use Rattle.otel_sdk_span.specs.Span.{SpanState, after_attribute, after_end}
 use Rattle.otel_sdk_span.specs.SpanData.{SpanRecord}
-use Rattle.otel_sdk.specs.Processor.{IsHandedIn, Taken}
+use Rattle.otel_sdk_base.specs.Queue.{Received}
+use Rattle.otel_sdk.specs.Processor.{IsHandedIn}
 
 -- What a span has recorded was handed to a processor; one that doesn't record has nothing.
-abbrev pub IsHandedOver : Option SpanRecord → Taken → Taken → Type 0
+abbrev pub IsHandedOver : Option SpanRecord → Received SpanRecord → Received SpanRecord → Type 0
 IsHandedOver None old new = new ≡ old
 IsHandedOver (Some recorded) old new = IsHandedIn recorded old new
 
@@ -18,10 +19,10 @@ abbrev pub of_item : ℤ → Attribute
 of_item item = (codes "item", integer item)
 
 -- A span named `price` that may start under the parent got the item's attribute, ended at that
--- moment, and was handed to a processor: if it is sampled, it is the last one taken, or was dropped
+-- moment, and was handed to a processor: if it is sampled, it is the last one received, or was dropped
 -- and counted.
 pub record IsTraced (MayStart : BuilderRecord → ContextRecord → SpanState → Type 0)
-    (parent : ContextRecord) (item : ℤ) (end : ℕ) (old new : Taken) : Type 0 where
+    (parent : ContextRecord) (item : ℤ) (end : ℕ) (old new : Received SpanRecord) : Type 0 where
   pub span : SpanState
   pub may_start : MayStart (from_name (codes "price")) parent span
   pub handed_over :

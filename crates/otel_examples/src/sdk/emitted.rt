@@ -1,5 +1,5 @@
 //! A log record of the SDK, on its way to an exporter.
-ghost use Rattle.otel_sdk_logs.specs.Processor.{IsHandedIn};
+ghost use Rattle.otel_sdk_base.specs.Queue.{IsKeptOrDropped};
 
 use otel_sdk::error::OTelSdkResult;
 use otel_sdk::logs::{LogData, LogProcessor};
@@ -11,7 +11,7 @@ use otel_sdk::logs::{LogData, LogProcessor};
 ///
 /// That of the flush. What the exporter refused stays queued.
 pub fn emit<Q: LogProcessor>(processor: &mut Q, given: LogData) -> OTelSdkResult
-    ensures { IsHandedIn given (Q.taken processor.old) (Q.taken processor.new) }
+    ensures { IsKeptOrDropped given (Q.received processor.old) (Q.received processor.new) }
 {
     processor.on_emit(given);
     processor.force_flush()

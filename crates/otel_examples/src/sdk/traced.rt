@@ -25,7 +25,7 @@ pub fn price<P: Pipeline, Q: SpanProcessor>(
     end: u64,
 ) -> OTelSdkResult
     ensures { OnOk result (IsTraced (P.may_start tracer.now) parent.now item end
-        (Q.taken processor.old) (Q.taken processor.new)) }
+        (Q.received processor.old) (Q.received processor.new)) }
 {
     let mut span = tracer.start_with_context(alloc, StringValue::from("price"), parent)?;
     span.set_attribute(alloc, KeyValue::new(Key::from("item"), Value::I64(item)))?;

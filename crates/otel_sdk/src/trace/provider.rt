@@ -11,7 +11,6 @@ use opentelemetry::trace::TracerProvider;
 use opentelemetry::{InstrumentationScope, StringValue};
 use otel_sdk_base::resource::Resource;
 use otel_sdk_base::{Clock, SystemClock};
-use otel_sdk_sampling::{IdGenerator, ParentBased, RandomIdGenerator, Sampler, ShouldSample};
 use otel_sdk_span::SpanLimits;
 use std::alloc::{AllocError, Global};
 use std::cell::Cell;

@@ -11,7 +11,6 @@ use crate::trace::{IdGenerator, ShouldSample};
 use opentelemetry::trace::{SpanBuilder, SpanContext, Tracer};
 use opentelemetry::{Context, InstrumentationScope, KeyValue};
 use otel_sdk_base::Clock;
-use otel_sdk_sampling::{IdGenerator, ShouldSample};
 use otel_sdk_span::{SdkSpan, SpanLimits};
 use std::alloc::{AllocError, Global};
 use std::marker::Model;

@@ -2,9 +2,9 @@
 use crate::processor::{planned, two};
 use opentelemetry::logs::{LogRecord, Logger, LoggerProvider, Severity};
 use opentelemetry::{Key, KeyValue, StringValue, Value};
-use otel_sdk_base::{Exporter, ManualClock};
 use otel_sdk_base::error::{OTelSdkError, OTelSdkResult};
 use otel_sdk_base::resource::Resource;
+use otel_sdk_base::{Exporter, ManualClock};
 use otel_sdk_logs::{
     BatchConfig, BatchLogProcessor, EmittedLogs, InMemoryLogExporter, LogData, LogProcessor,
     SdkLoggerProvider, SimpleLogProcessor,
