@@ -2,9 +2,9 @@
 use crate::batches::{attribute, cart, root, scope, three};
 use opentelemetry::trace::{Link, SpanContext, SpanId, Status, TraceFlags, TraceId, TraceState};
 use opentelemetry::{Array, InstrumentationScope, StringValue, Value};
+use otel_otlp::traces_data;
 use otel_sdk::resource::Resource;
 use otel_sdk::trace::SpanData;
-use otel_otlp::traces_data;
 use std::alloc::Global;
 use std::rc::Rc;
 use std::test::Fail;

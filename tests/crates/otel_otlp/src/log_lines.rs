@@ -4,9 +4,9 @@ use crate::records::{cart_service, no_price, observed, under};
 use opentelemetry::logs::{AnyValue, LogRecord, Severity};
 use opentelemetry::trace::{SpanId, TraceId};
 use opentelemetry::{Key, StringValue};
+use otel_otlp::{logs_data, logs_text};
 use otel_sdk::logs::{LogData, SdkLogRecord};
 use otel_sdk::resource::Resource;
-use otel_otlp::{logs_data, logs_text};
 use std::alloc::Global;
 use std::test::Fail;
 

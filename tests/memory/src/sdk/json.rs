@@ -5,9 +5,10 @@ use opentelemetry::trace::{
     Event, Link, SpanContext, SpanId, Status, TraceFlags, TraceId, TraceState,
 };
 use opentelemetry::{Array, Key, KeyValue, StringValue, Value};
-use otel_sdk::resource::Resource;
-use otel_sdk::trace::{SpanData, SpanExporter};
 use otel_otlp::{OtlpJsonSpanExporter, traces_data, traces_text};
+use otel_sdk::resource::Resource;
+use otel_sdk::trace::SpanData;
+use otel_sdk_base::Exporter;
 use std::alloc::{AllocError, Global};
 use std::io::{self, ErrorKind, Write};
 
@@ -92,8 +93,8 @@ fn export<R: Print>(alloc: Global, lines: &Lines<'_, R>) -> Result<(), AllocErro
     let batch = [full(alloc)?];
     let mut exporter = OtlpJsonSpanExporter::new(alloc, io::sink())?;
     lines.answer_named("written", exporter.export(&batch));
-    lines.free_ok("OtlpJsonSpanExporter::force_flush", exporter.force_flush());
-    lines.free_ok("OtlpJsonSpanExporter::shutdown", exporter.shutdown());
+    lines.free_ok("OtlpJsonExporter::force_flush", exporter.force_flush());
+    lines.free_ok("OtlpJsonExporter::shutdown", exporter.shutdown());
     Ok(())
 }
 

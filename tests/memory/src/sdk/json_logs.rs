@@ -4,8 +4,9 @@ use crate::sdk::json::{closed, resource};
 use opentelemetry::logs::{AnyValue, LogRecord, Severity};
 use opentelemetry::trace::{SpanId, TraceFlags, TraceId};
 use opentelemetry::{InstrumentationScope, Key, StringValue};
-use otel_sdk::logs::{LogData, LogExporter, SdkLogRecord};
 use otel_otlp::{OtlpJsonLogExporter, logs_data, logs_text};
+use otel_sdk::logs::{LogData, SdkLogRecord};
+use otel_sdk_base::Exporter;
 use std::alloc::{AllocError, Global};
 use std::io;
 use std::rc::Rc;
@@ -65,8 +66,8 @@ fn export<R: Print>(alloc: Global, lines: &Lines<'_, R>) -> Result<(), AllocErro
     let batch = [full(alloc)?];
     let mut exporter = OtlpJsonLogExporter::new(alloc, io::sink())?;
     lines.answer_named("written", exporter.export(&batch));
-    lines.free_ok("OtlpJsonLogExporter::force_flush", exporter.force_flush());
-    lines.free_ok("OtlpJsonLogExporter::shutdown", exporter.shutdown());
+    lines.free_ok("OtlpJsonExporter::force_flush", exporter.force_flush());
+    lines.free_ok("OtlpJsonExporter::shutdown", exporter.shutdown());
     Ok(())
 }
 
