@@ -11,7 +11,6 @@ pub mod OneRecord
 pub mod OneSpan
 pub mod OneText
 pub mod Scopes
-pub mod Takes
+pub mod LinesWritten
 pub mod TreeValues
-mod Walks
 pub mod Writing

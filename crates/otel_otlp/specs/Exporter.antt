@@ -1,76 +1,101 @@
 -- What contracts see of an exporter that writes lines of JSON, and what its writer gets
 -- [OpenTelemetry protocol file exporter, "JSON Lines file"].
-use Rattle.std.specs.Prelude.{◌≡◌, ◌⊎◌, ◌<◌, ℕ, Bool, List, [], ◌∷◌, ◌++◌, length, take, Option}
-use Rattle.std.specs.Prelude.{if◌then◌else◌}
+use Rattle.std.specs.Prelude.{◌≡◌, ◌⊎◌, ◌<◌, ℕ, Bool, true, false, List, [], ◌∷◌, ◌++◌, length}
+use Rattle.std.specs.Prelude.{take, Option, Result, ⊤, IsTrue, OnOk, IsErrOf, if◌then◌else◌}
 use Rattle.std.specs.Io.KnownBytes.{Appends}
-use Rattle.otel_sdk_logs.specs.LogRecord.{LogEntry}
-use Rattle.otel_sdk_span.specs.SpanData.{SpanRecord}
+use Rattle.otel_sdk_base.specs.Resource as resource
 use Rattle.otel_sdk_base.specs.Resource.{Parts}
-use Rattle.serde_json.specs.Data.{Data}
+use Rattle.otel_sdk_base.specs.declared.error.OTelSdkError.{OTelSdkError}
+use Rattle.otel_sdk_base.specs.declared.error.OTelSdkError.TheVariants as error
+use Rattle.otel_otlp.specs.Groups.{BatchForm, batch_value}
 use Rattle.otel_otlp.specs.Json.{IsTextOf}
-use Rattle.otel_otlp.specs.Logs.{logs_data}
-use Rattle.otel_otlp.specs.Traces.{traces_data}
+use Rattle.otel_otlp.specs.declared.lines.Lines.{Lines}
 
--- the batches of spans that it has accepted, the writer, the resource of the spans to come, whether
--- it owes the end of a line, and whether it was shut down
-pub record SpanLines (W : Type 0) : Type 0 where
-  pub accepted : List (List SpanRecord)
-  pub writer : W
+-- the batches that it has accepted, its writer with whether a newline is pending there, the
+-- resource of the items to come, and whether it was shut down
+pub record Exporting (W R : Type 0) : Type 0 where
+  pub accepted : List (List R)
+  pub lines : Lines W
   pub resource : Parts
-  pub owes_line_end : Bool
   pub is_shut_down : Bool
 
--- the same of an exporter of log records
-pub record LogLines (W : Type 0) : Type 0 where
-  pub accepted : List (List LogEntry)
-  pub writer : W
-  pub resource : Parts
-  pub owes_line_end : Bool
-  pub is_shut_down : Bool
+-- a new exporter to the writer
+abbrev pub initial : {W R : Type 0} → W → Exporting W R
+initial writer = record {
+  accepted = [];
+  lines = record { writer = writer; newline_is_pending = false };
+  resource = resource.empty;
+  is_shut_down = false;
+}
 
--- the end of a line, U+000A, if it is owed
-abbrev pub owed_end : Bool → List ℕ
-owed_end owes = if owes then 10 ∷ [] else []
+-- ---- bytes
+-- a newline, U+000A, if it is pending
+abbrev pub pending : Bool → List ℕ
+pending is_pending = if is_pending then 10 ∷ [] else []
 
--- The writer took these lines: what it took, with the line end that is owed from then on, is the
--- line end that was owed before, and then the lines. Of one that isn't known to hold bytes it says
--- nothing.
-pub record Takes (old new : Option (List ℕ)) (owed owes : Bool) (lines : List ℕ) : Type 0 where
+-- These lines were written: what the writer took, with the newline that is pending afterwards, is
+-- the newline that was pending before, and then the lines. Of a writer that isn't known to hold
+-- bytes it says nothing.
+pub record LinesWritten (old new : Option (List ℕ)) (was is : Bool) (lines : List ℕ) : Type 0 where
   pub taken : List ℕ
   pub appended : Appends old new taken
-  pub settled : taken ++ owed_end owes ≡ owed_end owed ++ lines
+  pub whole : taken ++ pending is ≡ pending was ++ lines
 
--- the first bytes of a text that isn't whole, fewer than it has, and a line end; or nothing
-abbrev pub IsTorn : List ℕ → List ℕ → Type 0
-IsTorn text torn =
-    (torn ≡ []) ⊎ ((n : ℕ) × (n < length text) × (torn ≡ take n text ++ 10 ∷ []))
+-- between the two states these lines were written; `contents` are the bytes that a writer holds
+abbrev pub Writes :
+    {W : Type 0} → (W → Option (List ℕ)) → Lines W → Lines W → List ℕ → Type 0
+Writes contents old new lines =
+    LinesWritten (contents old.writer) (contents new.writer)
+    old.newline_is_pending new.newline_is_pending lines
 
--- ---- batches of any records, by the value of a batch
--- the line of the batch: the text of its object, and a line end; nothing for an empty batch
-abbrev pub IsLine : {R : Type 0} → (List R → Data) → List R → List ℕ → Type 0
-IsLine data_of [] line = line ≡ []
-IsLine data_of (r ∷ more) line =
-    (text : List ℕ) × IsTextOf text (data_of (r ∷ more)) × (line ≡ text ++ 10 ∷ [])
+-- a line that was cut off: the first bytes of the text, fewer than it has, and a newline; or
+-- nothing
+abbrev pub IsCutOff : List ℕ → List ℕ → Type 0
+IsCutOff text line =
+    (line ≡ []) ⊎ ((n : ℕ) × (n < length text) × (line ≡ take n text ++ 10 ∷ []))
 
--- a torn line of the text of the value, or nothing
-abbrev pub IsTornLine : Data → List ℕ → Type 0
-IsTornLine value torn =
-    (torn ≡ []) ⊎ ((text : List ℕ) × IsTextOf text value × IsTorn text torn)
+-- ---- the lines of batches
+-- the line of the batch: the text of its object, and a newline; nothing for an empty batch
+abbrev pub IsLineOf : {R : Type 0} → BatchForm R → Parts → List R → List ℕ → Type 0
+IsLineOf form resource [] line = line ≡ []
+IsLineOf form resource (r ∷ more) line =
+    (text : List ℕ) × IsTextOf text (batch_value form resource (r ∷ more))
+    × (line ≡ text ++ 10 ∷ [])
 
--- ---- batches of spans
--- the line of the batch
-abbrev pub IsLineOf : Parts → List SpanRecord → List ℕ → Type 0
-IsLineOf resource batch line = IsLine (traces_data resource) batch line
+-- the line of the batch, cut off, or nothing
+abbrev pub IsCutOffLineOf : {R : Type 0} → BatchForm R → Parts → List R → List ℕ → Type 0
+IsCutOffLineOf form resource batch line =
+    (line ≡ [])
+    ⊎ ((text : List ℕ) × IsTextOf text (batch_value form resource batch) × IsCutOff text line)
 
--- a torn line of the batch, or nothing
-abbrev pub IsTornLineOf : Parts → List SpanRecord → List ℕ → Type 0
-IsTornLineOf resource batch torn = IsTornLine (traces_data resource batch) torn
+-- ---- calls
+-- an exporter that was shut down returns this error and stays as it is, and no other returns it
+pub record RefusesIfShutDown {W R : Type 0} (result : Result ⊤ OTelSdkError)
+    (old new : Exporting W R) : Type 0 where
+  pub refused : IsTrue old.is_shut_down → IsErrOf result error.AlreadyShutdown
+  pub only_then : IsErrOf result error.AlreadyShutdown → IsTrue old.is_shut_down
+  pub unchanged : IsTrue old.is_shut_down → new ≡ old
 
--- ---- batches of log records
--- the line of the batch
-abbrev pub IsLogLineOf : Parts → List LogEntry → List ℕ → Type 0
-IsLogLineOf resource batch line = IsLine (logs_data resource) batch line
+-- nothing but the newline that was pending is written, and on `Ok` it is; the call never says that
+-- the exporter was shut down
+pub record Flushes {W : Type 0} (contents : W → Option (List ℕ)) (result : Result ⊤ OTelSdkError)
+    (old new : Lines W) : Type 0 where
+  pub written : OnOk result (new.newline_is_pending ≡ false)
+  pub writes : Writes contents old new []
+  pub goes_on : IsErrOf result error.AlreadyShutdown → ⊥
 
--- a torn line of the batch, or nothing
-abbrev pub IsTornLogLineOf : Parts → List LogEntry → List ℕ → Type 0
-IsTornLogLineOf resource batch torn = IsTornLine (logs_data resource batch) torn
+-- nothing but the newline that was pending is written, and on `Ok` it is; nothing else changes
+pub record ForceFlushes {W R : Type 0} (contents : W → Option (List ℕ))
+    (result : Result ⊤ OTelSdkError) (old new : Exporting W R) : Type 0 where
+  pub refuses : RefusesIfShutDown result old new
+  pub written : OnOk result (new.lines.newline_is_pending ≡ false)
+  pub writes : Writes contents old.lines new.lines []
+  pub rest : new ≡ record old { lines = new.lines }
+
+-- the same, and the exporter is shut down
+pub record ShutsDown {W R : Type 0} (contents : W → Option (List ℕ))
+    (result : Result ⊤ OTelSdkError) (old new : Exporting W R) : Type 0 where
+  pub refuses : RefusesIfShutDown result old new
+  pub written : OnOk result (new.lines.newline_is_pending ≡ false)
+  pub writes : Writes contents old.lines new.lines []
+  pub rest : new ≡ record old { lines = new.lines; is_shut_down = true }

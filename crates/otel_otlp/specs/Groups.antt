@@ -1,4 +1,4 @@
--- Records under their scopes, and these under a resource: what batches of spans and of log records
+-- Items under their scopes, and these under a resource: what batches of spans and of log records
 -- share [opentelemetry/proto/trace/v1/trace.proto, logs/v1/logs.proto].
 use Rattle.std.specs.Prelude.{List, [], ◌∷◌, ◌++◌, map, ℕ, Bool, codes, if◌then◌else◌, filter}
 use Rattle.std.specs.List.{list_any}
@@ -34,6 +34,11 @@ module _ {R : Type 0} (scope_of : R → Scope) where
       ∷ list_member name (map value_of (filter (is_of of) records))
       ++ text_if_given (codes "schemaUrl") of.schema_url)
 
+  -- this group of the scope of a record, unless a record before it is of that scope
+  abbrev pub new_group : (R → Data) → List ℕ → List R → List R → R → List Data
+  new_group value_of name records before r =
+      map (scope_group value_of name records) (new_scope before r)
+
 -- ---- resources
 -- the groups of one resource (the protocol's `ResourceSpans` and `ResourceLogs`)
 abbrev pub resource_group : Parts → List ℕ → List Data → Data
@@ -41,3 +46,27 @@ resource_group of name groups =
     object_of ((codes "resource", resource of)
     ∷ list_member name groups
     ++ text_if_given (codes "schemaUrl") of.schema_url)
+
+-- ---- batches
+-- the form of a batch of items: the scope and the value of an item, and the names of the lists of
+-- resources, of a resource's scopes and of a scope's items
+pub record BatchForm (R : Type 0) : Type 0 where
+  pub scope_of : R → Scope
+  pub value_of : R → Data
+  pub resources : List ℕ
+  pub scopes : List ℕ
+  pub items : List ℕ
+
+module _ {R : Type 0} (form : BatchForm R) where
+  -- the items of the scope among these, in order, with the scope
+  abbrev pub scope_value : List R → Scope → Data
+  scope_value = scope_group form.scope_of form.value_of form.items
+
+  -- the items of one resource, the scopes in the order in which they first appear
+  abbrev pub resource_value : Parts → List R → Data
+  resource_value of items =
+      resource_group of form.scopes (map (scope_value items) (first_scopes form.scope_of [] items))
+
+  -- a batch of items of one resource, as one object (the protocol's `TracesData` and `LogsData`)
+  abbrev pub batch_value : Parts → List R → Data
+  batch_value of items = object_of (list_member form.resources (resource_value of items ∷ []))

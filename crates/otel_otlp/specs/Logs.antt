@@ -13,7 +13,8 @@ use Rattle.otel_sdk_base.specs.Resource.{Parts}
 use Rattle.serde_json.specs.Data.{Data}
 use Rattle.otel_otlp.specs.Common.{pair, tree_value}
 use Rattle.otel_otlp.specs.Groups as groups
-use Rattle.otel_otlp.specs.Json.{Member, object_of, text_member, list_member, text_if_given}
+use Rattle.otel_otlp.specs.Groups.{BatchForm}
+use Rattle.otel_otlp.specs.Json.{Member, object_of, text_member, text_if_given}
 use Rattle.otel_otlp.specs.Json.{decimal_member, number_if_given, decimal_if_given}
 use Rattle.otel_otlp.specs.Json.{number_unless_zero, list_unless_empty}
 use Rattle.otel_otlp.specs.Json.{trace_id_text, span_id_text}
@@ -80,20 +81,20 @@ scope_of e = e.scope
 abbrev pub value_of : LogEntry → Data
 value_of e = log_record e.log
 
--- the records of the scope among these, in order, with the scope
-abbrev pub scope_logs : List LogEntry → Scope → Data
-scope_logs = groups.scope_group scope_of value_of (codes "logRecords")
+-- the form of a batch of log records
+abbrev pub form : BatchForm LogEntry
+form = record {
+  scope_of = scope_of;
+  value_of = value_of;
+  resources = codes "resourceLogs";
+  scopes = codes "scopeLogs";
+  items = codes "logRecords";
+}
 
--- the records of one resource, the scopes in the order in which they first appear
-abbrev pub resource_logs : Parts → List LogEntry → Data
-resource_logs of entries =
-    groups.resource_group of (codes "scopeLogs")
-    (map (scope_logs entries) (groups.first_scopes scope_of [] entries))
-
--- a batch of log records of one resource, as one object
+-- a batch of log records of one resource, as one object: the scopes in the order in which they
+-- first appear, under each its records in order
 abbrev pub logs_data : Parts → List LogEntry → Data
-logs_data of entries =
-    object_of (list_member (codes "resourceLogs") (resource_logs of entries ∷ []))
+logs_data = groups.batch_value form
 
 -- ---- worked rows
 -- a record of which only the time of its observation is known

@@ -13,11 +13,12 @@ use Rattle.otel_sdk_span.specs.SpanData.{SpanRecord}
 use Rattle.otel_sdk_base.specs.Resource.{Parts}
 use Rattle.serde_json.specs.Data.{Data}
 use Rattle.otel_otlp.specs.Json.{Member, object_of, text_member, number_member, decimal_member}
-use Rattle.otel_otlp.specs.Json.{list_member, text_unless_empty}
+use Rattle.otel_otlp.specs.Json.{text_unless_empty}
 use Rattle.otel_otlp.specs.Json.{number_unless_zero, list_unless_empty}
 use Rattle.otel_otlp.specs.Json.{trace_id_text, span_id_text}
 use Rattle.otel_otlp.specs.Common.{attributes_member}
 use Rattle.otel_otlp.specs.Groups as groups
+use Rattle.otel_otlp.specs.Groups.{BatchForm}
 
 -- ---- Span.Event
 abbrev pub event : EventRecord → Data
@@ -121,20 +122,27 @@ span s = object_of (identity s ++ work s ++ records s ++ losses s)
 abbrev pub scope_of : SpanRecord → Scope
 scope_of s = s.scope
 
+-- the form of a batch of spans
+abbrev pub form : BatchForm SpanRecord
+form = record {
+  scope_of = scope_of;
+  value_of = span;
+  resources = codes "resourceSpans";
+  scopes = codes "scopeSpans";
+  items = codes "spans";
+}
+
 -- the spans of the scope among these, in order, with the scope
 abbrev pub scope_spans : List SpanRecord → Scope → Data
-scope_spans = groups.scope_group scope_of span (codes "spans")
+scope_spans = groups.scope_value form
 
 -- the spans of one resource, the scopes in the order in which they first appear
 abbrev pub resource_spans : Parts → List SpanRecord → Data
-resource_spans of spans =
-    groups.resource_group of (codes "scopeSpans")
-    (map (scope_spans spans) (groups.first_scopes scope_of [] spans))
+resource_spans = groups.resource_value form
 
 -- a batch of spans of one resource, as one object
 abbrev pub traces_data : Parts → List SpanRecord → Data
-traces_data of spans =
-    object_of (list_member (codes "resourceSpans") (resource_spans of spans ∷ []))
+traces_data = groups.batch_value form
 
 -- ---- worked rows
 remote_example : flags 3 true ≡ 771

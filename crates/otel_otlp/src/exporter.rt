@@ -1,75 +1,108 @@
-//! An exporter that writes a line of JSON for each batch of spans.
+//! An exporter that writes a line of JSON for each batch of spans or of log records.
 ghost use Rattle.std.specs.Prelude.{◌≡◌, ℕ, List, [], ◌∷◌, ◌++◌, true, false};
 ghost use Rattle.std.specs.Prelude.{IsTrue, IsOk, IfOk, OnOk, OnErr, IsErrOf, alloc_error};
 ghost use Rattle.std.specs.Rc.{rc_value};
-ghost use Rattle.otel_sdk_base.specs.Resource as resource;
-ghost use Rattle.otel_otlp.specs.Exporter.{Takes, IsLineOf, IsTornLineOf};
+ghost use Rattle.otel_otlp.specs.Exporter.{initial, Writes, IsLineOf, IsCutOffLineOf};
+ghost use Rattle.otel_otlp.specs.Exporter.{RefusesIfShutDown, ForceFlushes, ShutsDown};
 
+use crate::groups::{Grouped, batch_text};
 use crate::lines::Lines;
-use crate::traces::traces_text;
 use otel_sdk_base::error::{OTelSdkError, OTelSdkResult};
 use otel_sdk_base::resource::Resource;
-use otel_sdk_span::{Accepted, Batch, SpanData, SpanExporter};
+use otel_sdk_base::{Accepted, Exporter};
+use otel_sdk_logs::LogData;
+use otel_sdk_span::SpanData;
 use std::alloc::{AllocError, Global};
 use std::io::Write;
 use std::marker::Model;
 use std::rc::Rc;
 
-/// Writes each batch as a line of JSON, in the form of the OpenTelemetry protocol's file exporter.
+/// Writes each batch as a line of JSON, in the form of the OpenTelemetry protocol's file exporter:
+/// for a file that a collector reads, or for a program's output.
+///
+/// ```
+/// let mut exporter = OtlpJsonSpanExporter::new(alloc, writer)?;
+/// exporter.set_resource(resource);
+/// exporter.export(batch)?;
+/// ```
 ///
 /// A line is made in memory, and handed to the writer, which should have no buffer. The batch is
-/// accepted exactly if the writer took every byte of its object. If it took some bytes of a line
-/// but not the `\n`, the exporter writes that one before the next line, at a flush and at a
-/// shutdown. So a torn line is a line of its own, and no span can be read twice.
+/// accepted exactly if the writer took every byte of its object. If a line was cut off, its missing
+/// newline is written before the next line, on flush and on shutdown, so the fragment is a line by
+/// itself, and no item can be read twice.
 ///
-/// Contracts see the batches that it has accepted, the writer, the resource of the spans to come,
-/// whether it owes the end of a line, and whether it was shut down.
+/// Contracts see the batches that it has accepted, the writer, whether a newline is pending, the
+/// resource of the items to come, and whether it was shut down.
 #[derive(Drop)]
-pub struct OtlpJsonSpanExporter<W> {
+pub struct OtlpJsonExporter<W, R> {
     lines: Lines<W>,
     alloc: Global,
     resource: Rc<Resource>,
     is_shut_down: bool,
-    accepted: Accepted,
+    accepted: Accepted<R>,
 }
 
-impl<W> Model for OtlpJsonSpanExporter<W> {
-    ghost use Rattle.std.specs.Rc.{rc_value};
-    ghost use Rattle.otel_otlp.specs.Exporter.{SpanLines};
+/// Writes each batch of spans as a line of JSON.
+pub type OtlpJsonSpanExporter<W> = OtlpJsonExporter<W, SpanData>;
 
-    ghost Value = { SpanLines W };
+/// Writes each batch of log records as a line of JSON.
+pub type OtlpJsonLogExporter<W> = OtlpJsonExporter<W, LogData>;
+
+impl<W, R> Model for OtlpJsonExporter<W, R> {
+    ghost use Rattle.std.specs.Rc.{rc_value};
+    ghost use Rattle.otel_otlp.specs.Exporter.{Exporting};
+
+    ghost Value = { Exporting W R };
 
     ghost view = { λ e. record {
       accepted = e.accepted.batches;
-      writer = e.lines.writer;
+      lines = e.lines;
       resource = rc_value e.resource;
-      owes_line_end = e.lines.owes_line_end;
       is_shut_down = e.is_shut_down;
     } };
 }
 
-impl<W: Write> OtlpJsonSpanExporter<W> {
-    /// Returns an exporter to the writer. Spans have no resource until one is set.
+// Writes the line of the batch, if it has items.
+fn write_batch<W: Write, R: Grouped>(
+    lines: &mut Lines<W>,
+    alloc: Global,
+    resource: &Resource,
+    batch: &[R],
+) -> OTelSdkResult
+    ensures line { OnOk result ((line : List ℕ)
+        × IsLineOf R.form resource.now batch.now line
+        × Writes W.contents lines.old lines.new line) }
+    ensures cut { OnErr result ((line : List ℕ)
+        × IsCutOffLineOf R.form resource.now batch.now line
+        × Writes W.contents lines.old lines.new line) }
+    ensures memory { IsErrOf result (OTelSdkError.Memory alloc_error)
+        → lines.new ≡ lines.old }
+    ensures open { IsErrOf result OTelSdkError.AlreadyShutdown → ⊥ }
+    ensures empty { batch.now ≡ [] → IsOk result }
+{
+    if batch.is_empty() {
+        return Ok(());
+    }
+    let text = batch_text(alloc, resource, batch)?;
+    lines.write_line(alloc, text.as_str())
+}
+
+impl<W: Write, R> OtlpJsonExporter<W, R> {
+    /// Returns an exporter to the writer. Items have no resource until one is set.
     ///
     /// # Errors
     ///
     /// `AllocError` if out of memory. The writer is dropped.
-    pub fn new(alloc: Global, writer: W) -> Result<OtlpJsonSpanExporter<W>, AllocError>
+    pub fn new(alloc: Global, writer: W) -> Result<OtlpJsonExporter<W, R>, AllocError>
     where
         W: Drop,
-        ensures { IfOk result (λ exporter. exporter ≡ record {
-          accepted = [];
-          writer = writer;
-          resource = resource.empty;
-          owes_line_end = false;
-          is_shut_down = false;
-        }) }
+        ensures { IfOk result (λ exporter. exporter ≡ initial writer) }
     {
         let resource = Resource::builder_empty(alloc).build();
-        Ok(OtlpJsonSpanExporter {
+        Ok(OtlpJsonExporter {
             lines: Lines {
                 writer,
-                owes_line_end: false,
+                newline_is_pending: false,
             },
             alloc,
             resource: Rc::new(alloc, resource)?,
@@ -80,46 +113,19 @@ impl<W: Write> OtlpJsonSpanExporter<W> {
 
     /// Returns the writer.
     pub fn get_ref(&self) -> &W
-        ensures { result.now ≡ self.now.writer }
+        ensures { result.now ≡ self.now.lines.writer }
     {
         &self.lines.writer
     }
-
-    // Writes the line of the batch, if it has spans.
-    fn write_batch(&mut self, batch: &[SpanData]) -> OTelSdkResult
-        ensures rest { self.new ≡ record self.old {
-          writer = self.new.writer;
-          owes_line_end = self.new.owes_line_end;
-        } }
-        ensures line { OnOk result ((line : List ℕ)
-            × IsLineOf self.old.resource batch.now line
-            × Takes (W.contents self.old.writer) (W.contents self.new.writer)
-            self.old.owes_line_end self.new.owes_line_end line) }
-        ensures torn { OnErr result ((torn : List ℕ)
-            × IsTornLineOf self.old.resource batch.now torn
-            × Takes (W.contents self.old.writer) (W.contents self.new.writer)
-            self.old.owes_line_end self.new.owes_line_end torn) }
-        ensures memory { IsErrOf result (OTelSdkError.Memory alloc_error)
-            → self.new ≡ self.old }
-        ensures open { IsErrOf result OTelSdkError.AlreadyShutdown → ⊥ }
-        ensures empty { batch.now ≡ [] → IsOk result }
-    {
-        if batch.is_empty() {
-            return Ok(());
-        }
-        let text = traces_text(self.alloc, &self.resource, batch)?;
-        self.lines.write_line(self.alloc, text.as_str())
-    }
 }
 
-impl<W: Write + Drop> SpanExporter for OtlpJsonSpanExporter<W> {
+impl<W: Write + Drop, R: Grouped> Exporter<R> for OtlpJsonExporter<W, R> {
     ghost use Rattle.std.specs.Prelude.{◌≡◌, true};
 
     ghost accepted = { λ e. e.accepted };
 
     ghost shuts_down = { λ old left. left ≡ record old {
-      writer = left.writer;
-      owes_line_end = left.owes_line_end;
+      lines = left.lines;
       is_shut_down = true;
     } };
 
@@ -127,70 +133,52 @@ impl<W: Write + Drop> SpanExporter for OtlpJsonSpanExporter<W> {
     ///
     /// # Errors
     ///
-    /// `AlreadyShutdown` after [`SpanExporter::shutdown`]; `Memory` if out of memory: nothing is
-    /// written then. `InternalFailure` if the writer didn't take the missing line end, or every
-    /// byte of the object. What it took stays there as a torn line.
-    fn export(&mut self, batch: &[SpanData]) -> OTelSdkResult
+    /// `AlreadyShutdown` after [`Exporter::shutdown`]; `Memory` if out of memory: nothing is
+    /// written then. `InternalFailure` if the writer didn't take the pending newline, or every byte
+    /// of the object. What it took stays there as a line that was cut off.
+    fn export(&mut self, batch: &[R]) -> OTelSdkResult
         ensures ok { OnOk result (self.new.accepted ≡ self.old.accepted ++ batch.now ∷ []) }
         ensures err { OnErr result (self.new.accepted ≡ self.old.accepted) }
-        ensures closed { IsTrue self.old.is_shut_down
-            → IsErrOf result OTelSdkError.AlreadyShutdown }
-        ensures open { IsErrOf result OTelSdkError.AlreadyShutdown
-            → IsTrue self.old.is_shut_down }
-        ensures unchanged { IsTrue self.old.is_shut_down → self.new ≡ self.old }
+        ensures refused { RefusesIfShutDown result self.old self.new }
         ensures memory { IsErrOf result (OTelSdkError.Memory alloc_error)
             → self.new ≡ self.old }
         ensures empty { self.old.is_shut_down ≡ false → batch.now ≡ [] → IsOk result }
         ensures line { OnOk result ((line : List ℕ)
-            × IsLineOf self.old.resource batch.now line
-            × Takes (W.contents self.old.writer) (W.contents self.new.writer)
-            self.old.owes_line_end self.new.owes_line_end line) }
-        ensures torn { OnErr result ((torn : List ℕ)
-            × IsTornLineOf self.old.resource batch.now torn
-            × Takes (W.contents self.old.writer) (W.contents self.new.writer)
-            self.old.owes_line_end self.new.owes_line_end torn) }
+            × IsLineOf R.form self.old.resource batch.now line
+            × Writes W.contents self.old.lines self.new.lines line) }
+        ensures cut { OnErr result ((line : List ℕ)
+            × IsCutOffLineOf R.form self.old.resource batch.now line
+            × Writes W.contents self.old.lines self.new.lines line) }
         ensures rest { self.new ≡ record self.old {
           accepted = self.new.accepted;
-          writer = self.new.writer;
-          owes_line_end = self.new.owes_line_end;
+          lines = self.new.lines;
         } }
     {
         if self.is_shut_down {
             return Err(OTelSdkError::AlreadyShutdown);
         }
-        self.write_batch(batch)?;
-        self.accepted = self.accepted.and(&Batch { spans: batch });
+        write_batch(&mut self.lines, self.alloc, &self.resource, batch)?;
+        self.accepted = self.accepted.and(batch);
         Ok(())
     }
 
-    /// Pays the line end that is owed, and flushes the writer.
+    /// Writes the newline that is pending, and flushes the writer.
     ///
     /// # Errors
     ///
-    /// `AlreadyShutdown` after [`SpanExporter::shutdown`]; `InternalFailure` if the writer failed;
+    /// `AlreadyShutdown` after [`Exporter::shutdown`]; `InternalFailure` if the writer failed;
     /// `Memory` if it failed and memory ran out too.
     fn force_flush(&mut self) -> OTelSdkResult
         ensures same { self.new.accepted ≡ self.old.accepted }
-        ensures closed { IsTrue self.old.is_shut_down
-            → IsErrOf result OTelSdkError.AlreadyShutdown }
-        ensures open { IsErrOf result OTelSdkError.AlreadyShutdown
-            → IsTrue self.old.is_shut_down }
-        ensures unchanged { IsTrue self.old.is_shut_down → self.new ≡ self.old }
-        ensures paid { OnOk result (self.new.owes_line_end ≡ false) }
-        ensures takes { Takes (W.contents self.old.writer) (W.contents self.new.writer)
-            self.old.owes_line_end self.new.owes_line_end [] }
-        ensures rest { self.new ≡ record self.old {
-          writer = self.new.writer;
-          owes_line_end = self.new.owes_line_end;
-        } }
+        ensures flushes { ForceFlushes W.contents result self.old self.new }
     {
         if self.is_shut_down {
             return Err(OTelSdkError::AlreadyShutdown);
         }
-        self.lines.settle(self.alloc)
+        self.lines.flush(self.alloc)
     }
 
-    /// Writes the missing line end, flushes the writer, and refuses every later call.
+    /// Writes the newline that is pending, flushes the writer, and refuses every later call.
     ///
     /// # Errors
     ///
@@ -198,24 +186,16 @@ impl<W: Write + Drop> SpanExporter for OtlpJsonSpanExporter<W> {
     /// failed and memory ran out too.
     fn shutdown(&mut self) -> OTelSdkResult
         ensures down { self.new ≡ record self.old {
-          writer = self.new.writer;
-          owes_line_end = self.new.owes_line_end;
+          lines = self.new.lines;
           is_shut_down = true;
         } }
-        ensures closed { IsTrue self.old.is_shut_down
-            → IsErrOf result OTelSdkError.AlreadyShutdown }
-        ensures open { IsErrOf result OTelSdkError.AlreadyShutdown
-            → IsTrue self.old.is_shut_down }
-        ensures unchanged { IsTrue self.old.is_shut_down → self.new ≡ self.old }
-        ensures paid { OnOk result (self.new.owes_line_end ≡ false) }
-        ensures takes { Takes (W.contents self.old.writer) (W.contents self.new.writer)
-            self.old.owes_line_end self.new.owes_line_end [] }
+        ensures flushes { ShutsDown W.contents result self.old self.new }
     {
         if self.is_shut_down {
             return Err(OTelSdkError::AlreadyShutdown);
         }
         self.is_shut_down = true;
-        self.lines.settle(self.alloc)
+        self.lines.flush(self.alloc)
     }
 
     /// Writes this resource with the batches to come.

@@ -1,41 +1,61 @@
 //! Records under their scopes, and these under a resource: what the messages of traces and of logs
 //! share.
-ghost use Rattle.std.specs.Prelude.{◌≡◌, [], ◌∷◌, ◌++◌, IfOk, OnOk, map, filter};
+ghost use Rattle.std.specs.Prelude.{◌≡◌, [], ◌∷◌, ◌++◌, IfOk, OnOk, map, filter, string_bytes};
 ghost use Rattle.std.specs.List.{list_any};
 ghost use Rattle.serde_json.specs.View.{view};
 ghost use Rattle.otel_otlp.specs.Groups as spec;
-ghost use Rattle.otel_otlp.specs.Json.{object_of, list_member};
+ghost use Rattle.otel_otlp.specs.Json.{object_of, list_member, IsTextOf};
 
 use crate::common::{instrumentation_scope, resource};
-use crate::object::{put_list, put_text_if_given};
+use crate::object::{put_list, put_text_if_given, to_text};
 use opentelemetry::InstrumentationScope;
 use otel_sdk_base::resource::Resource;
 use serde_json::{Map, Value, put};
 use std::alloc::{AllocError, Global};
 
-/// A record of a batch: a span or a log record.
-pub(crate) trait Grouped {
+/// The names of the lists in the object of a batch.
+#[derive(Clone, Copy, Drop)]
+pub struct ListNames {
+    /// The list of resources.
+    pub resources: &'static str,
+    /// The list of a resource's scopes.
+    pub scopes: &'static str,
+    /// The list of a scope's items.
+    pub items: &'static str,
+}
+
+/// An item of a batch: a span or a log record.
+///
+/// It names, by a ghost member, the form that the protocol gives to a batch of such items.
+pub trait Grouped: Drop {
     ghost use Rattle.std.specs.Prelude.{◌≡◌, IfOk};
-    ghost use Rattle.otel_base.specs.InstrumentationScope.{Scope};
-    ghost use Rattle.serde_json.specs.Data.{Data};
     ghost use Rattle.serde_json.specs.View.{view};
+    ghost use Rattle.otel_otlp.specs.Groups.{BatchForm};
 
-    ghost scope_of: { Self → Scope };
-
-    ghost value_of: { Self → Data };
+    ghost form: { BatchForm Self };
 
     /// Returns the scope.
     fn scope(&self) -> &InstrumentationScope
-        ensures { result.now ≡ scope_of self.now };
+        ensures { result.now ≡ form.scope_of self.now };
 
-    /// Returns the message of the record.
+    /// Returns the message of the item.
+    ///
+    /// # Errors
+    ///
+    /// `AllocError` if out of memory.
     fn value(&self, alloc: Global) -> Result<Value, AllocError>
-        ensures { IfOk result (λ v. view v ≡ value_of self.now) };
+        ensures { IfOk result (λ v. view v ≡ form.value_of self.now) };
+
+    /// Returns the names of the lists in the object of a batch.
+    fn list_names() -> ListNames
+        ensures resources { result.resources.now ≡ form.resources }
+        ensures scopes { result.scopes.now ≡ form.scopes }
+        ensures items { result.items.now ≡ form.items };
 }
 
 /// Returns whether the record is of the scope.
 fn is_of<R: Grouped>(scope: &InstrumentationScope, item: &R) -> bool
-    ensures { result ≡ spec.is_of R.scope_of scope.now item.now }
+    ensures { result ≡ spec.is_of R.form.scope_of scope.now item.now }
 {
     *item.scope() == *scope
 }
@@ -47,7 +67,7 @@ fn records_of<R: Grouped>(
     scope: &InstrumentationScope,
 ) -> Result<Vec<Value>, AllocError>
     ensures { IfOk result (λ v. map view v.items
-        ≡ map R.value_of (filter (spec.is_of R.scope_of scope.now) batch.now)) }
+        ≡ map R.form.value_of (filter (spec.is_of R.form.scope_of scope.now) batch.now)) }
 {
     let mut values = Vec::new(alloc);
     for item in batch {
@@ -66,7 +86,7 @@ fn scope_group<R: Grouped>(
     scope: &InstrumentationScope,
 ) -> Result<Value, AllocError>
     ensures { IfOk result (λ v. view v
-        ≡ spec.scope_group R.scope_of R.value_of name.now batch.now scope.now) }
+        ≡ spec.scope_group R.form.scope_of R.form.value_of name.now batch.now scope.now) }
 {
     let mut members = Map::new(alloc);
     let of = instrumentation_scope(alloc, scope)?;
@@ -79,7 +99,7 @@ fn scope_group<R: Grouped>(
 
 /// Returns whether one of the records is of the scope.
 fn appears<R: Grouped>(scope: &InstrumentationScope, records: &[R]) -> bool
-    ensures { result ≡ list_any (spec.is_of R.scope_of scope.now) records.now }
+    ensures { result ≡ list_any (spec.is_of R.form.scope_of scope.now) records.now }
 {
     records.iter().any(|item| is_of(scope, item))
 }
@@ -94,8 +114,7 @@ fn add_group<R: Grouped>(
     item: &R,
 ) -> Result<(), AllocError>
     ensures { OnOk result (map view values.new.items ≡ map view values.old.items
-        ++ map (spec.scope_group R.scope_of R.value_of name.now batch.now)
-        (spec.new_scope R.scope_of before.now item.now)) }
+        ++ spec.new_group R.form.scope_of R.form.value_of name.now batch.now before.now item.now) }
 {
     if appears(item.scope(), before) {
         return Ok(());
@@ -107,14 +126,10 @@ fn add_group<R: Grouped>(
 
 /// Returns the records of each scope under this name, the scopes in the order in which they first
 /// appear.
-pub(crate) fn groups<R: Grouped>(
-    alloc: Global,
-    name: &str,
-    batch: &[R],
-) -> Result<Vec<Value>, AllocError>
+fn groups<R: Grouped>(alloc: Global, name: &str, batch: &[R]) -> Result<Vec<Value>, AllocError>
     ensures { IfOk result (λ v. map view v.items
-        ≡ map (spec.scope_group R.scope_of R.value_of name.now batch.now)
-        (spec.first_scopes R.scope_of [] batch.now)) }
+        ≡ map (spec.scope_group R.form.scope_of R.form.value_of name.now batch.now)
+        (spec.first_scopes R.form.scope_of [] batch.now)) }
 {
     let mut values = Vec::new(alloc);
     for (place, item) in batch.iter().enumerate() {
@@ -124,7 +139,7 @@ pub(crate) fn groups<R: Grouped>(
 }
 
 /// Returns the groups of the resource (the protocol's `ResourceSpans`, `ResourceLogs`).
-pub(crate) fn resource_group(
+fn resource_group(
     alloc: Global,
     of: &Resource,
     name: &str,
@@ -141,9 +156,8 @@ pub(crate) fn resource_group(
     Ok(Value::from(members))
 }
 
-/// Returns the object that has a list of this one value under the name (the protocol's
-/// `TracesData`, `LogsData`).
-pub(crate) fn list_of_one(alloc: Global, name: &str, value: Value) -> Result<Value, AllocError>
+/// Returns the object that has a list of this one value under the name.
+fn list_of_one(alloc: Global, name: &str, value: Value) -> Result<Value, AllocError>
     ensures { IfOk result (λ v. view v ≡ object_of (list_member name.now (view value ∷ []))) }
 {
     let mut members = Map::new(alloc);
@@ -151,4 +165,31 @@ pub(crate) fn list_of_one(alloc: Global, name: &str, value: Value) -> Result<Val
     list.push(value)?;
     put_list(&mut members, alloc, name, list)?;
     Ok(Value::from(members))
+}
+
+/// Returns a batch of items of one resource (the protocol's `TracesData`, `LogsData`).
+pub(crate) fn batch_value<R: Grouped>(
+    alloc: Global,
+    resource: &Resource,
+    batch: &[R],
+) -> Result<Value, AllocError>
+    ensures { IfOk result (λ v. view v ≡ spec.batch_value R.form resource.now batch.now) }
+{
+    let names = R::list_names();
+    let groups = groups(alloc, names.items, batch)?;
+    let value = resource_group(alloc, resource, names.scopes, groups)?;
+    list_of_one(alloc, names.resources, value)
+}
+
+/// Returns a batch of items of one resource as one JSON object, without a line break.
+pub(crate) fn batch_text<R: Grouped>(
+    alloc: Global,
+    resource: &Resource,
+    batch: &[R],
+) -> Result<String, AllocError>
+    ensures { IfOk result (λ s.
+        IsTextOf (string_bytes s) (spec.batch_value R.form resource.now batch.now)) }
+{
+    let value = batch_value(alloc, resource, batch)?;
+    to_text(alloc, &value)
 }

@@ -1,84 +1,81 @@
-//! Lines handed to a writer: each is whole, or stands alone as a torn one.
+//! Lines handed to a writer: each is whole, or stands by itself as one that was cut off.
 ghost use Rattle.std.specs.Prelude.{◌≡◌, ◌++◌, ◌∷◌, ℕ, List, [], true, false};
 ghost use Rattle.std.specs.Prelude.{IsTrue, OnOk, OnErr, IsErrOf, alloc_error};
-ghost use Rattle.otel_otlp.specs.Exporter.{Takes, IsTorn};
+ghost use Rattle.otel_otlp.specs.Exporter.{Writes, Flushes, IsCutOff};
 
 use crate::written::write_bytes;
 use otel_sdk_base::error::{OTelSdkError, OTelSdkResult};
 use std::alloc::Global;
 use std::io::Write;
 
-/// A writer of lines, and whether it lacks the end of one.
+/// A writer of lines, and whether the newline of the last one is still to be written.
 #[derive(Drop)]
-pub(crate) struct Lines<W> {
-    pub(crate) writer: W,
-    pub(crate) owes_line_end: bool,
+pub struct Lines<W> {
+    /// The writer.
+    pub writer: W,
+    /// Whether it lacks the newline of its last line.
+    pub newline_is_pending: bool,
 }
 
 impl<W: Write> Lines<W> {
-    // Writes the missing line end, and returns whether none is missing any more.
-    fn pay(&mut self) -> bool
-        ensures paid { IsTrue result → self.new.owes_line_end ≡ false }
-        ensures takes { Takes (W.contents self.old.writer) (W.contents self.new.writer)
-            self.old.owes_line_end self.new.owes_line_end [] }
+    // Writes the newline that is pending, and returns whether none is pending any more.
+    fn write_pending_newline(&mut self) -> bool
+        ensures written { IsTrue result → self.new.newline_is_pending ≡ false }
+        ensures writes { Writes W.contents self.old self.new [] }
     {
-        if self.owes_line_end && write_bytes(&mut self.writer, b"\n") == 1 {
-            self.owes_line_end = false;
+        if self.newline_is_pending && write_bytes(&mut self.writer, b"\n") == 1 {
+            self.newline_is_pending = false;
         }
-        !self.owes_line_end
+        !self.newline_is_pending
     }
 
-    // Writes the text, and returns whether the writer took all of it. Owes the line end from its
-    // first byte on.
+    // Writes the text, and returns whether the writer took all of it. The newline is pending from
+    // its first byte on.
     fn write_object(&mut self, text: &str) -> bool
-        requires { self.old.owes_line_end ≡ false }
-        ensures whole { IsTrue result → Takes (W.contents self.old.writer)
-            (W.contents self.new.writer) false self.new.owes_line_end (text.now ++ 10 ∷ []) }
-        ensures torn { result ≡ false → (torn : List ℕ) × IsTorn text.now torn
-            × Takes (W.contents self.old.writer) (W.contents self.new.writer) false
-            self.new.owes_line_end torn }
+        requires { self.old.newline_is_pending ≡ false }
+        ensures whole { IsTrue result
+            → Writes W.contents self.old self.new (text.now ++ 10 ∷ []) }
+        ensures cut { result ≡ false → (line : List ℕ) × IsCutOff text.now line
+            × Writes W.contents self.old self.new line }
     {
         let count = write_bytes(&mut self.writer, text.as_bytes());
-        self.owes_line_end = count > 0;
-        self.owes_line_end && count == text.len()
+        self.newline_is_pending = count > 0;
+        self.newline_is_pending && count == text.len()
     }
 
-    /// Pays the line end that is owed, and writes the text as a line.
+    /// Writes the newline that is pending, and the text as a line.
     ///
     /// # Errors
     ///
     /// `Memory` if out of memory: nothing is written. `InternalFailure` if the writer didn't take
-    /// the missing line end, or every byte of the text. What it took stays there as a torn line.
+    /// the pending newline, or every byte of the text. What it took stays there as a line that was
+    /// cut off.
     pub(crate) fn write_line(&mut self, alloc: Global, text: &str) -> OTelSdkResult
-        ensures ok { OnOk result (Takes (W.contents self.old.writer) (W.contents self.new.writer)
-            self.old.owes_line_end self.new.owes_line_end (text.now ++ 10 ∷ [])) }
-        ensures err { OnErr result ((torn : List ℕ) × IsTorn text.now torn
-            × Takes (W.contents self.old.writer) (W.contents self.new.writer)
-            self.old.owes_line_end self.new.owes_line_end torn) }
+        ensures ok { OnOk result
+            (Writes W.contents self.old self.new (text.now ++ 10 ∷ [])) }
+        ensures err { OnErr result ((line : List ℕ) × IsCutOff text.now line
+            × Writes W.contents self.old self.new line) }
         ensures memory { IsErrOf result (OTelSdkError.Memory alloc_error)
             → self.new ≡ self.old }
         ensures open { IsErrOf result OTelSdkError.AlreadyShutdown → ⊥ }
     {
         let message = String::from_str(alloc, "the writer didn't take the line")?;
-        if !self.pay() || !self.write_object(text) {
+        if !self.write_pending_newline() || !self.write_object(text) {
             return Err(OTelSdkError::InternalFailure(message));
         }
-        self.pay();
+        self.write_pending_newline();
         Ok(())
     }
 
-    /// Pays the line end that is owed, and flushes the writer.
+    /// Writes the newline that is pending, and flushes the writer.
     ///
     /// # Errors
     ///
     /// `InternalFailure` if the writer failed; `Memory` if it failed and memory ran out too.
-    pub(crate) fn settle(&mut self, alloc: Global) -> OTelSdkResult
-        ensures paid { OnOk result (self.new.owes_line_end ≡ false) }
-        ensures takes { Takes (W.contents self.old.writer) (W.contents self.new.writer)
-            self.old.owes_line_end self.new.owes_line_end [] }
-        ensures open { IsErrOf result OTelSdkError.AlreadyShutdown → ⊥ }
+    pub(crate) fn flush(&mut self, alloc: Global) -> OTelSdkResult
+        ensures { Flushes W.contents result self.old self.new }
     {
-        if self.pay() && self.writer.flush().is_ok() {
+        if self.write_pending_newline() && self.writer.flush().is_ok() {
             return Ok(());
         }
         let message = String::from_str(alloc, "the writer failed")?;

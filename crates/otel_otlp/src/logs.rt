@@ -9,17 +9,17 @@ ghost use Rattle.otel_otlp.specs.Logs as spec;
 ghost use Rattle.otel_otlp.specs.View.{Adds};
 
 use crate::common::{pair, text_value};
-use crate::groups::{Grouped, groups, list_of_one, resource_group};
+use crate::groups::{Grouped, ListNames, batch_text, batch_value};
 use crate::object::{
     Members, put_decimal_if_given, put_list_unless_empty, put_number, put_number_if_given,
-    put_number_unless_zero, put_span_id, put_text, put_trace_id, to_text,
+    put_number_unless_zero, put_span_id, put_text, put_trace_id,
 };
 use crate::trees::tree_value;
 use opentelemetry::logs::{AnyValue, Severity};
 use opentelemetry::trace::TraceFlags;
 use opentelemetry::{InstrumentationScope, Key, StringValue};
-use otel_sdk_logs::{LogData, SdkLogRecord, TraceContext};
 use otel_sdk_base::resource::Resource;
+use otel_sdk_logs::{LogData, SdkLogRecord, TraceContext};
 use serde_json::{Map, Value, put};
 use std::alloc::{AllocError, Global};
 
@@ -195,9 +195,7 @@ fn log_record(alloc: Global, log: &SdkLogRecord) -> Result<Value, AllocError>
 impl Grouped for LogData {
     ghost use Rattle.otel_otlp.specs.Logs as spec;
 
-    ghost scope_of = { spec.scope_of };
-
-    ghost value_of = { spec.value_of };
+    ghost form = { spec.form };
 
     fn scope(&self) -> &InstrumentationScope {
         &self.instrumentation_scope
@@ -205,6 +203,14 @@ impl Grouped for LogData {
 
     fn value(&self, alloc: Global) -> Result<Value, AllocError> {
         log_record(alloc, &self.record)
+    }
+
+    fn list_names() -> ListNames {
+        ListNames {
+            resources: "resourceLogs",
+            scopes: "scopeLogs",
+            items: "logRecords",
+        }
     }
 }
 
@@ -219,9 +225,7 @@ impl Grouped for LogData {
 pub fn logs_data(alloc: Global, resource: &Resource, batch: &[LogData]) -> Result<Value, AllocError>
     ensures { IfOk result (λ v. view v ≡ spec.logs_data resource.now batch.now) }
 {
-    let groups = groups(alloc, "logRecords", batch)?;
-    let value = resource_group(alloc, resource, "scopeLogs", groups)?;
-    list_of_one(alloc, "resourceLogs", value)
+    batch_value(alloc, resource, batch)
 }
 
 /// Returns a batch of log records of one resource as one JSON object, without a line break (the
@@ -238,6 +242,5 @@ pub fn logs_text(
     ensures text { IfOk result (λ s.
         IsTextOf (string_bytes s) (spec.logs_data resource.now batch.now)) }
 {
-    let value = logs_data(alloc, resource, batch)?;
-    to_text(alloc, &value)
+    batch_text(alloc, resource, batch)
 }

@@ -7,15 +7,15 @@ ghost use Rattle.otel_otlp.specs.Json.{IsTextOf};
 ghost use Rattle.otel_otlp.specs.View.{Adds};
 
 use crate::common::put_attributes;
-use crate::groups::{Grouped, groups, list_of_one, resource_group};
+use crate::groups::{Grouped, ListNames, batch_text, batch_value};
 use crate::object::{
     Members, put_decimal, put_list_unless_empty, put_number, put_number_unless_zero, put_span_id,
-    put_text, put_text_unless_empty, put_trace_id, to_text,
+    put_text, put_text_unless_empty, put_trace_id,
 };
 use opentelemetry::InstrumentationScope;
 use opentelemetry::trace::{Event, Link, SpanContext, SpanId, SpanKind, Status};
-use otel_sdk_span::SpanData;
 use otel_sdk_base::resource::Resource;
+use otel_sdk_span::SpanData;
 use serde_json::{Map, Value, put};
 use std::alloc::{AllocError, Global};
 
@@ -253,9 +253,7 @@ fn span(alloc: Global, span: &SpanData) -> Result<Value, AllocError>
 impl Grouped for SpanData {
     ghost use Rattle.otel_otlp.specs.Traces as spec;
 
-    ghost scope_of = { spec.scope_of };
-
-    ghost value_of = { spec.span };
+    ghost form = { spec.form };
 
     fn scope(&self) -> &InstrumentationScope {
         &self.instrumentation_scope
@@ -263,6 +261,14 @@ impl Grouped for SpanData {
 
     fn value(&self, alloc: Global) -> Result<Value, AllocError> {
         span(alloc, self)
+    }
+
+    fn list_names() -> ListNames {
+        ListNames {
+            resources: "resourceSpans",
+            scopes: "scopeSpans",
+            items: "spans",
+        }
     }
 }
 
@@ -280,9 +286,7 @@ pub fn traces_data(
 ) -> Result<Value, AllocError>
     ensures { IfOk result (λ v. view v ≡ spec.traces_data resource.now batch.now) }
 {
-    let groups = groups(alloc, "spans", batch)?;
-    let value = resource_group(alloc, resource, "scopeSpans", groups)?;
-    list_of_one(alloc, "resourceSpans", value)
+    batch_value(alloc, resource, batch)
 }
 
 /// Returns a batch of spans of one resource as one JSON object, without a line break (the
@@ -299,6 +303,5 @@ pub fn traces_text(
     ensures text { IfOk result (λ s.
         IsTextOf (string_bytes s) (spec.traces_data resource.now batch.now)) }
 {
-    let value = traces_data(alloc, resource, batch)?;
-    to_text(alloc, &value)
+    batch_text(alloc, resource, batch)
 }

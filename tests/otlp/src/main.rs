@@ -8,10 +8,10 @@ use opentelemetry::trace::{
     Event, Link, SpanContext, SpanId, SpanKind, Status, TraceFlags, TraceId, TraceState,
 };
 use opentelemetry::{Array, InstrumentationScope, Key, KeyValue, StringValue, Value};
+use otel_otlp::OtlpJsonSpanExporter;
 use otel_sdk_base::Exporter;
 use otel_sdk_base::resource::Resource;
 use otel_sdk_span::{SpanData, SpanEvents, SpanLinks};
-use otel_otlp::OtlpJsonSpanExporter;
 use std::alloc::{AllocError, Global};
 use std::io::{self, ErrorKind, Write};
 use std::rc::Rc;

@@ -51,11 +51,11 @@ const RECORDS: [&'static str; 2] = [
 // The last digits of the texts at these places of the whole lines, in order, with how many lines
 // aren't whole.
 fn digits_at(alloc: Global, places: &[&str], bytes: &[u8]) -> Result<(Vec<u8>, usize), Fail> {
-    let (mut digits, mut torn) = (Vec::new(alloc), 0);
+    let (mut digits, mut cut) = (Vec::new(alloc), 0);
     for line in bytes.split(|byte| *byte == b'\n') {
         let text = String::from_utf8_lossy(alloc, line)?;
         let Ok(value) = Value::from_str(alloc, text.as_str()) else {
-            torn += usize::from(!line.is_empty());
+            cut += usize::from(!line.is_empty());
             continue;
         };
         for place in places {
@@ -64,7 +64,7 @@ fn digits_at(alloc: Global, places: &[&str], bytes: &[u8]) -> Result<(Vec<u8>, u
             }
         }
     }
-    Ok((digits, torn))
+    Ok((digits, cut))
 }
 
 fn failing(alloc: Global, first: usize, failures: usize) -> Failing {
@@ -136,22 +136,22 @@ fn each_span_is_exported_once(rt: HostRuntime) -> Result<(), Fail> {
     let (bytes, calls, failed) = taken(alloc, 0, 0)?;
     assert_eq!(rt; failed, 0);
     assert!(rt; calls > 10, "{calls} calls");
-    let (ids, torn) = digits_at(alloc, &SPANS, bytes.as_slice())?;
+    let (ids, cut) = digits_at(alloc, &SPANS, bytes.as_slice())?;
     assert_eq!(rt; ids.as_slice(), b"12345".as_slice());
-    assert_eq!(rt; torn, 0);
-    let mut all_torn = 0;
+    assert_eq!(rt; cut, 0);
+    let mut all_cut = 0;
     for failures in 1..4 {
         for first in 1..=calls {
             let (bytes, _, failed) = taken(alloc, first, failures)?;
             assert!(rt; failed <= failures, "{first}, {failures}");
-            let (ids, torn) = digits_at(alloc, &SPANS, bytes.as_slice())?;
+            let (ids, cut) = digits_at(alloc, &SPANS, bytes.as_slice())?;
             assert_eq!(rt; ids.as_slice(), b"12345".as_slice(), "{first}, {failures}");
-            assert!(rt; torn <= 1, "{first}, {failures}");
+            assert!(rt; cut <= 1, "{first}, {failures}");
             assert_eq!(rt; bytes.last(), Some(&b'\n'), "{first}, {failures}");
-            all_torn += torn;
+            all_cut += cut;
         }
     }
-    assert!(rt; all_torn > 10, "{all_torn} torn lines");
+    assert!(rt; all_cut > 10, "{all_cut} lines cut off");
     Ok(())
 }
 
@@ -161,25 +161,25 @@ fn each_log_record_is_exported_once(rt: HostRuntime) -> Result<(), Fail> {
     let (bytes, calls, failed) = taken_of_logs(alloc, 0, 0)?;
     assert_eq!(rt; failed, 0);
     assert!(rt; calls > 8, "{calls} calls");
-    let (moments, torn) = digits_at(alloc, &RECORDS, bytes.as_slice())?;
+    let (moments, cut) = digits_at(alloc, &RECORDS, bytes.as_slice())?;
     assert_eq!(rt; moments.as_slice(), b"12345".as_slice());
-    assert_eq!(rt; torn, 0);
-    let mut all_torn = 0;
+    assert_eq!(rt; cut, 0);
+    let mut all_cut = 0;
     for failures in 1..4 {
         for first in 1..=calls {
             let (bytes, _, failed) = taken_of_logs(alloc, first, failures)?;
             assert!(rt; failed <= failures, "{first}, {failures}");
-            let (moments, torn) = digits_at(alloc, &RECORDS, bytes.as_slice())?;
+            let (moments, cut) = digits_at(alloc, &RECORDS, bytes.as_slice())?;
             assert_eq!(rt;
                 moments.as_slice(),
                 b"12345".as_slice(),
                 "{first}, {failures}"
             );
-            assert!(rt; torn <= 1, "{first}, {failures}");
+            assert!(rt; cut <= 1, "{first}, {failures}");
             assert_eq!(rt; bytes.last(), Some(&b'\n'), "{first}, {failures}");
-            all_torn += torn;
+            all_cut += cut;
         }
     }
-    assert!(rt; all_torn > 4, "{all_torn} torn lines");
+    assert!(rt; all_cut > 4, "{all_cut} lines cut off");
     Ok(())
 }

@@ -3,7 +3,8 @@ use crate::batches::{cart, root, scope, three};
 use otel_otlp::{OtlpJsonSpanExporter, traces_text};
 use otel_sdk::error::OTelSdkError;
 use otel_sdk::resource::Resource;
-use otel_sdk::trace::{SpanData, SpanExporter};
+use otel_sdk::trace::SpanData;
+use otel_sdk_base::Exporter;
 use std::alloc::Global;
 use std::io;
 use std::io::{ErrorKind, Write};
@@ -107,7 +108,7 @@ fn a_vector_takes_the_line(rt: HostRuntime) -> Result<(), Fail> {
 }
 
 #[test]
-fn a_torn_line_stands_alone(rt: HostRuntime) -> Result<(), Fail> {
+fn a_line_that_was_cut_off_stands_alone(rt: HostRuntime) -> Result<(), Fail> {
     let alloc = rt.alloc();
     let line = object(alloc)?;
     let mut exporter = exporter(alloc, 60, 1)?;
@@ -139,7 +140,7 @@ fn a_whole_object_is_accepted(rt: HostRuntime) -> Result<(), Fail> {
 }
 
 #[test]
-fn a_debt_that_cannot_be_paid_refuses(rt: HostRuntime) -> Result<(), Fail> {
+fn a_newline_that_stays_pending_refuses(rt: HostRuntime) -> Result<(), Fail> {
     let alloc = rt.alloc();
     let line = object(alloc)?;
     let mut exporter = exporter(alloc, line.len(), 2)?;

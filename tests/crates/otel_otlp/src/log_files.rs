@@ -4,8 +4,9 @@ use crate::files::Scripted;
 use crate::records::{cart_service, no_price, observed, under};
 use otel_otlp::{OtlpJsonLogExporter, logs_text};
 use otel_sdk::error::OTelSdkError;
-use otel_sdk::logs::{LogData, LogExporter};
+use otel_sdk::logs::LogData;
 use otel_sdk::resource::Resource;
+use otel_sdk_base::Exporter;
 use std::alloc::Global;
 use std::rc::Rc;
 use std::test::Fail;
@@ -49,7 +50,7 @@ fn a_batch_of_records_is_a_line(rt: HostRuntime) -> Result<(), Fail> {
 }
 
 #[test]
-fn a_torn_line_of_records_stands_alone(rt: HostRuntime) -> Result<(), Fail> {
+fn a_line_of_records_that_was_cut_off_stands_alone(rt: HostRuntime) -> Result<(), Fail> {
     let alloc = rt.alloc();
     let line = object(alloc)?;
     let mut exporter = exporter(alloc, 60, 1)?;
@@ -65,7 +66,7 @@ fn a_torn_line_of_records_stands_alone(rt: HostRuntime) -> Result<(), Fail> {
 }
 
 #[test]
-fn a_shutdown_writes_the_line_end_that_is_owed(rt: HostRuntime) -> Result<(), Fail> {
+fn a_shutdown_writes_the_pending_newline(rt: HostRuntime) -> Result<(), Fail> {
     let alloc = rt.alloc();
     let line = object(alloc)?;
     let mut exporter = exporter(alloc, line.len(), 1)?;

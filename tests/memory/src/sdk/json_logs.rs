@@ -66,8 +66,8 @@ fn export<R: Print>(alloc: Global, lines: &Lines<'_, R>) -> Result<(), AllocErro
     let batch = [full(alloc)?];
     let mut exporter = OtlpJsonLogExporter::new(alloc, io::sink())?;
     lines.answer_named("written", exporter.export(&batch));
-    lines.free_ok("OtlpJsonLogExporter::force_flush", exporter.force_flush());
-    lines.free_ok("OtlpJsonLogExporter::shutdown", exporter.shutdown());
+    lines.free_ok("OtlpJsonExporter::force_flush", exporter.force_flush());
+    lines.free_ok("OtlpJsonExporter::shutdown", exporter.shutdown());
     Ok(())
 }
 

@@ -77,11 +77,11 @@ fn taken<R: RandomSource + Clock + Copy + Drop>(
 /// The last digits of the ids of the spans in the whole lines, in order, with how many lines aren't
 /// whole.
 fn digits(alloc: Global, bytes: &[u8]) -> Result<(Vec<u8>, usize), Fail> {
-    let (mut digits, mut torn) = (Vec::new(alloc), 0);
+    let (mut digits, mut cut) = (Vec::new(alloc), 0);
     for line in bytes.split(|byte| *byte == b'\n') {
         let text = String::from_utf8_lossy(alloc, line)?;
         let Ok(value) = Value::from_str(alloc, text.as_str()) else {
-            torn += usize::from(!line.is_empty());
+            cut += usize::from(!line.is_empty());
             continue;
         };
         let spans = value.pointer("/resourceSpans/0/scopeSpans/0/spans");
@@ -91,7 +91,7 @@ fn digits(alloc: Global, bytes: &[u8]) -> Result<(Vec<u8>, usize), Fail> {
             digits.push(*last.ok_or("no id")?)?;
         }
     }
-    Ok((digits, torn))
+    Ok((digits, cut))
 }
 
 /// The children of a span come before it, as they end first.
@@ -103,17 +103,17 @@ fn each_span_is_exported_once(rt: HostRuntime) -> Result<(), Fail> {
     assert!(rt; calls > 6, "{calls} calls");
     assert_eq!(rt; queued, 0);
     assert_eq!(rt; digits(alloc, bytes.as_slice())?.0.as_slice(), wanted);
-    let (mut all_torn, mut all_queued) = (0, 0);
+    let (mut all_cut, mut all_queued) = (0, 0);
     for refused in 1..=calls {
         let (bytes, _, queued) = taken(rt, alloc, refused)?;
-        let (ids, torn) = digits(alloc, bytes.as_slice())?;
+        let (ids, cut) = digits(alloc, bytes.as_slice())?;
         assert_eq!(rt; ids.as_slice(), wanted, "{refused}");
-        assert!(rt; torn <= 1, "{refused}");
+        assert!(rt; cut <= 1, "{refused}");
         assert_eq!(rt; bytes.last(), Some(&b'\n'), "{refused}");
-        all_torn += torn;
+        all_cut += cut;
         all_queued += queued;
     }
-    assert!(rt; all_torn > 3, "{all_torn} torn lines");
+    assert!(rt; all_cut > 3, "{all_cut} lines cut off");
     assert!(rt; all_queued > 0);
     Ok(())
 }
