@@ -18,7 +18,7 @@ use Rattle.otel_sdk.specs.Ended.{AreHandedOn, AreListed, EachIsHandedOn, OnlyFlu
 use Rattle.otel_sdk_base.specs.Export.{items_of}
 use Rattle.otel_sdk.specs.Processor.{ProcessorState, is_sampled}
 use Rattle.otel_sdk_base.specs.Queue.{Received, counted, one_more, queued, received_of}
-use Rattle.otel_sdk_base.proofs.BatchLemmas.{keeps}
+use Rattle.otel_sdk_base.proofs.shared.BatchLemmas.{keeps}
 use Rattle.otel_sdk_span.specs.Span.{SpanState}
 use Rattle.otel_sdk_span.specs.SpanData.{SpanRecord}
 

@@ -1,4 +1,4 @@
-pub mod BatchLemmas
+pub mod shared
 mod FirstChars
 mod GhostSteps
 pub mod Lists

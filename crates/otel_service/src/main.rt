@@ -21,6 +21,7 @@ use opentelemetry::propagation::{TextMapCompositePropagator, TextMapPropagator};
 use opentelemetry::trace::TracerProvider;
 use options::Options;
 use otel_appender_log::OpenTelemetryLogBridge;
+use otel_otlp::OtlpJsonSpanExporter;
 use otel_propagators::{BaggagePropagator, TraceContextPropagator};
 use otel_sdk::logs::{InMemoryLogExporter, SdkLoggerProvider, SimpleLogProcessor};
 use otel_sdk::resource::Resource;
@@ -28,7 +29,6 @@ use otel_sdk::trace::{
     BatchConfigBuilder, BatchSpanProcessor, Clock, CountedIdGenerator, InMemorySpanExporter,
     Pipeline, SdkTracer, SdkTracerProvider, SpanExporter, SpanProcessor, SystemClock,
 };
-use otel_otlp::OtlpJsonSpanExporter;
 use otel_waterfall::WaterfallExporter;
 use requests::serve_all;
 use service::Service;

@@ -51,6 +51,9 @@ pub fn play<R: Print>(alloc: Global, lines: &Lines<'_, R>) {
     if lines.begin("finished-spans") {
         lines.end(finished(alloc, lines));
     }
+    if lines.begin("accepted-items") {
+        lines.end(accepted(alloc, lines));
+    }
     if lines.begin("waterfall-export") {
         lines.end(drawn(alloc, lines));
     }
@@ -224,6 +227,16 @@ fn finished<R: Print>(alloc: Global, lines: &Lines<'_, R>) -> Result<(), AllocEr
         return Err(AllocError);
     }
     lines.answer_of(exporter.get_finished_spans().map(|spans| spans.len()));
+    Ok(())
+}
+
+fn accepted<R: Print>(alloc: Global, lines: &Lines<'_, R>) -> Result<(), AllocError> {
+    let batch = [span(alloc)?];
+    let mut exporter = InMemorySpanExporter::new(alloc);
+    if exporter.export(&batch).is_err() {
+        return Err(AllocError);
+    }
+    lines.answer_of(exporter.get_items().map(|spans| spans.len()));
     Ok(())
 }
 

@@ -2,7 +2,7 @@ use Rattle.std.proofs.Common.{◌∙◌, ◌++◌, ap, List, map, arith}
 use Rattle.std.specs.declared.alloc.Global.{Global}
 use Rattle.std.specs.declared.vec.Vec.{Vec}
 use Rattle.otel_sdk_base.specs.Export.{InMemory}
-use Rattle.otel_sdk_base.proofs.BatchLemmas.{joined_more}
+use Rattle.otel_sdk_base.proofs.shared.BatchLemmas.{joined_more}
 use Rattle.otel_sdk_base.proofs.in_memory_exporter.InMemoryExporter.get_items.Goals as goal
 
 pub loop-batch-preserved : goal.loop-batch-preserved

@@ -2,7 +2,7 @@ use Rattle.std.proofs.Common.{◌∙◌, ◌++◌, ap, List, rules}
 use Rattle.otel_sdk_base.specs.Export.{items_of}
 use Rattle.otel_sdk_base.specs.Queue.{Received}
 use Rattle.otel_sdk_base.specs.QueueView.{state}
-use Rattle.otel_sdk_base.proofs.BatchLemmas.{keeps}
+use Rattle.otel_sdk_base.proofs.shared.BatchLemmas.{keeps}
 use Rattle.otel_sdk_base.proofs.queue.Queue.force_flush.Goals as goal
 
 pub returns-in_err-export_all : goal.returns-in_err-export_all

@@ -1,5 +1,5 @@
 use Rattle.std.proofs.Common.{arith, rules}
-use Rattle.otel_sdk_base.proofs.BatchLemmas.{goes_on, left_of}
+use Rattle.otel_sdk_base.proofs.shared.BatchLemmas.{goes_on, left_of}
 use Rattle.otel_sdk_base.proofs.queue.batches.export_batches.Goals as goal
 
 pub loop-left-preserved : goal.loop-left-preserved

@@ -5,10 +5,11 @@ use Rattle.std.proofs.Common.{sym, ap, subst, ◌∙◌, arith, append_assoc}
 use Rattle.std.proofs.Math.Nat.{suc-mul, le_of_lt, le_of_eq, min-eq_left, min-eq_right}
 use Rattle.std.proofs.Math.ListN.{drop_of_length-le}
 use Rattle.std.proofs.lemmas.Bool.{cases_lt}
-use Rattle.std.proofs.lemmas.List.{append-nil, drop-drop, length-drop, take-append-drop, take_min, take_more, take-map}
+use Rattle.std.proofs.lemmas.List.{drop-drop, length-drop, take-append-drop, take_min, take-map}
 use Rattle.std.proofs.lemmas.List.Folds.{flat_map-map}
 use Rattle.std.proofs.lemmas.Grind.{flat_map-append}
 use Rattle.std.specs.List.{flat_map}
+use Rattle.otel_base.proofs.shared.Steps.{flat_map-take_more}
 use Rattle.otel_sdk_base.specs.Export.{batches, items_of, AreExported}
 use Rattle.otel_sdk_base.specs.Queue.{QueueState, IsFlushed, received_of}
 
@@ -100,12 +101,6 @@ keeps {X} {E} accepted old new f =
     ∙ ap (λ (xs : List X). record { items = xs; dropped = old.dropped })
     (together old.config.max_export_batch_size old.queue (accepted old.exporter) (accepted new.exporter) new.queue
     f.exported)
-
-flat_map-take_more : {X Y : Type 0} (f : X → List Y) (xs : List X) (i : ℕ) (x : X) → i < length xs → x ≡ get_or xs i x
-    → flat_map f (take (i + 1) xs) ≡ flat_map f (take i xs) ++ f x
-flat_map-take_more {X} {Y} f xs i x h is =
-    ap (flat_map f) (take_more xs i x h) ∙ flat_map-append f (take i xs) (get_or xs i x ∷ [])
-    ∙ ap (λ (r : List Y). flat_map f (take i xs) ++ r) (append-nil (f (get_or xs i x)) ∙ ap f (sym is))
 
 -- the lists of one place more, joined
 pub joined_more : {X Y : Type 0} (f : X → List Y) (xs : List X) (ys : List (List Y)) (i : ℕ) (x : X)
