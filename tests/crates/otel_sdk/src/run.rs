@@ -8,8 +8,9 @@ use opentelemetry::trace::{
 use opentelemetry::{Context, Key, KeyValue, StringValue, Value};
 use otel_sdk::trace::{
     BatchConfig, BatchConfigBuilder, CountedIdGenerator, EventOutcome, FinishedSpans,
-    InMemorySpanExporter, LiveSpans, ManualClock, ParentBased, RunReport, Sampler, SamplingDecision, SdkSpan,
-    SdkTracerProvider, ShouldSample, SpanChange, SpanEvent, SpanExporter, SpanLimits, run,
+    InMemorySpanExporter, LiveSpans, ManualClock, ParentBased, RunReport, Sampler,
+    SamplingDecision, SdkSpan, SdkTracerProvider, ShouldSample, SpanChange, SpanEvent,
+    SpanExporter, SpanLimits, run,
 };
 use std::alloc::Global;
 use std::test::Fail;

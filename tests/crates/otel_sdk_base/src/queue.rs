@@ -2,7 +2,9 @@
 ghost use Rattle.std.specs.Prelude.{◌≡◌, []};
 
 use otel_sdk_base::error::{OTelSdkError, OTelSdkResult};
-use otel_sdk_base::{BatchConfig, BatchConfigBuilder, ExactClone, Exporter, InMemoryExporter, Queue};
+use otel_sdk_base::{
+    BatchConfig, BatchConfigBuilder, ExactClone, Exporter, InMemoryExporter, Queue,
+};
 use std::alloc::{AllocError, Global};
 use std::clone::Clone;
 use std::default::Default;

@@ -1,12 +1,12 @@
 //! What processors hand to an exporter: worked runs.
 use opentelemetry::logs::LogRecord;
 use opentelemetry::{InstrumentationScope, StringValue};
+use otel_sdk_base::Exporter;
+use otel_sdk_base::error::{OTelSdkError, OTelSdkResult};
 use otel_sdk_logs::{
     BatchConfig, BatchConfigBuilder, BatchLogProcessor, LogData, LogProcessor, SdkLogRecord,
     SimpleLogProcessor,
 };
-use otel_sdk_base::Exporter;
-use otel_sdk_base::error::{OTelSdkError, OTelSdkResult};
 use std::alloc::{AllocError, Global};
 use std::rc::Rc;
 use std::test::Fail;

@@ -2,13 +2,13 @@
 use crate::processor::{planned, two};
 use opentelemetry::logs::{LogRecord, Logger, LoggerProvider, Severity};
 use opentelemetry::{Key, KeyValue, StringValue, Value};
+use otel_sdk_base::error::{OTelSdkError, OTelSdkResult};
+use otel_sdk_base::resource::Resource;
+use otel_sdk_base::{Exporter, ManualClock};
 use otel_sdk_logs::{
     BatchConfig, BatchLogProcessor, EmittedLogs, InMemoryLogExporter, LogData, LogProcessor,
     SdkLoggerProvider, SimpleLogProcessor,
 };
-use otel_sdk_base::{Exporter, ManualClock};
-use otel_sdk_base::error::{OTelSdkError, OTelSdkResult};
-use otel_sdk_base::resource::Resource;
 use std::alloc::{AllocError, Global};
 use std::default::Default;
 use std::rc::Rc;
