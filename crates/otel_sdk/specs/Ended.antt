@@ -1,12 +1,13 @@
 -- How the ended spans of a table get to a processor.
-use Rattle.std.specs.Prelude.{◌≡◌, ℕ, ◌-◌, ◌^◌, ◌≤◌, min, Bool, false, true, List, ◌++◌}
+use Rattle.std.specs.Prelude.{◌≡◌, ◌⊎◌, ℕ, ◌-◌, ◌^◌, ◌≤◌, min, Bool, false, true, List, ◌++◌}
 use Rattle.std.specs.Prelude.{[], ◌∷◌, length, take, drop, ◌==◌}
 use Rattle.std.specs.Prelude.{map, fold, Option, Some, None, if◌then◌else◌}
 use Rattle.std.specs.List.{filter_map, AllByRecursion, IsDistinct}
 use Rattle.otel_context.specs.Spans as table
 use Rattle.otel_context.specs.Spans.{SpansState}
 use Rattle.otel_sdk.specs.Processor.{ProcessorState, after_end, is_sampled}
-use Rattle.otel_sdk_base.specs.Queue.{IsFlushed, received_of}
+use Rattle.otel_sdk_base.specs.Queue.{IsFlushed, cause, received_of}
+use Rattle.otel_sdk_base.specs.declared.error.OTelSdkError.{OTelSdkError}
 use Rattle.otel_sdk_span.specs.Span.{SpanState}
 use Rattle.otel_sdk_span.specs.SpanData.{SpanRecord}
 
@@ -116,6 +117,12 @@ module _ {E : Type 0} where
   -- The span under the number was handed in, and then the queue was flushed.
   abbrev pub IsHandedOn : (E → List (List SpanRecord)) → ℕ → Collecting E → Collecting E → Type 0
   IsHandedOn accepted number old new = OnlyFlushes accepted (after_end_of old number) new
+
+  -- Nothing changed, and the error says why; or the span under the number was handed on.
+  abbrev pub IsRefusedOrHandedOn : (E → List (List SpanRecord)) → ℕ → Collecting E → Collecting E
+      → OTelSdkError → Type 0
+  IsRefusedOrHandedOn accepted number old new error =
+      ((new ≡ old) × (error ≡ cause old.processor)) ⊎ IsHandedOn accepted number old new
 
   -- The queue was flushed, and each of the spans under the numbers was handed in to an empty queue
   -- that was then flushed.

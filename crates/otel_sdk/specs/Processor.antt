@@ -1,7 +1,9 @@
 -- What the end of a span does to a processor.
-use Rattle.std.specs.Prelude.{◌≡◌, Bool, MatchBool, if◌then◌else◌}
+use Rattle.std.specs.Prelude.{◌≡◌, Bool, List, MatchBool, MatchOption, Option, if◌then◌else◌}
 use Rattle.otel_ids.specs.TraceFlags as flags
-use Rattle.otel_sdk_base.specs.Queue.{IsKeptOrDropped, QueueState, Received, after_add}
+use Rattle.otel_sdk_base.specs.Queue.{IsFlushed, IsKeptOrDropped, QueueState, Received, after_add}
+use Rattle.otel_sdk_base.specs.Queue.{cause}
+use Rattle.otel_sdk_base.specs.declared.error.OTelSdkError.{OTelSdkError}
 use Rattle.otel_sdk_span.specs.SpanData.{SpanRecord}
 
 -- whether the span is exported: its flag `sampled` is set (OpenTelemetry trace SDK, "Sampling")
@@ -12,6 +14,12 @@ is_sampled span = flags.is_sampled span.span_context.trace_flags
 abbrev pub IsHandedIn : SpanRecord → Received SpanRecord → Received SpanRecord → Type 0
 IsHandedIn span old new = MatchBool (is_sampled span) (IsKeptOrDropped span old new) (new ≡ old)
 
+-- The span was handed in, or it is returned and nothing was received.
+abbrev pub IsHandedInOrReturned : SpanRecord → Received SpanRecord → Received SpanRecord
+    → Option SpanRecord → Type 0
+IsHandedInOrReturned span old new returned =
+    MatchOption returned (IsHandedIn span old new) (λ back. (back ≡ span) × (new ≡ old))
+
 -- what a processor of spans with a queue keeps
 abbrev pub ProcessorState : Type 0 → Type 0
 ProcessorState E = QueueState SpanRecord E
@@ -20,3 +28,11 @@ ProcessorState E = QueueState SpanRecord E
 -- full; any other is dropped (OpenTelemetry trace SDK, "Batching processor")
 abbrev pub after_end : {E : Type 0} → SpanRecord → ProcessorState E → ProcessorState E
 after_end span p = if is_sampled span then after_add span p else p
+
+-- The end of the span counts and the queue was flushed, or the span is returned: nothing changed,
+-- and the error says why.
+abbrev pub IsFlushedOrReturned : {E : Type 0} → (E → List (List SpanRecord)) → SpanRecord
+    → ProcessorState E → ProcessorState E → Option SpanRecord → OTelSdkError → Type 0
+IsFlushedOrReturned accepted span old new returned error =
+    MatchOption returned (IsFlushed accepted (after_end span old) new)
+    (λ back. (back ≡ span) × (new ≡ old) × (error ≡ cause old))

@@ -3,6 +3,7 @@ ghost use Rattle.std.specs.Prelude.{◌≡◌, [], ◌∷◌, ◌++◌, List};
 ghost use Rattle.std.specs.Borrow.{ftrue};
 ghost use Rattle.std.specs.Coded.{coded_list};
 
+use std::fmt;
 use std::marker::{Model, PhantomData};
 use std::mem::size_of;
 
@@ -18,6 +19,13 @@ const _: () = prove!(size_of::<Accepted<u64>>() == 0);
 
 impl<T> Model for Accepted<T> {
     ghost also_owns = { λ _. ftrue };
+}
+
+/// Only the name: the batches exist only in contracts.
+impl<T> fmt::Debug for Accepted<T> {
+    fn fmt<W: fmt::Write>(&self, f: &mut fmt::Formatter<W>) -> fmt::Result {
+        f.debug_struct("Accepted").finish()
+    }
 }
 
 impl<T> Accepted<T> {

@@ -1,4 +1,5 @@
 -- What processors with a queue show.
+use Rattle.std.specs.Prelude.{Bool, not}
 use Rattle.otel_sdk_base.specs.Queue.{QueueState}
 use Rattle.otel_sdk_base.specs.QueueView as queue
 use Rattle.otel_sdk_logs.specs.declared.processor.batch.BatchLogProcessor.{BatchLogProcessor}
@@ -12,3 +13,7 @@ state p = queue.state p.queue
 -- what a processor that exports each record by itself shows
 abbrev pub simple_state : {E : Type 0} → SimpleLogProcessor E → QueueState LogEntry E
 simple_state p = state p.inner
+
+-- whether it is open
+abbrev pub simple_is_open : {E : Type 0} → SimpleLogProcessor E → Bool
+simple_is_open p = not (simple_state p).is_shut_down

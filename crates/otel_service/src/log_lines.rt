@@ -2,7 +2,8 @@
 use crate::failure::Failure;
 use opentelemetry::logs::AnyValue;
 use otel_sdk::logs::{
-    InMemoryLogExporter, LogProcessor, SdkLogRecord, SdkLoggerProvider, SimpleLogProcessor,
+    EmittedLogs, InMemoryLogExporter, LogProcessor, SdkLogRecord, SdkLoggerProvider,
+    SimpleLogProcessor,
 };
 use otel_sdk::trace::Clock;
 use std::io::{self, Write};

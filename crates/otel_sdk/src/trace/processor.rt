@@ -1,6 +1,6 @@
 //! Processors of spans, which hand ended spans to an exporter.
-ghost use Rattle.std.specs.Prelude.{◌≡◌, IfErr, OnOk, MatchOption};
-ghost use Rattle.otel_sdk.specs.Processor.{IsHandedIn};
+ghost use Rattle.std.specs.Prelude.{◌≡◌, IfErr, OnOk};
+ghost use Rattle.otel_sdk.specs.Processor.{IsHandedIn, IsHandedInOrReturned};
 
 pub(crate) mod batch;
 pub(crate) mod simple;
@@ -43,9 +43,8 @@ pub trait SpanProcessor: Drop {
     /// of the exporter.
     fn on_end(&mut self, span: SpanData) -> Result<(), EndRefused>
         ensures ok { OnOk result (IsHandedIn span (received self.old) (received self.new)) }
-        ensures err { IfErr result (λ refused. MatchOption refused.span
-            (IsHandedIn span (received self.old) (received self.new))
-            (λ back. (back ≡ span) × (received self.new ≡ received self.old))) };
+        ensures err { IfErr result (λ refused. IsHandedInOrReturned span
+            (received self.old) (received self.new) refused.span) };
 
     /// Hands the spans that are queued to the exporter, and flushes it.
     ///

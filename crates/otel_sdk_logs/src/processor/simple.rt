@@ -64,7 +64,7 @@ impl<E: LogExporter> SimpleLogProcessor<E> {
 impl<E: LogExporter> LogProcessor for SimpleLogProcessor<E> {
     ghost use Rattle.std.specs.Prelude.{not};
     ghost use Rattle.otel_sdk_base.specs.Queue.{received_of};
-    ghost use Rattle.otel_sdk_logs.specs.Batch.{simple_state};
+    ghost use Rattle.otel_sdk_logs.specs.Batch.{simple_state, simple_is_open};
 
     ghost received = { λ p. received_of E.accepted (simple_state p) };
 
@@ -77,7 +77,7 @@ impl<E: LogExporter> LogProcessor for SimpleLogProcessor<E> {
             (simple_state self.new) }
         ensures handed_in { IsKeptOrDropped given (received_of E.accepted (simple_state self.old))
             (received_of E.accepted (simple_state self.new)) }
-        ensures closed { not (simple_state self.old).is_shut_down ≡ false
+        ensures closed { simple_is_open self.old ≡ false
             → received_of E.accepted (simple_state self.new)
             ≡ with_dropped (received_of E.accepted (simple_state self.old)) }
     {

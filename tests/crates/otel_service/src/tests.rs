@@ -14,8 +14,8 @@ use opentelemetry::{StringValue, Value};
 use otel_appender_log::OpenTelemetryLogBridge;
 use otel_propagators::{BaggagePropagator, TraceContextPropagator};
 use otel_sdk::trace::{
-    BatchConfigBuilder, BatchSpanProcessor, CountedIdGenerator, InMemorySpanExporter,
-    SdkTracerProvider, SpanData, SpanExporter,
+    BatchConfigBuilder, BatchSpanProcessor, CountedIdGenerator, FinishedSpans,
+    InMemorySpanExporter, SdkTracerProvider, SpanData, SpanExporter,
 };
 use std::alloc::{AllocError, Global};
 use std::collections::HashMap;

@@ -1,7 +1,7 @@
 //! Pictures of batches.
 use opentelemetry::StringValue;
 use opentelemetry::trace::{Event, SpanContext, SpanId, Status, TraceFlags, TraceId, TraceState};
-use otel_sdk::trace::{SpanData, SpanExporter};
+use otel_sdk::trace::{Exporter, SpanData};
 use otel_waterfall::WaterfallExporter;
 use std::alloc::{AllocError, Global};
 use std::test::Fail;

@@ -1,7 +1,7 @@
 //! Batches that are refused, and batches without spans.
 use crate::pictures::span;
 use otel_sdk::error::OTelSdkError;
-use otel_sdk::trace::SpanExporter;
+use otel_sdk::trace::Exporter;
 use otel_waterfall::WaterfallExporter;
 use std::io::{self, ErrorKind, Write};
 use std::test::Fail;

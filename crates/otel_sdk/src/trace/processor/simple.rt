@@ -1,7 +1,7 @@
 //! The processor that exports each span when it ends.
-ghost use Rattle.std.specs.Prelude.{◌≡◌, [], false, length, IfErr, OnOk, MatchOption};
+ghost use Rattle.std.specs.Prelude.{◌≡◌, [], false, length, IfErr, OnOk};
 ghost use Rattle.otel_sdk.specs.Processor as spec;
-ghost use Rattle.otel_sdk.specs.Processor.{IsHandedIn};
+ghost use Rattle.otel_sdk.specs.Processor.{IsHandedIn, IsHandedInOrReturned, IsFlushedOrReturned};
 ghost use Rattle.otel_sdk_base.specs.Queue as queue_spec;
 ghost use Rattle.otel_sdk_base.specs.Queue.{IsFlushed, IsForceFlushed, IsShutDown};
 ghost use Rattle.otel_sdk_base.specs.Queue.{OnlyExporterChanges, received_of};
@@ -92,16 +92,12 @@ impl<E: SpanExporter> SpanProcessor for SimpleSpanProcessor<E> {
         ensures ok { OnOk result (IsFlushed E.accepted (spec.after_end span self.old) self.new
             × (self.new.queue ≡ [])) }
         ensures open { OnOk result (self.old.is_shut_down ≡ false) }
-        ensures refused { IfErr result (λ refused. MatchOption refused.span
-            (IsFlushed E.accepted (spec.after_end span self.old) self.new)
-            (λ back. (back ≡ span) × (self.new ≡ self.old)
-            × (refused.error ≡ queue_spec.cause self.old))) }
+        ensures refused { IfErr result (λ refused. IsFlushedOrReturned E.accepted span
+            self.old self.new refused.span refused.error) }
         ensures handed_in { OnOk result
             (IsHandedIn span (received_of E.accepted self.old) (received_of E.accepted self.new)) }
-        ensures not_exported { IfErr result (λ refused. MatchOption refused.span
-            (IsHandedIn span (received_of E.accepted self.old) (received_of E.accepted self.new))
-            (λ back. (back ≡ span)
-            × (received_of E.accepted self.new ≡ received_of E.accepted self.old))) }
+        ensures not_exported { IfErr result (λ refused. IsHandedInOrReturned span
+            (received_of E.accepted self.old) (received_of E.accepted self.new) refused.span) }
     {
         self.inner.on_end(span)?;
         match self.inner.force_flush() {

@@ -2,7 +2,9 @@
 use opentelemetry::logs::LogRecord;
 use opentelemetry::{InstrumentationScope, StringValue};
 use otel_examples::sdk::emitted::emit;
-use otel_sdk::logs::{BatchConfig, BatchLogProcessor, InMemoryLogExporter, LogData, SdkLogRecord};
+use otel_sdk::logs::{
+    BatchConfig, BatchLogProcessor, EmittedLogs, InMemoryLogExporter, LogData, SdkLogRecord,
+};
 use std::rc::Rc;
 use std::test::Fail;
 

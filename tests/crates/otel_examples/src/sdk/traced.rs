@@ -3,8 +3,9 @@ use opentelemetry::trace::{Span, TraceId, Tracer, TracerProvider};
 use opentelemetry::{Context, Key, KeyValue, StringValue, Value};
 use otel_examples::sdk::traced::{export, price};
 use otel_sdk::trace::{
-    BatchConfig, BatchSpanProcessor, CountedIdGenerator, InMemorySpanExporter, LiveSpans,
-    ManualClock, Sampler, SdkTracer, SdkTracerProvider, SimpleSpanProcessor, TracerPipeline,
+    BatchConfig, BatchSpanProcessor, CountedIdGenerator, FinishedSpans, InMemorySpanExporter,
+    LiveSpans, ManualClock, Sampler, SdkTracer, SdkTracerProvider, SimpleSpanProcessor,
+    TracerPipeline,
 };
 use std::alloc::AllocError;
 use std::test::Fail;

@@ -1,11 +1,11 @@
 //! Taking ended spans out of a table, by number, and exporting each.
-ghost use Rattle.std.specs.Prelude.{◌≡◌, ◌≤◌, ◌==◌, ◌⊎◌, false, [], length, take};
+ghost use Rattle.std.specs.Prelude.{◌≡◌, ◌≤◌, ◌==◌, false, [], length, take};
 ghost use Rattle.std.specs.Prelude.{IfErr, IsErrOf, IsTrue, OnOk};
 ghost use Rattle.std.specs.List.{IsDistinct};
 ghost use Rattle.std.specs.Vec.{vec_capacity};
-ghost use Rattle.otel_sdk_base.specs.Queue.{cause};
 ghost use Rattle.otel_sdk.specs.Ended as spec;
 ghost use Rattle.otel_sdk.specs.Ended.{AreHandedOn, AreListed, EachIsHandedOn, IsHandedOn};
+ghost use Rattle.otel_sdk.specs.Ended.{IsRefusedOrHandedOn};
 ghost use Rattle.otel_sdk.specs.Ended.{LosesNothing};
 ghost use Rattle.otel_sdk_base.specs.declared.error.OTelSdkError.TheVariants.{AlreadyShutdown};
 
@@ -54,10 +54,8 @@ impl<E: SpanExporter> SimpleSpanProcessor<E> {
             (spec.of self.old spans.old) (spec.of self.new spans.new)) }
         ensures exported { OnOk result (self.new.queue ≡ []) }
         ensures open { OnOk result (self.old.is_shut_down ≡ false) }
-        ensures refused { IfErr result (λ error.
-            ((spec.of self.new spans.new ≡ spec.of self.old spans.old) × (error ≡ cause self.old))
-            ⊎ IsHandedOn E.accepted number
-            (spec.of self.old spans.old) (spec.of self.new spans.new)) }
+        ensures refused { IfErr result (λ error. IsRefusedOrHandedOn E.accepted number
+            (spec.of self.old spans.old) (spec.of self.new spans.new) error) }
     {
         self.inner.on_end_of(spans, number)?;
         self.inner.force_flush()
