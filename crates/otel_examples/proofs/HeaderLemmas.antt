@@ -1,4 +1,4 @@
--- What a list of headers has at a name, before and after a call of its own.
+-- The value of a name in a list of headers, before and after a call.
 use Rattle.std.proofs.Common.{◌≡◌, ℕ, zero, suc, ◌<◌, ◌≤◌, List, [], ◌∷◌, ◌++◌, Bool, true, false, cond, ◌||◌, Option, None, Some, refl, sym, ap, ◌∙◌, inl, inr, arith, string_bytes, map, is_some, length, get_or, set, Bor}
 use Rattle.std.specs.Cmp.Lexicographic.{slice_cmp, texts_ties, nat_list_eq_equiv, on_texts}
 use Rattle.std.specs.List.{list_any, position, position_or_len, dedup, dedup_from}
@@ -40,7 +40,7 @@ module _ {A : Type 0} where
       let other : has_name n e ≡ false = before 0 (omega arith) in
       rw other (at_first n es i d (omega arith) here (λ k h. before (suc k) (omega arith)))
 
-  -- the value of the name once the pair at its first index has another value
+  -- the value of the name after the pair at its first index gets another value
   replaced : (n q : List ℕ) (es : PairsOf A) (i : ℕ) (d : String A × String A) (v : String A) → i < length es
       → has_name n (get_or es i d) ≡ true → ((k : ℕ) → k < i → has_name n (get_or es k d) ≡ false)
       → value_at q (set es i ((get_or es i d).0, v)) ≡ cond (bytes_eq n q) (Some v) (value_at q es)
@@ -77,7 +77,7 @@ module _ {A : Type 0} where
     | inr past ↦ none_before n es past
   ]
 
-  -- if an index was found the value is there
+  -- if an index was found there is a value
   pub found : (n : List ℕ) (es : PairsOf A) (i : ℕ) (d : String A × String A) → position (has_name n) es ≡ Some i
       → value_at n es ≡ Some (get_or es i d).1
   found n es i d h =
@@ -141,7 +141,7 @@ or_twice : (a b : Bool) → a || b ≡ a || (a || b)
 or_twice true b = refl
 or_twice false b = refl
 
--- a test that can't tell what `E` counts as the same passes before and after `dedup` alike
+-- `dedup` doesn't change whether a test passes that is equal for items that `E` counts as equal
 any-dedup_from : {X : Type 0} (p : X → Bool) (E : X → X → Bool) → ((x y : X) → E x y ≡ true → p x ≡ p y)
     → (k : X) (xs : List X) → list_any p (dedup_from E k xs) ≡ (p k || list_any p xs)
 any-dedup_from p E alike k [] = refl

@@ -1,4 +1,5 @@
--- What comes back by a composite of the trace context's propagator and the baggage's, whatever other members stand before them.
+-- The context that a composite extracts whose last two members are the trace context's propagator
+-- and the baggage's.
 use Rattle.std.proofs.Common.{◌≡◌, ◌||◌, ℕ, Bool, IsTrue, List, [], ◌∷◌, ◌++◌, Option, Some, None, Result, rules, codes, refl, sym, ap, subst, ◌∙◌, inl, inr}
 use Rattle.std.specs.Prelude.{All, IfOk}
 use Rattle.std.specs.List.{flat_map, fold, list_any}
@@ -51,7 +52,7 @@ module _ (context given : ContextRecord) (texts : TextMap) (ps qs : Pairs) (firs
     extracts = inr (trace_gives first ∙ ap (λ (c : ContextRecord). trace_extracted c texts) baggage_gives);
   }
 
--- the two last members are both propagators, whatever other members stand before them
+-- the last two members are both propagators, with any members before them
 pub after_others : {M : Type 0} (pairs : M → Pairs) (extracted : ContextRecord → M → ContextRecord) (context given before : ContextRecord) (texts : TextMap) (ms others : List M) (a b : M) (set : Pairs)
     → ms ≡ others ++ (a ∷ b ∷ []) → fold extracted given others ≡ before → flat_map pairs others ≡ set → All IsOther set
     → CarriesBoth context before texts (pairs a ++ pairs b) (extracted (extracted before a) b) → CarriesBoth context before texts (flat_map pairs ms) (fold extracted given ms)
@@ -72,14 +73,14 @@ after_others pairs extracted context given before texts ms others a b set are be
       (sym (ap (fold extracted given) are ∙ fold-append extracted given others (a ∷ b ∷ []) ∙ ap (λ (c : ContextRecord). extracted (extracted c a) b) begins)) has.extracts;
 }
 
--- what a composite of both sends comes back
+-- a composite of both extracts the context that it sent
 pub arrives : ComesBackTogether → CompositeSets → (context given : ContextRecord) (back : Result ContextRecord PropagationError) (pairs : Pairs) (extracted : ContextRecord) (old new : TextMap)
     → IsContext context → Sets old pairs new → IfOk back (λ b. b ≡ extracted) → CarriesBoth context given new pairs extracted → IfOk back (ComesBack context old given)
 arrives together composite context given back pairs extracted old new is sets gives has =
     IfOk-weaker back _ _ (λ b same. together context given b old new is (composite context pairs old new has.sets sets)
     (subst (λ (c : ContextRecord). BothExtract given new c) (sym same) has.extracts)) gives
 
--- the same of texts by another name
+-- the same for texts with another name
 pub extracts_moved : (give : TextMap → ContextRecord) (may : Bool) (back : Result ContextRecord PropagationError) (a b : TextMap) → a ≡ b → Extracts (give a) may back → Extracts (give b) may back
 extracts_moved give may back a b same = subst (λ (t : TextMap). Extracts (give t) may back) same
 

@@ -1,4 +1,4 @@
--- Two attachments, the older of which is removed first.
+-- Two attachments. The older one is removed first.
 use Rattle.std.proofs.Common.{◌≡◌, ℕ, ◌+◌, ◌<◌, [], ◌∷◌, ◌++◌, Option, Ok, map, refl, ap, ◌∙◌, arith, inl, inr}
 use Rattle.std.specs.Prelude.{◌==◌, ◌≢◌}
 use Rattle.std.specs.declared.alloc.AllocError.{AllocError}
@@ -21,7 +21,7 @@ removals_commute p q (x ∷ xs) = elim (cases_Bool (x.0 == q)) [
   ]
 ]
 
--- the context that was added last is the last one, also once another is removed
+-- the context that was added last stays last after another is removed
 last-removed : (d c : ContextRecord) (p q : ℕ) (live : Live) → q ≢ p
     → last_or d (map (λ a. a.1) (detach p (live ++ (q, c) ∷ []))) ≡ c
 last-removed d c p q [] h = rw (ne_eqb q p h) refl
@@ -41,7 +41,7 @@ module _ (before first both left after : StackState) (a b : ContextRecord) (p q 
     (attach_a : Attaches {E = AllocError} a before first (Ok p))
     (attach_b : Attaches {E = AllocError} b first both (Ok q))
     (remove_a : Detaches p both left x) (remove_b : Detaches q left after y) where
-  -- what the first attach leaves, if a position is left
+  -- the stack after the first attach, if a position is left
   first_live : newest_position before.live < last_position → first.live ≡ attach a before.live
   first_live room = ap (λ (s : StackState). s.live) (attach_a.accepted room).1
 
@@ -52,13 +52,13 @@ module _ (before first both left after : StackState) (a b : ContextRecord) (p q 
   both_live : newest_position first.live < last_position → both.live ≡ attach b first.live
   both_live room = ap (λ (s : StackState). s.live) (attach_b.accepted room).1
 
-  -- the removal of the first leaves what was live before
+  -- the removal of the first leaves the contexts that were live before
   first_removed : newest_position before.live < last_position → detach p first.live ≡ before.live
   first_removed room =
       ap (λ k. detach k first.live) (attach_a.accepted room).0 ∙ ap (detach (newest_position before.live + 1)) (first_live room)
       ∙ restores before a lawful
 
-  -- what was attached last is current once the older one is removed
+  -- the context that was attached last is current after the older one is removed
   pub newer_is_current : newest_position before.live + 1 < last_position → current left.live ≡ b
   newer_is_current room =
       let room_a : newest_position before.live < last_position = omega arith in
@@ -68,7 +68,7 @@ module _ (before first both left after : StackState) (a b : ContextRecord) (p q 
       ap current (remove_a.live ∙ ap (detach p) (both_live room_b))
       ∙ last-removed empty_context b p (newest_position first.live + 1) first.live apart
 
-  -- once both are removed what was live before is live
+  -- after both are removed, the contexts that were live before are live
   pub both_removed : after.live ≡ before.live
   both_removed = elim (cases_lt (newest_position before.live) last_position) [
     | inl room ↦ elim (cases_lt (newest_position first.live) last_position) [

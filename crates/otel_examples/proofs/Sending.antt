@@ -1,4 +1,4 @@
--- What composites set.
+-- The pairs that composites set.
 use Rattle.std.proofs.Common.{◌≡◌, ◌≢◌, ℕ, List, [], ◌∷◌, ◌++◌, Bool, true, false, cond, Option, Some, None, Result, Ok, Err, refl, sym, ap, subst, ◌∙◌, codes}
 use Rattle.std.specs.Prelude.{IfOk, OnOk}
 use Rattle.std.specs.List.{flat_map}
@@ -59,7 +59,7 @@ last_id true (Some id) p s b = refl
 last_id false None p s b = refl
 last_id false (Some id) p s b = refl
 
--- what a composite of the request's id and of both W3C headers sets at the id's key
+-- the value that a composite of the request's id and both W3C headers sets at the id's key
 pub id_is_sent : {M : Type 0} (pairs : M → Pairs) (context : ContextRecord) (old new : TextMap) (ms : List M) (a b c : M) → ms ≡ a ∷ b ∷ c ∷ []
     → pairs a ≡ request.pairs context → pairs b ≡ trace_pairs context → pairs c ≡ baggage_pairs context → Sets old (flat_map pairs ms) new → IsIdSent context old new
 id_is_sent pairs context old new ms a b c are first second third sets =
@@ -70,7 +70,7 @@ id_is_sent pairs context old new ms a b c are first second third sets =
     ∙ ap (λ o. option_or o (at old (codes "x-request-id")))
     (last_id (is_valid (span_context context)) (request.id_of context) (parent_text (parent (span_context context))) (state_header (span_context context).trace_state) (header (members context)))
 
--- what an injection by a composite of two members leaves, whose pairs for what `r` reports are `pairs r`
+-- the headers after an injection with two members, whose pairs for a report `r` are `pairs r`
 pub run_sends : {M R T E : Type 0} (pairs : R → M → Pairs) (may : Bool) (ms : List M) (a b : M)
     (result : Result R E) (context_of : R → ContextRecord) (injected : R → Result T PropagationError) (old new : CarrierState)
     → IfOk result (λ r. Injects (flat_map (pairs r) ms) may old new (injected r))
@@ -80,7 +80,7 @@ run_sends pairs may ms a b result context_of injected old new does are first sec
     IfOk-weaker result _ _ (λ r injects.
     on_ok_weaker (injected r) (is_sent (context_of r) old.texts new.texts (pairs r) ms a b are (first r) (second r)) injects.ok) does
 
--- what holds of all results holds of a success
+-- if a fact holds for all results, it holds for a success
 pub on_each : {T E P : Type 0} (r : Result T E) → P → OnOk r P
 on_each (Ok t) h = h
 on_each (Err e) h = tt

@@ -1,4 +1,4 @@
--- What comes back of a map that both propagators injected into.
+-- The context that is extracted from a map into which both propagators injected.
 use Rattle.std.proofs.Common.{◌≡◌, ap, sym, ◌∙◌, ◌++◌, [], append_assoc, inl, Result, Ok, Err}
 use Rattle.std.specs.Prelude.{IfOk, OnErr}
 use Rattle.std.proofs.lemmas.List.{append-nil}
@@ -18,7 +18,7 @@ back_from law context first given (Ok b) old between new i s t e f g =
     (inl (g ∙ ap (λ (x : ContextRecord). baggage_extracted x new) (f ∙ ap (λ (x : ContextRecord). trace_extracted x new) e)))
 back_from law context first given (Err e) old between new i s t f g h = tt
 
--- what holds of all results holds of an error
+-- if a fact holds for all results, it holds for an error
 pub begun : {T P : Type 0} (r : Result T PropagationError) → P → OnErr r P
 begun (Ok t) h = tt
 begun (Err e) h = h

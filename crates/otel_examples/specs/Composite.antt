@@ -1,4 +1,4 @@
--- What composites send, and what makes it come back.
+-- The headers that composites send, and when the context that was sent is extracted again.
 use Rattle.std.specs.Prelude.{◌≡◌, ◌≢◌, ◌++◌, ℕ, Bool, List, Some, Result, IfOk, IsTrue, OnOk}
 use Rattle.std.specs.Prelude.{codes}
 use Rattle.std.specs.HashMap.{HashMap}
@@ -21,7 +21,7 @@ use Rattle.otel_propagators.specs.BaggagePropagator.{members}
 use Rattle.otel_propagators.specs.Laws.{ArePairsOfBoth, BothExtract, ComesBack}
 use Rattle.otel_examples.specs.RequestId.{extracted as id_extracted, id_of}
 
--- the header of the context's request id is set in `new`; without an id it is as in `old`
+-- `new` has the header of the context's request id, or that header of `old` if there is no id
 abbrev pub IsIdSent : ContextRecord → TextMap → TextMap → Type 0
 IsIdSent context old new =
     at new (codes "x-request-id") ≡ option_or (id_of context) (at old (codes "x-request-id"))
@@ -36,7 +36,7 @@ pub record IsSent (context : ContextRecord) (old new : TextMap) : Type 0 where
       → at new key ≡ at old key
 
 -- A composite has both W3C propagators: these are the pairs that it sets for the context, and the
--- context that it extracts from the texts. `given` is what the members before both extract.
+-- context that it extracts from the texts. `given` is the context that the members before extract.
 pub record CarriesBoth (context given : ContextRecord) (texts : TextMap) (pairs : Pairs)
     (extracted : ContextRecord) : Type 0 where
   pub sets : ArePairsOfBoth context pairs
@@ -50,21 +50,21 @@ abbrev pub SendsCurrent : {A S T : Type 0} → Result T PropagationError → Liv
 SendsCurrent injected live old new =
     OnOk injected (IsSent (current live) (text_map old.entries) (text_map new.entries))
 
--- what comes back by both W3C headers, with the request's id that the headers carry
+-- both W3C headers give the context back, with the request's id in the headers
 abbrev pub ComesBackWithId : {A S : Type 0} → ContextRecord → HashMap (String A) (String A) S
     → HashMap (String A) (String A) S → ContextRecord → Type 0
 ComesBackWithId context old new back =
     ComesBack context (text_map old.entries)
     (id_extracted empty_context (text_map new.entries)) back
 
--- the composite, whose members may refuse by `may_refuse`, refused only if one of them may
+-- the composite refused only if one of its members may refuse
 abbrev pub RefusesByMember : {I T : Type 0} {D : I → Type 0} → TextMapCompositePropagator I D
     → ((x : I) × D x → Bool) → Result T PropagationError → Type 0
 RefusesByMember composite may_refuse result =
     IsTrue (is_refused result)
     → IsTrue (may_refuse_of (λ m. may_refuse (m.vtable, m.value)) composite)
 
--- the composite keeps the fields of its members, of which each has `fields`
+-- the composite keeps the fields of its members; `fields` gives a member's fields
 abbrev pub Keeps : {I : Type 0} {D : I → Type 0} → TextMapCompositePropagator I D
     → ((x : I) × D x → List (List ℕ)) → Type 0
 Keeps composite fields = KeepsFields (λ m. fields (m.vtable, m.value)) composite
@@ -75,7 +75,7 @@ abbrev pub AreFields : {I : Type 0} {D : I → Type 0} → TextMapCompositePropa
 AreFields composite fields names =
     names ≡ fields_of (λ m. fields (m.vtable, m.value)) composite
 
--- What a composite does: `pairs`, `extracted` and `may_refuse` are those of a member.
+-- The calls of a composite. `pairs`, `extracted` and `may_refuse` describe a member.
 module _ {A S I : Type 0} {D : I → Type 0} where
   -- the composite injected the context with this result
   abbrev pub Sends : {T : Type 0} → TextMapCompositePropagator I D
@@ -104,7 +104,7 @@ module _ {A S I : Type 0} {D : I → Type 0} where
       Sets (text_map old.entries)
       (pairs_of (λ m. pairs (m.vtable, m.value)) composite context) (text_map new.entries)
 
-  -- if the composite has both W3C propagators, the context that it sent comes back
+  -- if the composite has both W3C propagators, it extracts the context that it sent
   abbrev pub Arrives : TextMapCompositePropagator I D → ((x : I) × D x → ContextRecord → Pairs)
       → ((x : I) × D x → ContextRecord → TextMap → ContextRecord) → ContextRecord
       → HashMap (String A) (String A) S → HashMap (String A) (String A) S
@@ -117,7 +117,7 @@ module _ {A S I : Type 0} {D : I → Type 0} where
       (text_map new.entries))
       → IfOk result (ComesBack context (text_map old.entries) given)
 
-  -- if these are both W3C propagators, the context that they sent in turn comes back
+  -- if these are both W3C propagators, they extract the context that they sent in turn
   abbrev pub ArrivesBy : DynBox I Global D → DynBox I Global D
       → (DynBox I Global D → ContextRecord → Pairs)
       → (DynBox I Global D → ContextRecord → TextMap → ContextRecord) → ContextRecord

@@ -1,4 +1,4 @@
--- What a caller of `in_span` gets.
+-- The spans of a caller of `in_span`.
 use Rattle.std.specs.Prelude.{◌≡◌, ℕ, Option, Some, IfSome, codes}
 use Rattle.otel_base.specs.KeyValue.{Attribute}
 use Rattle.otel_base.specs.Value.{text}
@@ -12,7 +12,7 @@ abbrev pub method : Attribute
 method = (codes "http.request.method", text (codes "GET"))
 
 module _ {S : Type 0} (after_attribute : S → Attribute → S) where
-  -- the table once the attribute is set on the span under the number
+  -- the table after the attribute is set on the span with the number
   abbrev pub set : SpansState S → Option ℕ → SpansState S
   set table number = after_effect (λ span. after_attribute span method) table number
 

@@ -1,11 +1,11 @@
--- What a log record that names the current span holds.
+-- A log record that names the current span.
 use Rattle.std.specs.Prelude.{◌≡◌, ℕ, List, Some}
 use Rattle.otel_ids.specs.SpanContext.{SpanContextRecord, IsValidSpanContext}
 use Rattle.otel_base.specs.AnyValue.{text}
 use Rattle.opentelemetry.specs.declared.logs.record.LogRecord.{Ghosts}
 
--- A record that the logger made got the message as its body, and then the ids and flags of the span
--- context if that is valid, otherwise nothing more.
+-- A record that the logger created has the message as its body. If the span context is valid, it
+-- has its ids and flags too, and otherwise nothing more.
 pub record IsStamped {R : Type 0} (MayCreate : R → Type 0) (log : Ghosts R)
     (span : SpanContextRecord) (message : List ℕ) (stamped : R) : Type 0 where
   pub created : R

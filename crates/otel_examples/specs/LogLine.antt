@@ -1,11 +1,11 @@
--- What a line of a log that names the active span holds.
+-- A line of a log that names the active span.
 use Rattle.std.specs.Prelude.{ℕ, List, []}
 use Rattle.otel_base.specs.declared.severity.Severity.TheVariants.{Warn}
 use Rattle.otel_ids.specs.SpanContext.{SpanContextRecord}
 use Rattle.opentelemetry.specs.declared.logs.record.LogRecord.{Ghosts}
 use Rattle.otel_appender_log.specs.Bridge.{IsStamped, Setters, with_content}
 
--- what the setters of the content of a log record do to it
+-- the effects of the setters of a log record's content
 abbrev pub setters_of : {R : Type 0} → Ghosts R → Setters R
 setters_of log = record {
   number = log.after_severity_number;
@@ -15,8 +15,8 @@ setters_of log = record {
   attributes = log.after_attributes;
 }
 
--- A warning that the logger made, with this message, this target and no attributes, and with the
--- ids and flags of the span if that is valid.
+-- A warning that the logger created, with this message, this target and no attributes. If the span
+-- is valid, the warning has its ids and flags.
 pub record IsLine {R : Type 0} (MayCreate : R → Type 0) (log : Ghosts R)
     (message target : List ℕ) (span : SpanContextRecord) (line : R) : Type 0 where
   pub blank : R

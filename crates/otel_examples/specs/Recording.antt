@@ -1,4 +1,4 @@
--- What a recording span keeps, and what each call adds to it.
+-- The state of a recording span, and the effect of each call.
 use Rattle.std.specs.Prelude.{ℕ, Bool, true, false, ◌&&◌, not, List, [], ◌∷◌, ◌++◌}
 use Rattle.std.specs.Prelude.{Option, Some, None}
 use Rattle.otel_base.specs.KeyValue.{Attribute}
@@ -16,7 +16,7 @@ pub data Kept : Type 0 where
   attribute : Attribute → Kept
   link : SpanContextRecord → List Attribute → Kept
 
--- what an effect means
+-- an effect, as contracts see it
 abbrev pub kept : Effect → Kept
 kept (E.Event name timestamp attributes) = event name timestamp (attributes_of attributes)
 kept (E.Attribute set) = attribute (attribute_of set)
@@ -33,7 +33,7 @@ pub record Recorded : Type 0 where
   pub recording : Bool
   pub stops_at_attribute : Bool
 
--- a span that keeps nothing yet
+-- a span without effects
 abbrev pub new : SpanContextRecord → List ℕ → Recorded
 new context name = record {
   context = context;

@@ -1,4 +1,4 @@
--- What the propagator of a request's id sets and reads.
+-- The field that the propagator of a request's id sets and reads.
 use Rattle.std.specs.Prelude.{ℕ, List, [], ◌∷◌, Option, Some, None, codes}
 use Rattle.std.specs.Option.{option_map_or}
 use Rattle.otel_base.specs.AnyValue.{Tree, integer, text, boolean, bytes, list, map as map_tree}
@@ -16,11 +16,11 @@ text_in (Some (bytes bs)) = None
 text_in (Some (list ts)) = None
 text_in (Some (map_tree es)) = None
 
--- the id of a context's request: its entry `request.id`, if that is a text
+-- the request id of a context: its entry `request.id`, if that is a text
 abbrev pub id_of : ContextRecord → Option (List ℕ)
 id_of context = text_in (get context (codes "request.id"))
 
--- the one field
+-- the only field
 abbrev pub fields : List (List ℕ)
 fields = codes "x-request-id" ∷ []
 

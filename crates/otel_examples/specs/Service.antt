@@ -1,4 +1,4 @@
--- What a service that forwards a request promises.
+-- The effects of a service that forwards a request.
 use Rattle.std.specs.Prelude.{◌≡◌, ℕ, codes}
 use Rattle.otel_ids.specs.SpanContext.{SpanContextRecord}
 use Rattle.otel_context.specs.Context.{ContextRecord, with_span}
@@ -10,7 +10,7 @@ use Rattle.opentelemetry.specs.declared.propagation.text_map_propagator.TextMapP
 
 module _ {P : Type 0} (format : Ghosts P) (propagator : P) (stack : StackState)
     (received : TextMap) where
-  -- the current context with what the received headers carry
+  -- the current context with the values of the received headers
   abbrev pub parent : ContextRecord
   parent = format.extracted propagator (current stack.live) received
 
@@ -22,7 +22,7 @@ module _ {P : Type 0} (format : Ghosts P) (propagator : P) (stack : StackState)
     pub number_is : number ≡ old.next_number
     pub table : new ≡ insert old span
 
-  -- the headers that are sent are set for that context with the span that was put into the table
+  -- the headers to be sent are set for that context, with the span that was put into the table
   pub record Forwards {S : Type 0} (context_of : S → SpanContextRecord) (old new : SpansState S)
       (before after : CarrierState) (number : ℕ) : Type 0 where
     pub span : S

@@ -1,4 +1,4 @@
--- A context that is sent by a map of texts, and received from it.
+-- A context that is sent in a map of texts, and received from it.
 use Rattle.std.specs.Prelude.{Bool, Result, ◌++◌}
 use Rattle.std.specs.HashMap.{HashMap}
 use Rattle.std.specs.declared.string.String.{String}
@@ -16,7 +16,7 @@ abbrev pub Fills : {A S T : Type 0} → Pairs → Bool → HashMap (String A) (S
 Fills pairs may_refuse old new result =
     Injects pairs may_refuse (map_state old.entries) (map_state new.entries) result
 
--- an extraction from the map, which gives a context by its texts, had this result
+-- an extraction from the map had this result; its texts give the context
 abbrev pub Reads : {A S : Type 0} → (TextMap → ContextRecord) → Bool
     → HashMap (String A) (String A) S → Result ContextRecord PropagationError → Type 0
 Reads extracted may_refuse map result =

@@ -1,4 +1,4 @@
--- What a vendor sends of a received trace state.
+-- The trace state that a vendor sends.
 use Rattle.std.specs.Prelude.{◌≡◌, ℕ, List, codes}
 use Rattle.otel_ids.specs.Reading.{Reads}
 use Rattle.otel_ids.specs.TraceState.{Pair, header, insert}

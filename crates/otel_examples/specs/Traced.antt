@@ -1,4 +1,4 @@
--- What a span that was started, ended and handed to a processor promises.
+-- A span that was started, ended and handed to a processor.
 use Rattle.std.specs.Prelude.{◌≡◌, ℕ, ℤ, Option, Some, None, codes}
 use Rattle.otel_base.specs.KeyValue.{Attribute}
 use Rattle.otel_base.specs.Value.{integer}
@@ -9,7 +9,7 @@ use Rattle.otel_sdk_span.specs.SpanData.{SpanRecord}
 use Rattle.otel_sdk_base.specs.Queue.{Received}
 use Rattle.otel_sdk.specs.Processor.{IsHandedIn}
 
--- What a span has recorded was handed to a processor; one that doesn't record has nothing.
+-- The data of a span was handed to a processor. A span that doesn't record has no data.
 abbrev pub IsHandedOver : Option SpanRecord → Received SpanRecord → Received SpanRecord → Type 0
 IsHandedOver None old new = new ≡ old
 IsHandedOver (Some recorded) old new = IsHandedIn recorded old new
@@ -19,8 +19,8 @@ abbrev pub of_item : ℤ → Attribute
 of_item item = (codes "item", integer item)
 
 -- A span named `price` that may start under the parent got the item's attribute, ended at that
--- moment, and was handed to a processor: if it is sampled, it is the last one received, or was dropped
--- and counted.
+-- moment, and was handed to a processor. If it is sampled, it was received last, or dropped and
+-- counted.
 pub record IsTraced (MayStart : BuilderRecord → ContextRecord → SpanState → Type 0)
     (parent : ContextRecord) (item : ℤ) (end : ℕ) (old new : Received SpanRecord) : Type 0 where
   pub span : SpanState

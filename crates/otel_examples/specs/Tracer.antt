@@ -5,8 +5,8 @@ use Rattle.otel_context.specs.Context.{ContextRecord, span_context}
 use Rattle.opentelemetry.specs.SpanBuilder.{BuilderRecord}
 use Rattle.otel_examples.specs.Recording.{Recorded, new}
 
--- the span context of a child of a span: in the parent's trace, or in the tracer's if the parent
--- has none; its id is the parent's plus one, in 64 bits: under the ids 7 and 1, the ids 7 and 2
+-- the span context of a child: in the parent's trace, or in the tracer's if the parent has none;
+-- its id is the parent's plus one, in 64 bits: a child of the ids 7 and 1 has the ids 7 and 2
 abbrev pub child_of : ℕ → SpanContextRecord → SpanContextRecord
 child_of trace_id parent = record {
   trace_id = if parent.trace_id == 0 then trace_id else parent.trace_id;

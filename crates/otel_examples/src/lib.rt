@@ -1,5 +1,5 @@
 //! Small callers of the crate `opentelemetry` and of the SDK, each proved from public contracts,
-//! and spans and a logger that keep what they are given, for tests.
+//! and recording spans and loggers for tests.
 #![tactic(auto)]
 
 pub mod api;

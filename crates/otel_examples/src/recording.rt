@@ -1,5 +1,4 @@
-//! Spans that keep what they are given, with their tracers, and loggers that keep their records,
-//! for tests.
+//! Spans and loggers for tests, which keep everything that they are given, and their providers.
 
 mod logger;
 mod span;

@@ -1,4 +1,4 @@
-//! Callers of the SDK, of the headers of HTTP and of the bridge from the crate `log`.
+//! Callers of the SDK, of HTTP headers and of the bridge from the crate `log`.
 
 pub mod emitted;
 pub mod log_line;

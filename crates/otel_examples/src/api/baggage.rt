@@ -1,4 +1,4 @@
-//! Fills a baggage, reads it back and prints it.
+//! Fills a baggage, reads it and prints it.
 ghost use Rattle.std.specs.Prelude.{◌≡◌, IfOk, codes, string_bytes, option_map};
 ghost use Rattle.otel_context.specs.Baggage.{get};
 ghost use Rattle.otel_examples.specs.Baggage.{of_tenant};

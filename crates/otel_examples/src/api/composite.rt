@@ -1,5 +1,5 @@
-//! Composite propagators: a run whose current context is injected by two members, and a context
-//! that is sent and received by three.
+//! Composite propagators: a run whose current context is injected with two members, and a context
+//! that is sent and received with three.
 ghost use Rattle.std.specs.Prelude.{◌≡◌, IfOk, OnOk, false};
 ghost use Rattle.otel_context.specs.Stack.{current};
 ghost use Rattle.opentelemetry.specs.Carrier.{text_map};
@@ -17,8 +17,8 @@ use otel_propagators::{BaggagePropagator, TraceContextPropagator};
 use std::alloc::{AllocError, Global};
 use std::collections::HashMap;
 
-/// Runs the events, and injects the context that is then current into the headers `x-request-id`
-/// and `baggage`.
+/// Runs the events. Then injects the current context into the headers `x-request-id` and
+/// `baggage`.
 ///
 /// # Errors
 ///
@@ -28,7 +28,7 @@ pub fn run_and_send(
     events: Vec<StackEvent>,
     headers: &mut HashMap<String, String>,
 ) -> Result<RunReport, AllocError>
-    // The latest attach that isn't detached, or the empty context, is current.
+    // The latest context that isn't detached is current, or the empty context if there is none.
     ensures current { IfOk result (λ report.
         IsCurrent events.items report.outcomes.items (current report.stack.live)) }
     ensures sent { IfOk result (λ report.
@@ -43,7 +43,7 @@ pub fn run_and_send(
     run(alloc, events, &composite, headers)
 }
 
-/// Injects the context by a composite.
+/// Injects the context with a composite.
 fn send(
     composite: &TextMapCompositePropagator,
     context: &Context,
@@ -55,7 +55,7 @@ fn send(
     composite.inject_context(context, headers)
 }
 
-/// Returns the context that a composite extracts, starting from the given one.
+/// Returns the given context with the values that a composite extracts.
 fn receive(
     composite: &TextMapCompositePropagator,
     alloc: Global,
@@ -68,7 +68,7 @@ fn receive(
     composite.extract_with_context(alloc, context, headers)
 }
 
-/// Injects the context by a composite, and returns what it then extracts into the empty context.
+/// Injects the context with a composite. Returns the context that it then extracts.
 ///
 /// # Errors
 ///
@@ -79,7 +79,7 @@ pub fn send_and_receive(
     context: &Context,
     headers: &mut HashMap<String, String>,
 ) -> Result<Context, PropagationError>
-    // If the composite has both W3C propagators, what was sent comes back.
+    // If the composite has both W3C propagators, the context that was sent is returned.
     ensures back { Arrives composite.now (λ m. pairs m) (λ m. extracted m) context.now
         headers.old headers.new result }
     // The headers of its members are set.
@@ -94,8 +94,8 @@ pub fn send_and_receive(
     receive(composite, alloc, &empty, headers)
 }
 
-/// Injects the context into the W3C headers and the request's id into a header of its own, by one
-/// composite, and returns what is extracted from them.
+/// Injects the context into the W3C headers, and the request's id into a header of its own, with
+/// one composite. Returns the context that it then extracts.
 ///
 /// # Errors
 ///
@@ -106,7 +106,7 @@ pub fn after_request_id(
     headers: &mut HashMap<String, String>,
 ) -> Result<Context, PropagationError>
     ensures back { IfOk result (ComesBackWithId context.now headers.old headers.new) }
-    // The id's header is set; without an id it is unchanged.
+    // The id's header is set, or unchanged if there is no id.
     ensures id { OnOk result (IsIdSent context.now (text_map headers.old.entries)
         (text_map headers.new.entries)) }
     ensures refused { is_refused result ≡ false }

@@ -7,8 +7,8 @@ use opentelemetry::propagation::{TextMapCompositePropagator, TextMapPropagator};
 use otel_propagators::{BaggagePropagator, TraceContextPropagator};
 use std::alloc::{AllocError, Global};
 
-/// Returns the names of the headers that a composite sets and reads: those of its members, each
-/// once, in order of first appearance. A gateway lets these through, or takes them away.
+/// Returns the names of the headers that a composite's members set and read, each once, in order
+/// of first appearance. A gateway lets these headers through, or removes them.
 ///
 /// # Errors
 ///
@@ -17,7 +17,7 @@ pub fn header_names(
     alloc: Global,
     composite: &TextMapCompositePropagator,
 ) -> Result<Vec<String>, AllocError>
-    // The composite keeps its members' fields, as each does that `new` or `join` returns.
+    // The composite keeps its members' fields. Each composite from `new` or `join` does.
     requires { Keeps composite.now (λ m. field_names m) }
     ensures { IfOk result (λ names.
         AreFields composite.now (λ m. field_names m) (map string_bytes names.items)) }
@@ -29,8 +29,8 @@ pub fn header_names(
     Ok(names)
 }
 
-/// Returns the names of the headers of two joined composites, one with both W3C propagators, and
-/// one with that of baggage again and one of a request's id.
+/// Returns the names of the headers of two joined composites: one with both W3C propagators, and
+/// one with the baggage propagator again and the propagator of a request's id.
 ///
 /// # Errors
 ///

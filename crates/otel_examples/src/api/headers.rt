@@ -7,8 +7,8 @@ ghost use Rattle.opentelemetry.specs.Carrier.{TextMap, text_map};
 use opentelemetry::propagation::{Extractor, Injector, PropagationError};
 use std::alloc::{AllocError, Global};
 
-/// Headers: names in lower case with their values, in order. If a name occurs twice, the first
-/// counts.
+/// Headers: names in lower case with their values, in order. If a name occurs twice, its first
+/// value counts.
 #[derive(Drop)]
 pub struct Headers {
     /// The names with their values.

@@ -1,4 +1,4 @@
-//! Work in a span, with a child span inside.
+//! Work in a span, with a child span.
 ghost use Rattle.std.specs.Prelude.{◌≡◌, IfOk, IfSome};
 ghost use Rattle.otel_examples.specs.InSpan.{HasChild, IsHandled};
 
@@ -69,13 +69,13 @@ impl<T: Tracer> SpanBody<T::Span> for Request<'_, T> {
     }
 }
 
-/// Handles a request in a span of its own, with a child span inside. Afterwards both are in the
+/// Handles a request in a span of its own, with a child span. Afterwards both spans are in the
 /// table, and the request's span has the attribute.
 ///
 /// # Errors
 ///
-/// Those of [`Tracer::in_span`]: the request isn't handled. If memory runs out later, the child's
-/// number is `None`.
+/// The errors of [`Tracer::in_span`]; the request isn't handled. If out of memory later, the
+/// child's number is `None`.
 pub fn handle<T: Tracer>(
     alloc: Global,
     tracer: &T,

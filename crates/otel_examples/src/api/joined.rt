@@ -1,4 +1,4 @@
-//! A context that is sent and received by composites that are joined, in either order.
+//! A context that is sent and received with two composites, joined in either order.
 ghost use Rattle.std.specs.Prelude.{◌≡◌, ◌||◌, IfOk, IsTrue, false};
 ghost use Rattle.otel_context.specs.Context.{empty_context};
 ghost use Rattle.opentelemetry.specs.Carrier.{text_map};
@@ -18,14 +18,14 @@ use std::collections::HashMap;
 /// See [`there_and_back_by`].
 #[derive(Clone, Copy, Debug)]
 pub enum First {
-    /// That of the trace context's propagator.
+    /// The composite of the trace context's propagator.
     Trace,
-    /// That of the baggage's.
+    /// The composite of the baggage's propagator.
     Baggage,
 }
 
-/// Joins composites of the first and of the second propagator, injects the context by both, and
-/// returns what they then extract into the empty context.
+/// Joins composites of the first and of the second propagator, and injects the context with both.
+/// Returns the context that they then extract.
 fn by_both(
     alloc: Global,
     first: Box<dyn TextMapPropagator>,
@@ -33,7 +33,7 @@ fn by_both(
     context: &Context,
     headers: &mut HashMap<String, String>,
 ) -> Result<Context, PropagationError>
-    // If these are both W3C propagators, what was sent comes back.
+    // If these are both W3C propagators, the context that was sent is returned.
     ensures back { ArrivesBy first second (λ m. pairs m) (λ m. extracted m) context.now
         headers.old headers.new result }
     ensures refused { IsTrue (is_refused result)
@@ -47,8 +47,8 @@ fn by_both(
     send_and_receive(alloc, &both, context, headers)
 }
 
-/// Injects the context into the W3C headers, and returns what is extracted from them: composites of
-/// the trace context's propagator and of the baggage's are joined.
+/// Injects the context into the W3C headers with joined composites of the trace context's
+/// propagator and of the baggage's. Returns the context that they then extract.
 ///
 /// # Errors
 ///

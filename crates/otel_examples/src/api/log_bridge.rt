@@ -1,4 +1,4 @@
-//! A bridge from a log to a logger: each record names the span that is active when it is made.
+//! A bridge from a log to a logger. Each record names the span that is active when it is created.
 ghost use Rattle.std.specs.Prelude.{IfOk, codes, string_bytes};
 ghost use Rattle.otel_context.specs.Context.{span_context};
 ghost use Rattle.otel_context.specs.Stack.{current};
@@ -9,8 +9,8 @@ use opentelemetry::context::ContextStack;
 use opentelemetry::logs::{AnyValue, LogRecord, Logger};
 use std::alloc::{AllocError, Global};
 
-/// Returns a record with the message as its body and, if the current context has a valid span, the
-/// trace id, span id and flags of that.
+/// Returns a record with the message as its body. If the current context has a valid span, the
+/// record has its trace id, span id and flags.
 ///
 /// # Errors
 ///
@@ -34,7 +34,7 @@ pub fn stamped_record<L: Logger>(
     Ok(record)
 }
 
-/// Emits a record of the message.
+/// Emits a record with the message.
 ///
 /// # Errors
 ///

@@ -7,12 +7,12 @@ use opentelemetry::context::ContextStack;
 use otel_context::laws::stack_calls;
 use std::alloc::AllocError;
 
-/// Attaches two contexts and detaches the older first. Returns a copy of the context that is
+/// Attaches two contexts and detaches the older one first. Returns a copy of the context that is
 /// current in between.
 ///
 /// # Errors
 ///
-/// `AllocError` if out of memory. What is live on the stack is the same after it too.
+/// `AllocError` if out of memory. The same contexts are live on the stack as before.
 pub fn current_between(
     stack: &mut ContextStack,
     first: Context,

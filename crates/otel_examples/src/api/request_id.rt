@@ -8,7 +8,7 @@ use opentelemetry::propagation::{Extractor, Injector, PropagationError, TextMapP
 use opentelemetry::{Context, Key, StringValue};
 use std::alloc::{AllocError, Global};
 
-/// Returns the id of a context's request: its entry `request.id`, if that is a text.
+/// Returns the request id of a context: its entry `request.id`, if that is a text.
 pub fn id_of(context: &Context) -> Option<&str>
     ensures { option_map (λ id. id.now) result ≡ id_of context.now }
 {
@@ -26,11 +26,11 @@ pub struct RequestId {
 }
 
 impl RequestId {
-    /// Returns the propagator. The texts that it sets are allocated in `alloc`.
+    /// Returns the propagator. It allocates the texts that it sets with `alloc`.
     ///
     /// # Errors
     ///
-    /// `AllocError` if out of memory for the field's name.
+    /// `AllocError` if out of memory.
     pub fn new(alloc: Global) -> Result<RequestId, AllocError>
         ensures { IfOk result (λ made. map string_bytes made.fields.items ≡ fields) }
     {

@@ -10,7 +10,7 @@ use otel_context::laws::stack_calls;
 use std::alloc::AllocError;
 use thiserror::Error;
 
-/// The reason why there is no amount.
+/// The reason why an amount can't be read.
 #[derive(Debug, Drop, Error)]
 pub enum AmountError {
     /// The current context has no integer under `amount`.
@@ -35,12 +35,12 @@ pub fn current_amount(stack: &ContextStack) -> Result<i64, AmountError>
     }
 }
 
-/// Reads the amount under a context, and detaches the context again, even if it has no amount.
+/// Attaches a context, reads its amount, and detaches it, even if it has no amount.
 ///
 /// # Errors
 ///
-/// `Missing` if the context has no integer under `amount`; `Memory` if out of memory. What is live
-/// on the stack is the same after either.
+/// `Missing` if the context has no integer under `amount`; `Memory` if out of memory. After either
+/// the same contexts are live on the stack as before.
 pub fn amount_under(stack: &mut ContextStack, context: Context) -> Result<i64, AmountError>
     ensures amount { newest_position stack.old.live < last_position
         → IfOk result (HasAmount context) }

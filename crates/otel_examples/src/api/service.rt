@@ -1,4 +1,4 @@
-//! A service between two others, which passes on what a request's headers carry.
+//! A service between two others, which passes on the context in a request's headers.
 ghost use Rattle.std.specs.Prelude.{◌≡◌, IfOk};
 ghost use Rattle.otel_examples.specs.Service.{Forwards, Starts};
 
@@ -13,9 +13,9 @@ use std::alloc::{AllocError, Global};
 pub enum ForwardError<S> {
     /// The headers weren't read or set.
     Headers(PropagationError),
-    /// No span was started: out of memory.
+    /// Out of memory: no span was started.
     Start(AllocError),
-    /// The table didn't take the span, which comes back.
+    /// The table refused the span. The error returns it.
     Refused(SpanRefused<S>),
 }
 
@@ -43,13 +43,13 @@ impl<S> From<SpanRefused<S>> for ForwardError<S> {
     }
 }
 
-/// Forwards a request: starts a span under the one that the received headers name, and sets the
-/// headers to be sent for it. Returns the number of the span in the table.
+/// Forwards a request: starts a span under the parent that the received headers name, and sets the
+/// headers of the forwarded request. Returns the number of the span in the table.
 ///
 /// # Errors
 ///
 /// See [`ForwardError`]. After `Headers` the table may have the span, and a prefix of the headers
-/// may be set; after the others neither the table nor the headers to be sent change.
+/// may be set. After the others the table and the headers to be sent are unchanged.
 pub fn forward<T: Tracer, P: TextMapPropagator>(
     alloc: Global,
     tracer: &T,

@@ -1,4 +1,4 @@
-//! A context that is sent and received in the W3C headers, by two propagators in turn.
+//! A context that is sent and received in the W3C headers, with two propagators in turn.
 ghost use Rattle.std.specs.Prelude.{◌≡◌, IfOk, OnErr, false};
 ghost use Rattle.otel_context.specs.Context.{empty_context};
 ghost use Rattle.opentelemetry.specs.Carrier.{text_map};
@@ -38,8 +38,8 @@ fn extract<P: TextMapPropagator>(
     propagator.extract_with_context(alloc, context, map)
 }
 
-/// Injects the context into the carrier by both propagators, and returns what they then extract
-/// into the empty context.
+/// Injects the context into the carrier with both propagators. Returns the context that they then
+/// extract.
 ///
 /// # Errors
 ///
@@ -54,7 +54,7 @@ pub fn there_and_back(
     ensures back { IfOk result (λ back.
         ComesBack context.now (text_map carrier.old.entries) empty_context back) }
     ensures err { OnErr result (SetsSome context.now carrier.old carrier.new) }
-    // Neither these propagators nor a map refuses.
+    // These propagators and maps never refuse.
     ensures refused { is_refused result ≡ false }
 {
     every_context(context);

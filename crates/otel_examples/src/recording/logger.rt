@@ -1,4 +1,4 @@
-//! A logger that keeps the records it is given, and its provider.
+//! A logger that keeps the records that it emits, and its provider.
 ghost use Rattle.std.specs.Prelude.{◌≡◌, IsOkAnd};
 
 use opentelemetry::logs::{Logger, LoggerProvider, Severity};
@@ -7,13 +7,9 @@ use otel_sdk_logs::SdkLogRecord;
 use std::alloc::{AllocError, Global};
 use std::cell::RefCell;
 
-/// A logger that keeps the records it is given, in order.
+/// A logger for tests. It keeps the records that it emits, in order.
 ///
 /// An event is enabled if its severity is at least `least`.
-///
-/// ```
-/// RecordingLogger::new(alloc, scope, Severity::Trace)
-/// ```
 #[derive(Drop)]
 pub struct RecordingLogger {
     /// The library or module that the logger is for.
@@ -24,7 +20,7 @@ pub struct RecordingLogger {
 }
 
 impl RecordingLogger {
-    /// Returns a logger without records. Takes no memory.
+    /// Returns a logger without records. Doesn't allocate.
     pub fn new(alloc: Global, scope: InstrumentationScope, least: Severity) -> RecordingLogger
         ensures scope { result.scope ≡ scope }
         ensures least { result.least ≡ least }
@@ -36,7 +32,7 @@ impl RecordingLogger {
         }
     }
 
-    /// Returns the records that the logger was given, in order.
+    /// Returns the emitted records, in order.
     pub fn into_emitted(self) -> Vec<SdkLogRecord> {
         let RecordingLogger {
             scope: _,
@@ -59,14 +55,14 @@ impl Logger for RecordingLogger {
     ghost may_enable = { λ logger level _ _ enabled.
         enabled ≡ nat_le (number logger.least) (number level) };
 
-    /// Returns a record with nothing set. Takes no memory.
+    /// Returns a record with nothing set. Doesn't allocate.
     fn create_log_record(&self, alloc: Global) -> Result<SdkLogRecord, AllocError>
         ensures { IsOkAnd result (λ log. log ≡ empty) }
     {
         Ok(SdkLogRecord::new(alloc))
     }
 
-    /// Keeps the record, after the others. If out of memory, drops it.
+    /// Keeps the record, after the others. Drops it if out of memory.
     fn emit(&self, record: SdkLogRecord) {
         if let Ok(mut emitted) = self.emitted.try_borrow_mut() {
             drop(emitted.push(record));
@@ -80,12 +76,6 @@ impl Logger for RecordingLogger {
 }
 
 /// A provider that returns a [`RecordingLogger`] for each scope.
-///
-/// ```
-/// RecordingLoggerProvider {
-///     least: Severity::Warn,
-/// }
-/// ```
 #[derive(Clone, Copy, Debug)]
 pub struct RecordingLoggerProvider {
     /// The least severity of an event that is enabled.
@@ -100,7 +90,7 @@ impl LoggerProvider for RecordingLoggerProvider {
     ghost may_give = { λ provider scope logger.
         (logger.scope ≡ scope) × (logger.least ≡ provider.least) };
 
-    /// Returns a logger for the scope. Takes no memory.
+    /// Returns a logger for the scope. Doesn't allocate.
     fn logger_with_scope(
         &self,
         alloc: Global,

@@ -1,4 +1,4 @@
-//! A span that keeps a list of what it is given.
+//! A span that keeps a list of the effects of its calls.
 ghost use Rattle.std.specs.Prelude.{◌≡◌, OnOk, OnErr, map, refl, true, false};
 
 use otel_base::{KeyValue, StringValue};
@@ -7,7 +7,7 @@ use otel_ids::SpanContext;
 use std::alloc::{AllocError, Global};
 use std::marker::Model;
 
-/// One thing that a span keeps.
+/// An effect of a call that a span keeps.
 ///
 /// See [`RecordingSpan::effects`].
 #[derive(Debug, Drop)]
@@ -20,15 +20,11 @@ pub enum Effect {
     Link(SpanContext, Vec<KeyValue>),
 }
 
-/// A span that keeps a list of what it is given, whether it records or not.
+/// A span for tests. It keeps its events, attributes and links, even if it doesn't record.
 ///
 /// It records until it ends, until [`RecordingSpan::stop`], or until the first attribute after
 /// [`RecordingSpan::stop_at_attribute`]. It can be made to fail as if out of memory: see
 /// [`RecordingSpan::fail_after`].
-///
-/// ```
-/// RecordingSpan::new(alloc, span_context(number), StringValue::from("work"))
-/// ```
 #[derive(Drop)]
 pub struct RecordingSpan {
     context: SpanContext,
@@ -38,7 +34,7 @@ pub struct RecordingSpan {
     ended: Option<u64>,
     recording: bool,
     stops_at_attribute: bool,
-    // How many more effects it keeps. No contract sees it.
+    // The number of effects that it can still keep. No contract sees it.
     room: u64,
 }
 
@@ -62,7 +58,7 @@ impl Model for RecordingSpan {
 impl RecordingSpan {
     ghost use Rattle.otel_examples.specs.Recording.{new, kept, with_effect};
 
-    /// Returns a span that keeps nothing yet. Takes no memory.
+    /// Returns a span without effects. Doesn't allocate.
     pub fn new(alloc: Global, context: SpanContext, name: StringValue) -> RecordingSpan
         ensures { result ≡ new context name }
     {
@@ -78,7 +74,7 @@ impl RecordingSpan {
         }
     }
 
-    /// Lets the next attribute stop the recording.
+    /// Makes the next attribute stop the recording.
     pub fn stop_at_attribute(&mut self)
         ensures { self.new ≡ record self.old { stops_at_attribute = true } }
     {
@@ -92,14 +88,14 @@ impl RecordingSpan {
         self.recording = false;
     }
 
-    /// Makes each event, attribute and link, after the next `taken`, fail as if out of memory.
+    /// Makes each event, attribute and link after the next `taken` ones fail as if out of memory.
     pub fn fail_after(&mut self, taken: u64)
         ensures { self.new ≡ self.old }
     {
         self.room = taken;
     }
 
-    /// Returns what it keeps, in order.
+    /// Returns the effects that it keeps, in order.
     pub fn effects(&self) -> &[Effect]
         ensures { map kept result.now ≡ self.now.effects }
     {
@@ -127,7 +123,7 @@ impl RecordingSpan {
         self.ended
     }
 
-    // Keeps one more effect, if there is room.
+    // Keeps one more effect, if it can.
     fn keep(&mut self, effect: Effect) -> Result<(), AllocError>
         ensures ok { OnOk result (self.new ≡ with_effect self.old (kept effect)) }
         ensures err { OnErr result (self.new ≡ self.old) }

@@ -12,13 +12,7 @@ use std::alloc::{AllocError, Global};
 /// A tracer that starts a [`RecordingSpan`] with each builder's name.
 ///
 /// A span has the trace id of its parent, or the tracer's if the parent has none. Its span id is
-/// the parent's plus one, so that ids show which span is the parent. It is sampled.
-///
-/// ```
-/// RecordingTracer {
-///     trace_id: TraceId::from(7),
-/// }
-/// ```
+/// the parent's plus one, so the ids show which span is the parent. It is sampled.
 #[derive(Debug, Drop)]
 pub struct RecordingTracer {
     /// The trace id of spans without a parent.

@@ -39,12 +39,6 @@ impl Tracer for ScopedTracer {
 }
 
 /// A provider that returns a [`ScopedTracer`] for each scope.
-///
-/// ```
-/// RecordingTracerProvider {
-///     trace_id: TraceId::from(7),
-/// }
-/// ```
 #[derive(Clone, Copy, Debug)]
 pub struct RecordingTracerProvider {
     /// The trace id of spans without a parent.
@@ -59,7 +53,7 @@ impl TracerProvider for RecordingTracerProvider {
     ghost may_give = { λ provider scope given.
         (given.scope ≡ scope) × (given.tracer.trace_id ≡ provider.trace_id) };
 
-    /// Returns a tracer for the scope. Takes no memory.
+    /// Returns a tracer for the scope. Doesn't allocate.
     fn tracer_with_scope(
         &self,
         _alloc: Global,

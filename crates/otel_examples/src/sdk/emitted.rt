@@ -4,12 +4,12 @@ ghost use Rattle.otel_sdk_base.specs.Queue.{IsKeptOrDropped};
 use otel_sdk::error::OTelSdkResult;
 use otel_sdk::logs::{LogData, LogProcessor};
 
-/// Hands the record to the processor, and all that it has queued to its exporter. A record that
-/// meets a full queue or a closed processor is dropped and counted.
+/// Hands the record to the processor, and flushes it. If its queue is full or it was shut down, the
+/// record is dropped and counted.
 ///
 /// # Errors
 ///
-/// That of the flush. What the exporter refused stays queued.
+/// The error of the flush. Records that the exporter refused stay queued.
 pub fn emit<Q: LogProcessor>(processor: &mut Q, given: LogData) -> OTelSdkResult
     ensures { IsKeptOrDropped given (Q.received processor.old) (Q.received processor.new) }
 {

@@ -10,8 +10,8 @@ use opentelemetry::logs::Logger;
 use otel_appender_log::{SourceLocation, bridged_record};
 use std::alloc::{AllocError, Global};
 
-/// Returns the record that a logger is handed for the warning `no price`, or `None` if it doesn't
-/// want that.
+/// Returns the logger's record of the warning `no price`, or `None` if the logger doesn't want the
+/// warning.
 ///
 /// # Errors
 ///

@@ -1,4 +1,4 @@
-//! Requests of HTTP: their headers as a context comes in, and as it goes out.
+//! HTTP requests: the context in the headers of a received request, and in a sent one.
 ghost use Rattle.std.specs.Prelude.{◌≡◌, IfOk, OnOk};
 ghost use Rattle.otel_context.specs.Context.{empty_context};
 ghost use Rattle.opentelemetry.specs.Carrier.{Sets};
@@ -53,7 +53,7 @@ pub fn received<P: TextMapPropagator>(
     extract(propagator, alloc, &Context::new(), &extractor)
 }
 
-/// Returns the headers of a request that is sent under the context.
+/// Returns the headers with the context, for a request that is sent.
 ///
 /// # Errors
 ///

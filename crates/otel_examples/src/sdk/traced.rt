@@ -10,12 +10,12 @@ use otel_sdk::trace::{
 };
 use std::alloc::Global;
 
-/// Starts a span named `price` under the parent, with the item as an attribute, ends it at that
-/// moment, and hands it to the processor.
+/// Starts a span named `price` under the parent, sets the item as an attribute, ends the span at
+/// `end`, and hands it to the processor.
 ///
 /// # Errors
 ///
-/// `Memory` if out of memory, else that of the processor.
+/// `Memory` if out of memory, otherwise the error of the processor.
 pub fn price<P: Pipeline, Q: SpanProcessor>(
     alloc: Global,
     tracer: &SdkTracer<P>,
@@ -36,11 +36,11 @@ pub fn price<P: Pipeline, Q: SpanProcessor>(
     }
 }
 
-/// Hands the spans that have ended to the processor, and the queue to the exporter.
+/// Hands the spans that have ended to the processor, and its queue to the exporter.
 ///
 /// # Errors
 ///
-/// That of the processor or the exporter. What wasn't exported stays, in order.
+/// The error of the processor or the exporter. Spans that weren't exported stay, in order.
 pub fn export<E: SpanExporter>(
     live: &mut LiveSpans,
     processor: &mut BatchSpanProcessor<E>,
