@@ -1,4 +1,4 @@
-//! Two spans, one under the other, drawn for a terminal.
+//! A span and its child, drawn for a terminal.
 #![tactic(auto)]
 
 use opentelemetry::trace::{Span, Tracer, TracerProvider};
@@ -11,7 +11,7 @@ use otel_sdk::trace::{
 use otel_waterfall::WaterfallExporter;
 use std::alloc::{AllocError, Global};
 
-/// Starts a span, and returns its number and a context with it.
+/// Starts a span. Returns its number and a context in which it is active.
 fn start<P: Pipeline>(
     alloc: Global,
     tracer: &SdkTracer<P>,
@@ -25,7 +25,7 @@ fn start<P: Pipeline>(
     Ok((number, context))
 }
 
-/// Records a span and one under it.
+/// Records a span and its child.
 fn record<P: Pipeline>(alloc: Global, tracer: &SdkTracer<P>) -> Result<LiveSpans, OTelSdkError> {
     let mut spans = LiveSpans::new(alloc);
     let (serve, context) = start(alloc, tracer, &mut spans, "serve", &Context::new())?;
