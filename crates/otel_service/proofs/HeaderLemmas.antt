@@ -1,4 +1,4 @@
--- Where a request is cut into lines, and what a map of headers has after one more.
+-- The lines of a request, and the values of a map of headers after one more header.
 use Rattle.std.proofs.Common.{◌≡◌, ℕ, ◌+◌, ◌-◌, ◌<◌, ◌≤◌, Bool, true, false, cond, ◌&&◌, List, [], ◌∷◌, ◌++◌, length, take, drop, Option, Some, None, refl, sym, ap, ◌∙◌, subst, arith, inl, inr, append-nil, append_assoc, length-drop, string_bytes, map}
 use Rattle.std.specs.Prelude.{IsUtf8, nat_lt, position}
 use Rattle.std.specs.HashMap as hash
@@ -25,7 +25,7 @@ use Rattle.opentelemetry.specs.Carrier.{lower}
 use Rattle.otel_base.specs.Blanks.{cut_blanks}
 use Rattle.otel_service.specs.Headers.{is_line_feed, is_colon, IsFirstLine, header_in, header_of, headers_of, values_under, combined_value, value_at}
 
--- what isn't UTF-8 doesn't pass the test
+-- bytes that aren't UTF-8 don't pass the test
 pub not_utf8 : (bs : List ℕ) → (IsUtf8 bs → ⊥) → is_utf8 bs ≡ false
 not_utf8 bs not =
     elim (cases_Bool (is_utf8 bs)) [ inl t ↦ absurd (not (IsUtf8-from_is_utf8 bs t)) | inr f ↦ f ]
@@ -43,7 +43,7 @@ module _ (p : ℕ → Bool) where
         | inr f ↦ let none = rw f at e in cc
       ]
 
-  -- the first part, and what follows it
+  -- the first part, and the bytes after it
   pub cut_at : (xs : List ℕ) (i : ℕ) → position p xs ≡ Some i →
       (slice_split p xs ≡ take i xs ∷ slice_split p (take (length xs - (i + 1)) (drop (i + 1) xs)))
       × (length (take (length xs - (i + 1)) (drop (i + 1) xs)) < length xs)
@@ -101,7 +101,7 @@ combined_twice [] ws = refl
 combined_twice (v ∷ vs) [] = ap combined_value (sym (ap (λ (xs : List (List ℕ)). v ∷ xs) (append-nil vs)))
 combined_twice (v ∷ vs) (w ∷ ws) = ap Some (sym (join_append v vs w ws))
 
--- one value is as it is
+-- one value is unchanged
 pub combined_one : (before : Option (List ℕ)) → combined_value (option_to_list before ++ []) ≡ before
 combined_one None = refl
 combined_one (Some v) = refl
@@ -120,7 +120,7 @@ put_behind name value other old joint true joins =
 put_behind name value other old joint false joins = sym (combined_one (option_map string_bytes old))
 
 module _ {A S : Type 0} where
-  -- what a map has after a value was put behind those of a name
+  -- the values of a map after a value was put behind the values of a name
   pub added : (old without new : HashMap (String A) (String A) S) (name value : List ℕ) (lowered : String A) (values : Option (String A)) (joint : String A) →
       string_bytes lowered ≡ lower name →
       values ≡ hash.get_by_text old (string_bytes lowered) →
@@ -154,7 +154,7 @@ headers_first bytes line None cut =
 headers_first bytes line (Some r) cut =
     ap (filter_map (λ l. header_of (strip_carriage_return l))) cut.0 ∙ cons_one (header_of (strip_carriage_return line)) (headers_of r.now)
 
--- the headers of a line and of what follows it are those of both
+-- the headers of a line and of the bytes after it are the headers of both together
 pub read_on : (bytes line name : List ℕ) (rest : Option (Bor (List ℕ))) (old new : Option (List ℕ)) →
     IsFirstLine bytes line rest →
     new ≡ combined_value (option_to_list old ++ values_under name (option_to_list (header_of (strip_carriage_return line)))) →

@@ -4,14 +4,14 @@ use std::alloc::{AllocError, Global};
 use std::cell::Cell;
 use std::rc::Rc;
 
-/// The first moment that is read, in nanoseconds since 1970-01-01T00:00:00Z.
+/// The first reading, in nanoseconds since 1970-01-01T00:00:00Z.
 const FIRST: u64 = 1_760_000_000_000_000_000;
 
-/// How far a reading is after the one before it: a millisecond.
+/// The time from one reading to the next: a millisecond, in nanoseconds.
 const STEP: u64 = 1_000_000;
 
-/// A clock that each reading sets on by a millisecond, so that the same requests give the same
-/// picture.
+/// A clock that moves on by a millisecond at each reading, so that the same requests give the same
+/// output.
 #[derive(Drop)]
 pub struct CountedClock {
     next: Rc<Cell<u64>>,
@@ -28,11 +28,11 @@ impl CountedClock {
         Ok(CountedClock { next })
     }
 
-    /// Returns another handle of the clock: readings of either set on both.
+    /// Returns another handle of the clock. A reading of either moves both on.
     ///
     /// # Errors
     ///
-    /// `AllocError` if the count of those that share the clock is at its limit.
+    /// `AllocError` if the number of handles is at its limit.
     pub fn share(&self) -> Result<CountedClock, AllocError> {
         let next = self.next.clone()?;
         Ok(CountedClock { next })

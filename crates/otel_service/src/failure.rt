@@ -1,4 +1,4 @@
-//! Why a request isn't served. Bad headers are not a reason: the service then starts a new trace.
+//! The reasons why a request isn't served. Bad headers aren't one: they start a new trace.
 use opentelemetry::propagation::PropagationError;
 use opentelemetry::trace::StartError;
 use otel_sdk::error::OTelSdkError;
@@ -8,7 +8,7 @@ use std::io;
 /// The reason why a request isn't served.
 #[derive(Clone, Copy, Debug, PartialEq, Eq)]
 pub enum Failure {
-    /// The arguments aren't those of the program.
+    /// The arguments are invalid.
     Usage,
     /// The input can't be read, or the output can't be written.
     Io,
@@ -38,7 +38,7 @@ impl<T: Drop> From<AllocFailed<T>> for Failure {
 }
 
 impl From<PropagationError> for Failure {
-    // Neither the propagators nor a map of texts refuses.
+    // The propagators and maps of texts never refuse.
     fn from(_error: PropagationError) -> Failure {
         Failure::NoMemory
     }

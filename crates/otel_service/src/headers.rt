@@ -16,13 +16,13 @@ use std::collections::HashMap;
 use std::io::{self, Write};
 use std::str;
 
-/// Parses the headers, each a line `name: value` that ends at a line feed or at a carriage return
+/// Parses headers. Each is a line `name: value`, which ends in a line feed or in a carriage return
 /// and a line feed.
 ///
-/// Names are compared without regard to case, and the values of a repeated name are joined by
+/// Names are compared without regard to case, and the values of a repeated name are joined with
 /// commas (RFC 9110, sections 5.1 and 5.3). Spaces and tabs around a value are dropped. A line is
 /// ignored if it isn't UTF-8, has no colon, or its name isn't a token, for example because it ends
-/// in a blank.
+/// in a space.
 ///
 /// # Errors
 ///
@@ -40,7 +40,7 @@ pub fn parse(alloc: Global, bytes: &[u8]) -> Result<HashMap<String, String>, All
     Ok(headers)
 }
 
-/// Returns the bytes before the first line feed, and those after it, if there is one.
+/// Returns the bytes before the first line feed, and the bytes after it if there is one.
 fn first_line(bytes: &[u8]) -> (&[u8], Option<&[u8]>)
     ensures { IsFirstLine bytes.now result.0.now result.1 }
 {
@@ -57,7 +57,7 @@ fn line_feed(bytes: &[u8]) -> Option<usize>
     bytes.iter().position(|byte| *byte == b'\n')
 }
 
-/// Adds the line's header to the others, if it has one.
+/// Adds the line's header to the headers, if it has one.
 fn read_line(
     alloc: Global,
     headers: &mut HashMap<String, String>,
@@ -131,7 +131,7 @@ fn is_token(name: &str) -> bool
     !name.is_empty() && are_token_bytes(name.as_bytes())
 }
 
-/// Adds the value to those of the name, after a comma.
+/// Adds the value to the values of the name, after a comma.
 fn add(
     alloc: Global,
     headers: &mut HashMap<String, String>,
@@ -160,12 +160,12 @@ fn join(alloc: Global, values: Option<String>, value: &str) -> Result<String, Al
 }
 
 /// Writes a line `name: value` for each header, in order. A header with a carriage return, a line
-/// feed or NUL could inject further headers (RFC 9110, section 5.5), so it is left out, and a line
+/// feed or NUL could inject further headers (RFC 9110, section 5.5). It is left out, and a line
 /// with its name is written to `errors`.
 ///
 /// # Errors
 ///
-/// The error of a write that fails. Lines before it may have been written.
+/// The error of the first write that fails. Earlier lines may have been written.
 pub fn write<W: Write, E: Write>(
     output: &mut W,
     errors: &mut E,

@@ -1,4 +1,4 @@
-//! What the service logged, as lines of text.
+//! The log records of the service as lines of text.
 use crate::failure::Failure;
 use opentelemetry::logs::AnyValue;
 use otel_sdk::logs::{
@@ -8,14 +8,14 @@ use otel_sdk::logs::{
 use otel_sdk::trace::Clock;
 use std::io::{self, Write};
 
-/// A provider of loggers that keeps what they emit.
+/// A provider of loggers that keeps the records that they emit.
 pub type Logs<C> = SdkLoggerProvider<SimpleLogProcessor<InMemoryLogExporter>, C>;
 
 /// Writes a line for each record, in order: its severity, its body, and the ids of its span.
 ///
 /// # Errors
 ///
-/// `NoMemory` if out of memory, `Io` if a write fails. Earlier lines are written.
+/// `NoMemory` if out of memory; `Io` if a write fails. Earlier lines are written.
 pub fn write<C: Clock, W: Write>(logs: &Logs<C>, output: &mut W) -> Result<(), Failure> {
     let Ok(processor) = logs.processor() else {
         return Ok(());

@@ -1,6 +1,6 @@
-//! A service at work: it reads the headers of requests from standard input, does the work of each
-//! in a span with two child spans, under the span that the headers name, prints the headers of the
-//! request that it sends on, and logs that it was served.
+//! A service at work. It reads the headers of requests from standard input. It does the work of
+//! each request in a span with two child spans, under the span that the headers name. It prints the
+//! headers of the request that it sends on, and logs that the request was served.
 #![tactic(auto)]
 
 mod clock;
@@ -45,7 +45,7 @@ fn resource(alloc: Global) -> Result<Resource, AllocError> {
     Ok(builder.build())
 }
 
-/// Returns the provider of the loggers, which keeps what they emit.
+/// Returns the provider of the loggers, which keeps the records that they emit.
 fn logs<R: std::time::Clock + Copy + Drop, C: Clock>(
     rt: R,
     alloc: Global,
@@ -89,8 +89,8 @@ fn serve<P: Pipeline, C: Clock, L: Logger, X: SpanExporter>(
     Ok(())
 }
 
-/// Serves all requests, and hands their spans to what the options name. Lines of JSON go to the end
-/// of the file.
+/// Serves all requests, and hands their spans to the exporter that the options ask for. Lines of
+/// JSON are appended to the file.
 fn export<P: Pipeline, C: Clock, L: Logger>(
     rt: HostRuntime,
     service: &Service<'_, P, C, L>,

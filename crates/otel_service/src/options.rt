@@ -2,23 +2,23 @@
 use crate::failure::Failure;
 use std::env::Args;
 
-/// What the arguments ask for: `[--fixed] [--waterfall] [FILE]`.
+/// The options in the arguments `[--fixed] [--waterfall] [FILE]`.
 #[derive(Debug, Default, Drop)]
 pub struct Options {
-    /// Counted ids and a counted clock, so that the same requests give the same output.
+    /// Whether ids and the clock are counted, so that the same requests give the same output.
     pub is_fixed: bool,
-    /// A picture of each request's trace on standard error.
+    /// Whether a picture of each request's trace is drawn on standard error.
     pub has_waterfall: bool,
-    /// The file that gets the spans as lines of JSON.
+    /// The file to which the spans are appended as lines of JSON.
     pub file: Option<String>,
 }
 
 impl Options {
-    /// Reads the arguments, of which the first is the name of the program.
+    /// Reads the arguments. The first is the name of the program.
     ///
     /// # Errors
     ///
-    /// `Usage` if there is another option, a second file, or a file beside `--waterfall`.
+    /// `Usage` if there is an unknown option, a second file, or both a file and `--waterfall`.
     pub fn read(args: Args) -> Result<Options, Failure> {
         let mut options = Options::default();
         for arg in args.skip(1) {

@@ -1,4 +1,4 @@
-//! The requests that are read, each of which is served and answered in turn.
+//! The requests in the input, which are served and answered in turn.
 use crate::failure::Failure;
 use crate::headers;
 use crate::service::Service;
@@ -6,13 +6,14 @@ use opentelemetry::logs::Logger;
 use otel_sdk::trace::{BatchSpanProcessor, Clock, Pipeline, SpanExporter};
 use std::io::Write;
 
-/// Serves the requests of the bytes, which are parted by empty lines, and writes what is sent on
-/// for each, parted likewise. Without any line there is one request, without headers.
+/// Serves the requests in the bytes, and writes the headers that are sent on for each. Empty lines
+/// separate the requests, and the headers that are written. Empty input is one request without
+/// headers.
 ///
 /// # Errors
 ///
-/// That of the first request that isn't served, or of a write that fails. What was sent on for
-/// earlier requests is written.
+/// The error of the first request that isn't served, or of the first write that fails. The headers
+/// of earlier requests are written.
 pub fn serve_all<P: Pipeline, C: Clock, L: Logger, X: SpanExporter, W: Write, E: Write>(
     service: &Service<'_, P, C, L>,
     processor: &mut BatchSpanProcessor<X>,
@@ -38,8 +39,8 @@ pub fn serve_all<P: Pipeline, C: Clock, L: Logger, X: SpanExporter, W: Write, E:
     Ok(())
 }
 
-/// Serves the request of these lines, and writes what is sent on, after an empty line unless it is
-/// the first.
+/// Serves the request in these lines, and writes the headers that are sent on. An empty line comes
+/// before them, except for the first request.
 fn serve<P: Pipeline, C: Clock, L: Logger, X: SpanExporter, W: Write, E: Write>(
     service: &Service<'_, P, C, L>,
     processor: &mut BatchSpanProcessor<X>,

@@ -1,4 +1,4 @@
-//! What the service does with a request.
+//! The service, and the spans of its requests.
 use crate::failure::Failure;
 use crate::headers;
 use crate::work::{LoadCart, Price};
@@ -18,7 +18,7 @@ use std::alloc::{AllocError, Global};
 use std::collections::HashMap;
 use std::io::{self, Write};
 
-/// What a service serves requests by.
+/// The dependencies of the service.
 #[derive(Drop)]
 pub struct Service<'a, P, C, L> {
     /// The allocator.
@@ -39,8 +39,8 @@ pub struct Sent {
     headers: HashMap<String, String>,
 }
 
-/// What is made in the span of a request: the headers to send on, and the numbers of the child
-/// spans, in the order of their ends.
+/// The results of a request's span: the headers to send on, and the numbers of the child spans, in
+/// the order of their ends.
 #[derive(Drop)]
 pub struct Answer {
     sent: Sent,
@@ -73,13 +73,13 @@ impl<P: Pipeline, C: Clock, L: Logger> SpanBody<SdkSpan> for Request<'_, P, C, L
 }
 
 impl<P: Pipeline, C: Clock, L: Logger> Service<'_, P, C, L> {
-    /// Serves a request: in a span under the one that its headers name, or in a trace of its own if
-    /// they name none, it does the work, and sets the headers to be sent on. Then it hands the
-    /// spans to the exporter.
+    /// Serves a request: does its work in a span, sets the headers to send on, and hands the spans
+    /// to the exporter. The span's parent is the span that the request's headers name. If they name
+    /// none, the span starts a new trace.
     ///
     /// # Errors
     ///
-    /// `NoMemory` if out of memory, `Io` if the spans can't be written: they stay queued.
+    /// `NoMemory` if out of memory; `Io` if the spans can't be written. They stay queued.
     pub fn serve<E: SpanExporter>(
         &self,
         received: &HashMap<String, String>,
@@ -94,8 +94,8 @@ impl<P: Pipeline, C: Clock, L: Logger> Service<'_, P, C, L> {
         Ok(sent)
     }
 
-    /// Does the work of a request in a span under the parent. Ends the span, whose number goes
-    /// last.
+    /// Does the work of a request in a span under the parent, and ends the span. Its number is the
+    /// last one.
     fn work(&self, parent: &Context, spans: &mut Spans<SdkSpan>) -> Result<Answer, Failure> {
         let mut stack = ContextStack::new(self.alloc)?;
         let builder = self
@@ -173,7 +173,7 @@ impl<P: Pipeline, C: Clock, L: Logger> Service<'_, P, C, L> {
     }
 }
 
-/// Hands the spans to the exporter, in the order of these numbers.
+/// Hands the spans with these numbers to the exporter, in order.
 fn export<E: SpanExporter>(
     processor: &mut BatchSpanProcessor<E>,
     mut spans: Spans<SdkSpan>,
@@ -208,11 +208,11 @@ fn with_service_name(alloc: Global, context: &Context) -> Result<Context, AllocE
 
 impl Sent {
     /// Writes the headers in ascending order of their names. A header that isn't one line is left
-    /// out, and `errors` says so (see [`headers::write`]).
+    /// out, and a line with its name is written to `errors` (see [`headers::write`]).
     ///
     /// # Errors
     ///
-    /// The error of a write that fails, and `OutOfMemory` if out of memory. Lines before the error
+    /// `OutOfMemory` if out of memory, or the error of the first write that fails. Earlier lines
     /// may have been written.
     pub fn write<W: Write, E: Write>(
         &self,

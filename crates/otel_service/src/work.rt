@@ -1,16 +1,16 @@
-//! The steps of a request, each of which runs in a span of its own.
+//! The steps of a request. Each runs in a span of its own.
 use opentelemetry::context::ContextStack;
 use opentelemetry::trace::{Span, SpanBody, Spans, Status};
 use opentelemetry::{Context, Key, KeyValue, StringValue, Value};
 use otel_sdk::trace::Clock;
 use std::alloc::{AllocError, Global};
 
-/// The user that the request's baggage names, if it does.
+/// Returns the user that the request's baggage names, if it names one.
 fn user_of(context: &Context) -> Option<&StringValue> {
     context.baggage()?.get("userId")
 }
 
-/// Loads the cart of the user: its span has the user as an attribute, and an event.
+/// Loads the cart of the user. Its span has the user as an attribute, and an event.
 #[derive(Drop)]
 pub struct LoadCart<'a, C> {
     /// The allocator.
@@ -43,7 +43,7 @@ impl<S: Span, C: Clock> SpanBody<S> for LoadCart<'_, C> {
     }
 }
 
-/// Prices the cart. It fails if the request names no user.
+/// Prices the cart. Fails if the request names no user.
 #[derive(Drop)]
 pub struct Price<'a, C> {
     /// The allocator.
