@@ -1,4 +1,4 @@
--- How drawing goes on.
+-- The progress of a drawing.
 use Rattle.std.proofs.Common.{◌<◌, Bool, List, length, refl, ◌∙◌, arith}
 use Rattle.otel_waterfall.specs.Rows.{Draws, DrawsOn, IsDrawn}
 use Rattle.otel_waterfall.specs.declared.rows.Drawing.{Drawing}
@@ -18,7 +18,7 @@ draws_more p a q b r c first then = record {
   none_anew = λ place h. then.none_anew place (first.none_anew place h);
 }
 
--- what is drawn stays so
+-- drawn spans stay drawn
 pub stays_drawn : (row : Row) (a : Drawing) (b : Drawing) → DrawsOn a b → IsDrawn row a → IsDrawn row b
 stays_drawn (Span place depth follows) a b more h = more.none_anew place h
 stays_drawn (Absent child) a b more h = h

@@ -37,7 +37,7 @@ not_all_fit columns (c ∷ cs) h =
     (λ more. grind (arith, more.0))
     (leb_tells (char_columns c) columns)
 
--- those that fit are within the columns
+-- the characters that fit are within the columns
 pub count_is_within : (columns : ℕ) (name : List ℕ) → columns_of (take (count_within columns name) name) ≤ columns
 count_is_within columns [] = omega arith
 count_is_within columns (c ∷ cs) =
@@ -59,7 +59,7 @@ fitted_is_within ascii columns name some =
     let sum = sum_by-append char_columns kept (cut_char ascii ∷ []) in
     grind (arith, nat_tests, some, sum, count_is_within (columns - 1) name, cut_columns ascii)
 
--- a name of which not all characters fit is cut
+-- a name is cut if not all of its characters fit
 pub fitted_cut : (ascii : Bool) (columns : ℕ) (name : List ℕ) → count_within columns name < length name
     → fitted ascii columns name ≡ take (count_within (columns - 1) name) name ++ cut_char ascii ∷ []
 fitted_cut ascii columns name less =
@@ -67,7 +67,7 @@ fitted_cut ascii columns name less =
     (λ more. grind (arith, more.0))
     (leb_tells (columns_of name) columns)
 
--- what is done to cut it
+-- the steps that cut it
 pub fit_cuts : (ascii : Bool) (columns : ℕ) (name : List ℕ) → count_within columns name < length name
     → take (count_within (columns - 1) name + 1) (set name (count_within (columns - 1) name) (cut_char ascii)) ≡ fitted ascii columns name
 fit_cuts ascii columns name less =

@@ -5,7 +5,7 @@ use Rattle.std.specs.Prelude.{Bool, true, ◌&&◌, List, [], ◌∷◌, ◌++�
 use Rattle.std.specs.Prelude.{if◌then◌else◌}
 use Rattle.std.specs.List.{list_any}
 
--- the cell of a moment that is `after` the least start, if `cells` cells stand for the length
+-- the cell of a moment that is `after` the least start, if `cells` cells show the length
 abbrev pub cell_at : ℕ → ℕ → ℕ → ℕ
 cell_at cells length after = if length == 0 then 0 else min (after * cells / length) (cells - 1)
 
@@ -15,11 +15,11 @@ abbrev pub end_cell : ℕ → ℕ → ℕ → ℕ
 end_cell cells length after =
     if length == 0 then 0 else (after * cells + (length - 1)) / length - 1
 
--- how long after the least start a moment is, clamped to the time up to the greatest end
+-- the time from the least start to a moment, clamped to the time up to the greatest end
 abbrev pub after_start : ℕ → ℕ → ℕ → ℕ
 after_start from to moment = min (max moment from) to - from
 
--- the cell of a moment: that of an event, and the first cell of a span that starts then
+-- the cell of a moment: the cell of an event, or the first cell of a span that starts then
 abbrev pub cell_of : ℕ → ℕ → ℕ → ℕ → ℕ
 cell_of cells from to moment = cell_at cells (to - from) (after_start from to moment)
 
@@ -41,7 +41,7 @@ abbrev pub is_marked : ℕ → ℕ → ℕ → List ℕ → ℕ → Bool
 is_marked cells from to moments cell =
     list_any (λ moment. cell_of cells from to moment == cell) moments
 
--- what stands in this cell
+-- the character in this cell
 abbrev pub cell_char : Bool → ℕ → ℕ → ℕ → ℕ → ℕ → List ℕ → ℕ → ℕ
 cell_char ascii cells from to start end moments cell =
     if is_marked cells from to moments cell then mark_char ascii
@@ -73,6 +73,6 @@ mark_of_load = refl
 bar_of_price : bar_text true 7 0 45000000 20000000 40000000 [] ≡ codes "   ===="
 bar_of_price = refl
 
--- a span without a length fills one cell, the first
+-- a span of length 0 fills one cell, the first
 one_cell : bar_text true 7 3 3 3 3 [] ≡ codes "=      "
 one_cell = refl

@@ -2,7 +2,7 @@
 -- Rust crates.
 use Rattle.std.specs.Prelude.{◌≡◌, ℕ, ◌-◌, ◌*◌, ◌/◌, max, refl}
 
--- the width of a picture for which this width is asked
+-- the width of a picture if this width is requested
 abbrev pub picture_width : ℕ → ℕ
 picture_width asked = max asked 40
 
@@ -10,13 +10,13 @@ picture_width asked = max asked 40
 abbrev pub name_width : ℕ → ℕ
 name_width width = 2 * width / 5
 
--- the columns of the bar: what the name, the duration in 9 columns, the status in 5 and the three
--- columns between them leave
+-- the columns of the bar: the width without the name, the duration in 9 columns, the status in 5
+-- and the three columns between them
 abbrev pub bar_width : ℕ → ℕ
 bar_width width = width - name_width width - 17
 
--- how many groups of three columns the branches in front of a name may have, so that the name keeps
--- eight columns
+-- the limit of groups of three columns for the branches in front of a name; the name keeps eight
+-- columns
 abbrev pub group_limit : ℕ → ℕ
 group_limit width = (name_width width - 8) / 3
 

@@ -8,14 +8,14 @@ use Rattle.otel_waterfall.specs.declared.span.Outcome.TheVariants as outcome
 use Rattle.otel_waterfall.specs.declared.span.Span.{Span}
 use Rattle.otel_sdk_span.specs.SpanData.{SpanRecord}
 
--- what a row says of a status
+-- the outcome that a row shows for a status
 abbrev pub outcome_of : Status → Outcome
 outcome_of status.Unset = outcome.Unset
 outcome_of status.Ok = outcome.Ok
 outcome_of (status.Error description) = outcome.Error
 
--- what is drawn of a span: its ids, its parent and whether that is remote, its name as it is shown,
--- its start and its end, the moments of its events, and what its row says of its status
+-- the drawn parts of a span: its ids, its parent and whether that is remote, its name as it is
+-- shown, its start and end, the moments of its events, and the outcome that its row shows
 pub record Look : Type 0 where
   pub trace_id : ℕ
   pub span_id : ℕ
@@ -27,7 +27,7 @@ pub record Look : Type 0 where
   pub moments : List ℕ
   pub outcome : Outcome
 
--- of a span of a batch
+-- the drawn parts of a span of a batch
 abbrev pub look_of : Bool → SpanRecord → Look
 look_of ascii s = record {
   trace_id = s.span_context.trace_id;
@@ -41,7 +41,7 @@ look_of ascii s = record {
   outcome = outcome_of s.status;
 }
 
--- of a span as it is drawn
+-- the drawn parts of a span as it is drawn
 abbrev pub look : Span → Look
 look s = record {
   trace_id = s.trace_id;

@@ -3,12 +3,12 @@ use Rattle.std.specs.Prelude.{◌≡◌, ℕ, ◌-◌, ◌*◌, ◌/◌, ◌%◌
 use Rattle.std.specs.Prelude.{List, ◌++◌, if◌then◌else◌}
 use Rattle.std.specs.Fmt.{decimal, digits}
 
--- the decimal digit at the place: of 12345678, 4 at the place 10,000
+-- the decimal digit at the place: for 12345678, 4 at the place 10,000
 abbrev pub digit_at : ℕ → ℕ → List ℕ
 digit_at n place = decimal (n / place % 10)
 
--- nanoseconds in a unit, of which a hundredth is `hundredth` nanoseconds: cut to two decimals below
--- 10 units, to one below 100, and otherwise to whole units
+-- nanoseconds in a unit whose hundredth is `hundredth` nanoseconds: cut to two decimals below 10
+-- units, to one below 100, and otherwise to whole units
 abbrev pub in_units : ℕ → ℕ → List ℕ → List ℕ
 in_units n hundredth unit =
     if nat_lt n (1000 * hundredth)
@@ -18,7 +18,7 @@ in_units n hundredth unit =
     then decimal (n / (100 * hundredth)) ++ (codes "." ++ (digit_at n (10 * hundredth) ++ unit))
     else decimal (n / (100 * hundredth)) ++ unit
 
--- a length in nanoseconds, in the greatest unit of which it has at least one
+-- a length in nanoseconds, in the greatest unit that isn't longer
 abbrev pub length_text : ℕ → List ℕ
 length_text n =
     if nat_lt n 1000 then decimal n ++ codes "ns"

@@ -1,4 +1,4 @@
--- What contracts see of an exporter that draws spans. Not in the Rust crates.
+-- Contracts' view of an exporter that draws spans. Not in the Rust crates.
 use Rattle.std.specs.Prelude.{ℕ, Bool, List}
 use Rattle.otel_sdk_span.specs.SpanData.{SpanRecord}
 

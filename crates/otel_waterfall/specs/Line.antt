@@ -6,7 +6,7 @@ use Rattle.otel_waterfall.specs.Prefix.{prefix_text}
 use Rattle.otel_waterfall.specs.declared.span.Outcome.{Outcome}
 use Rattle.otel_waterfall.specs.declared.span.Outcome.TheVariants as outcome
 
--- what the line of a span says of its status
+-- the text that the line of a span shows for its status
 abbrev pub outcome_text : Outcome → List ℕ
 outcome_text outcome.Unset = []
 outcome_text outcome.Ok = codes "ok"
@@ -16,7 +16,7 @@ outcome_text outcome.Error = codes "error"
 abbrev pub front : Bool → ℕ → List Bool → List ℕ
 front ascii width follows = prefix_text ascii (group_limit width) follows
 
--- the columns that they leave for the name
+-- the columns that these characters leave for the name
 abbrev pub columns_after : Bool → ℕ → List Bool → ℕ
 columns_after ascii width follows = max (name_width width - length (front ascii width follows)) 1
 

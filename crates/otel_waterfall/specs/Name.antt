@@ -1,4 +1,4 @@
--- What a name becomes on a terminal. Not in the Rust crates.
+-- Names as they are shown on a terminal. Not in the Rust crates.
 use Rattle.std.specs.Prelude.{◌≡◌, ℕ, suc, ◌-◌, nat_lt, nat_le, codes, refl}
 use Rattle.std.specs.Prelude.{Bool, true, false, ◌&&◌, ◌||◌, List, [], ◌∷◌, ◌++◌, take, map}
 use Rattle.std.specs.Prelude.{chars, if◌then◌else◌}
@@ -7,11 +7,11 @@ use Rattle.std.specs.Option.{unwrap_or}
 use Rattle.unicode_width.specs.Width.{char_width}
 use Rattle.unicode_width.proofs.Computing.{unicode_width}
 
--- whether a character can steer a terminal: U+0000 to U+001F and U+007F to U+009F
+-- whether a character can control a terminal: U+0000 to U+001F and U+007F to U+009F
 abbrev pub is_control : ℕ → Bool
 is_control c = nat_lt c 32 || (nat_le 127 c && nat_le c 159)
 
--- a character as it is shown: ? if it can steer a terminal or, in ASCII, is above U+007E
+-- a character as it is shown: ? if it can control a terminal or, in ASCII, is above U+007E
 abbrev pub shown : Bool → ℕ → ℕ
 shown ascii c = if is_control c || (ascii && nat_lt 126 c) then 63 else c
 
@@ -20,11 +20,11 @@ shown ascii c = if is_control c || (ascii && nat_lt 126 c) then 63 else c
 abbrev pub char_columns : ℕ → ℕ
 char_columns c = unwrap_or (char_width false c) 0
 
--- the columns of a text, which are those of its characters together
+-- the columns of a text: the sum of its characters' columns
 abbrev pub columns_of : List ℕ → ℕ
 columns_of text = sum_by char_columns text
 
--- how many characters at the front of a text fit into `columns` columns
+-- the number of characters at the front of a text that fit into `columns` columns
 abbrev pub count_within : ℕ → List ℕ → ℕ
 count_within columns [] = 0
 count_within columns (c ∷ cs) =
@@ -57,12 +57,12 @@ a_name_fits : fitted true 5 (codes "abcde") ≡ codes "abcde"
 unfolding char_width
 a_name_fits = refl
 
--- an ideograph has two columns, so that only one is within three
+-- an ideograph has two columns, so only one fits into three
 a_wide_name_is_cut : fitted false 4 (0x4E2D ∷ 0x6587 ∷ 0x5B57 ∷ []) ≡ 0x4E2D ∷ 8230 ∷ []
 unfolding unicode_width
 a_wide_name_is_cut = refl
 
--- a combining mark has none, and stays with the letter before it
+-- a combining mark has no columns, and stays with the letter before it
 a_mark_is_kept : fitted false 2 (0x65 ∷ 0x301 ∷ 0x66 ∷ 0x67 ∷ []) ≡ 0x65 ∷ 0x301 ∷ 8230 ∷ []
 unfolding unicode_width
 a_mark_is_kept = refl

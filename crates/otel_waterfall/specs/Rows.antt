@@ -1,4 +1,4 @@
--- Which spans the rows of a trace draw. Not in the Rust crates.
+-- The spans that the rows of a trace draw. Not in the Rust crates.
 use Rattle.std.specs.Prelude.{◌≡◌, ℕ, ◌+◌, ◌<◌, ◌==◌, refl, Bool, true, false}
 use Rattle.std.specs.Prelude.{List, [], ◌∷◌, length}
 use Rattle.std.specs.Prelude.{count_by, slice_index_or, if◌then◌else◌}
@@ -6,12 +6,12 @@ use Rattle.otel_waterfall.specs.declared.rows.Drawing.{Drawing}
 use Rattle.otel_waterfall.specs.declared.rows.Row.{Row}
 use Rattle.otel_waterfall.specs.declared.rows.Row.TheVariants.{Span, Absent}
 
--- whether the row is that of the span at this place of the batch
+-- whether the row is of the span at this place in the batch
 abbrev pub is_row_of : ℕ → Row → Bool
 is_row_of place (Span at depth follows) = at == place
 is_row_of place (Absent child) = false
 
--- how many rows the span at this place has
+-- the number of rows of the span at this place
 abbrev pub row_count : ℕ → List Row → ℕ
 row_count place rows = count_by (is_row_of place) rows
 
@@ -34,11 +34,11 @@ pub record Draws (pending : List Bool) (rows : List Row) (left : List Bool) (dra
   pub none_anew : (place : ℕ) → slice_index_or pending place false ≡ false
       → slice_index_or left place false ≡ false
 
--- the same of a drawing before and after
+-- the same for a drawing before and after
 abbrev pub DrawsOn : Drawing → Drawing → Type 0
 DrawsOn old new = Draws old.pending.items old.rows.items new.pending.items new.rows.items
 
--- the span of this row, if it is a span's, is drawn
+-- if the row is of a span, that span is drawn
 abbrev pub IsDrawn : Row → Drawing → Type 0
 IsDrawn (Span place depth follows) drawing =
     slice_index_or drawing.pending.items place false ≡ false

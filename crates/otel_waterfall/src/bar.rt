@@ -4,8 +4,8 @@ ghost use Rattle.otel_waterfall.specs.Bar as spec;
 
 use std::alloc::{AllocError, Global};
 
-/// The time over which the bars of a trace are drawn, and the number of cells: from the least start
-/// to the greatest end, in nanoseconds since 1970-01-01T00:00:00Z.
+/// The scale of a trace's bars: the least start and the greatest end, in nanoseconds since
+/// 1970-01-01T00:00:00Z, and the number of cells.
 #[derive(Clone, Copy, Debug)]
 pub(crate) struct Scale {
     pub cells: usize,
@@ -42,8 +42,7 @@ impl Scale {
         cells.saturating_sub(1) as usize
     }
 
-    /// Returns the nanoseconds from the least start to this moment, which is clamped to the time of
-    /// the bars.
+    /// Returns the nanoseconds from the least start to this moment, clamped to the bars' time.
     fn after_start(self, moment: u64) -> u64
         ensures value { result ≡ spec.after_start self.from self.to moment }
         ensures within { result ≤ self.to - self.from }
@@ -51,8 +50,8 @@ impl Scale {
         moment.max(self.from).min(self.to) - self.from
     }
 
-    /// Returns the cell of this moment: that of an event, and the first cell of a span that starts
-    /// then.
+    /// Returns the cell of this moment: the cell of an event, or the first cell of a span that
+    /// starts then.
     fn cell_of(self, moment: u64) -> usize
         ensures { result ≡ spec.cell_of self.cells self.from self.to moment }
     {
@@ -74,7 +73,7 @@ impl Scale {
         moments.iter().any(|moment| self.cell_of(*moment) == cell)
     }
 
-    /// Returns what stands in this cell.
+    /// Returns the character in this cell.
     fn cell_char(self, is_ascii: bool, start: u64, end: u64, moments: &[u64], cell: usize) -> char
         ensures { result ≡ spec.cell_char is_ascii self.cells self.from self.to start end
             moments.now cell }
@@ -93,7 +92,7 @@ impl Scale {
     ///
     /// # Errors
     ///
-    /// Returns an error if memory runs out.
+    /// Returns an error if out of memory.
     pub(crate) fn bar(
         self,
         alloc: Global,

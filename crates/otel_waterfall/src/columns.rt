@@ -2,8 +2,8 @@
 ghost use Rattle.std.specs.Prelude.{◌≡◌, ◌≤◌, false, true};
 ghost use Rattle.otel_waterfall.specs.Columns as spec;
 
-/// The columns between the name and the status that hold no bar: a space, the duration in nine, a
-/// space, a space and the status in five.
+/// The columns after the name that hold no bar: a space, the duration in nine columns, a space, a
+/// space and the status in five.
 const OTHER_COLUMNS: usize = 17;
 
 /// The width of a picture, at least 40, and whether it is drawn in ASCII.
@@ -15,7 +15,7 @@ pub(crate) struct Style {
 }
 
 impl Style {
-    /// Returns the style of 80 columns in UTF-8.
+    /// Returns the style with 80 columns in UTF-8.
     pub(crate) fn new() -> Style
         ensures width { result.width ≡ 80 }
         ensures utf8 { result.is_ascii ≡ false }
@@ -26,7 +26,7 @@ impl Style {
         }
     }
 
-    /// Returns the style with this width, and 40 if that is less.
+    /// Returns the style with this width, or with 40 columns if the width is less.
     pub(crate) fn with_width(self, width: u16) -> Style
         ensures width { result.width ≡ spec.picture_width width }
         ensures same { result.is_ascii ≡ self.is_ascii }
@@ -48,21 +48,21 @@ impl Style {
         }
     }
 
-    /// Returns the columns of the name.
+    /// Returns the number of columns of the name.
     pub(crate) fn name_width(self) -> usize
         ensures { result ≡ spec.name_width self.width }
     {
         2 * self.width as usize / 5
     }
 
-    /// Returns the columns of the bar.
+    /// Returns the number of columns of the bar.
     pub(crate) fn bar_width(self) -> usize
         ensures { result ≡ spec.bar_width self.width }
     {
         self.width as usize - self.name_width() - OTHER_COLUMNS
     }
 
-    /// Returns how many groups of three columns the branches in front of a name may have.
+    /// Returns the limit of groups of three columns for the branches in front of a name.
     pub(crate) fn group_limit(self) -> usize
         ensures { result ≡ spec.group_limit self.width }
     {

@@ -19,7 +19,7 @@ fn moments_of(alloc: Global, events: &[Event]) -> Result<Vec<u64>, AllocError>
     Ok(moments)
 }
 
-/// Returns what the row of a span says of its status.
+/// Returns the outcome that a span's row shows for its status.
 fn outcome_of(status: &Status) -> Outcome
     ensures { result ≡ spec.outcome_of status.now }
 {
@@ -52,7 +52,7 @@ fn drawn_span(alloc: Global, is_ascii: bool, span: &SpanData) -> Result<Span, Al
 ///
 /// # Errors
 ///
-/// Returns an error if memory runs out.
+/// Returns an error if out of memory.
 pub(crate) fn drawn(
     alloc: Global,
     is_ascii: bool,

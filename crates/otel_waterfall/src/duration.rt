@@ -5,7 +5,7 @@ ghost use Rattle.otel_waterfall.specs.Duration as spec;
 
 use std::alloc::{AllocError, Global};
 
-/// Returns the text of `n` nanoseconds in a unit, of which a hundredth is `hundredth` nanoseconds.
+/// Returns the text of `n` nanoseconds in a unit. A hundredth of it is `hundredth` nanoseconds.
 fn in_units(alloc: Global, n: u64, hundredth: u64, unit: &str) -> Result<String, AllocError>
     requires some { 0 < hundredth }
     requires few { hundredth < 100000000 }
@@ -23,7 +23,7 @@ fn in_units(alloc: Global, n: u64, hundredth: u64, unit: &str) -> Result<String,
     }
 }
 
-/// Returns the text of a length in nanoseconds, in the greatest unit of which it has at least one.
+/// Returns the text of a length in nanoseconds, in the greatest unit that isn't longer.
 fn length_text(alloc: Global, n: u64) -> Result<String, AllocError>
     ensures { IfOk result (λ text. string_bytes text ≡ spec.length_text n) }
 {

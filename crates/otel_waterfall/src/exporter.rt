@@ -46,7 +46,7 @@ impl<W> Model for WaterfallExporter<W> {
 }
 
 impl<W> WaterfallExporter<W> {
-    /// Returns an exporter that draws in UTF-8, 80 columns wide. Takes no memory.
+    /// Returns an exporter that draws in UTF-8, 80 columns wide. Doesn't allocate.
     pub fn new(alloc: Global, output: W) -> WaterfallExporter<W>
         ensures { result ≡ record {
           accepted = [];
@@ -65,7 +65,7 @@ impl<W> WaterfallExporter<W> {
         }
     }
 
-    /// Sets the width in columns, at least 40.
+    /// Sets the width in columns. A width below 40 counts as 40.
     pub fn with_width(mut self, width: u16) -> WaterfallExporter<W>
         ensures { result ≡ record self { width = picture_width width } }
     {
@@ -89,7 +89,7 @@ impl<W> WaterfallExporter<W> {
     }
 }
 
-/// Writes all bytes, and returns whether the writer accepted them.
+/// Writes all bytes. Returns whether the writer accepted them.
 fn write_all<W: Write>(output: &mut W, bytes: &[u8]) -> bool
     ensures { IsTrue result → Appends (W.contents output.old) (W.contents output.new) bytes.now }
 {
@@ -118,13 +118,13 @@ impl<W: Write + Drop> Exporter<SpanData> for WaterfallExporter<W> {
 
     ghost shuts_down = { λ old left. left ≡ record old { is_shut_down = true } };
 
-    /// Draws the batch, and writes the picture. A batch without spans is accepted, and nothing is
-    /// written.
+    /// Draws the batch, and writes the picture. An empty batch is accepted, and nothing is written.
     ///
     /// # Errors
     ///
-    /// `AlreadyShutdown` after [`Exporter::shutdown`]. `Memory` if out of memory: nothing is
-    /// written. `InternalFailure` if the writer fails: it may have written a part of the picture.
+    /// `AlreadyShutdown` after [`Exporter::shutdown`]; `Memory` if out of memory. Nothing is
+    /// written then. `InternalFailure` if the writer fails. It may have written a part of the
+    /// picture.
     fn export(&mut self, batch: &[SpanData]) -> OTelSdkResult
         ensures ok { OnOk result (self.new.accepted ≡ self.old.accepted ++ batch.now ∷ []) }
         ensures err { OnErr result (self.new.accepted ≡ self.old.accepted) }
@@ -149,7 +149,7 @@ impl<W: Write + Drop> Exporter<SpanData> for WaterfallExporter<W> {
         Ok(())
     }
 
-    /// Does nothing: nothing waits to be written.
+    /// Does nothing, because pictures are written at once.
     fn force_flush(&mut self) -> OTelSdkResult
         ensures ok { IsOk result }
         ensures same { self.new ≡ self.old }

@@ -1,4 +1,4 @@
-//! An exporter that draws each batch of spans for a terminal: every trace is a tree of names, with
+//! An exporter that draws each batch of spans for a terminal. Every trace is a tree of names, with
 //! durations and bars beside it. Not in the Rust crates.
 #![tactic(auto)]
 

@@ -35,7 +35,7 @@ fn push_text(line: &mut Vec<char>, text: &str) -> Result<(), AllocError>
     Ok(())
 }
 
-/// Returns the branches and the name of a span, and spaces to the end of the column.
+/// Returns the branches and the name of a span, padded with spaces to the end of the column.
 #[tactic(auto, using(crate::proofs::Widths::name_text_columns))]
 fn name_column(
     alloc: Global,
@@ -79,7 +79,7 @@ fn trim_end(line: &mut Vec<char>) {
 ///
 /// # Errors
 ///
-/// Returns an error if memory runs out.
+/// Returns an error if out of memory.
 pub(crate) fn span_line(
     alloc: Global,
     style: Style,
@@ -107,11 +107,11 @@ pub(crate) fn span_line(
 }
 
 /// Returns the line of a parent that isn't in the batch: its id, and whether it is in another
-/// process, as its first child says.
+/// process according to its first child.
 ///
 /// # Errors
 ///
-/// Returns an error if memory runs out.
+/// Returns an error if out of memory.
 pub(crate) fn absent_line(
     alloc: Global,
     style: Style,

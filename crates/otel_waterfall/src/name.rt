@@ -1,11 +1,11 @@
-//! What a name becomes on a terminal.
+//! Names as they are shown on a terminal.
 ghost use Rattle.std.specs.Prelude.{◌≡◌, ◌<◌, ◌≤◌, ◌-◌, length, IfOk};
 ghost use Rattle.otel_waterfall.specs.Name as spec;
 
 use std::alloc::{AllocError, Global};
 use unicode_width::UnicodeWidthChar;
 
-/// Returns the character as it is shown: `?` if it can steer a terminal or, in ASCII, if it is
+/// Returns the character as it is shown: `?` if it can control a terminal or, in ASCII, if it is
 /// above U+007E.
 fn shown(is_ascii: bool, c: char) -> char
     ensures { result ≡ spec.shown is_ascii c }
@@ -21,7 +21,7 @@ fn shown(is_ascii: bool, c: char) -> char
 ///
 /// # Errors
 ///
-/// Returns an error if memory runs out.
+/// Returns an error if out of memory.
 pub(crate) fn shown_name(alloc: Global, is_ascii: bool, name: &str) -> Result<Vec<char>, AllocError>
     ensures { IfOk result (λ chars. chars.items ≡ spec.shown_name is_ascii name.now) }
 {
@@ -32,7 +32,7 @@ pub(crate) fn shown_name(alloc: Global, is_ascii: bool, name: &str) -> Result<Ve
     Ok(chars)
 }
 
-/// Returns the columns of a character, at most 3: 2 if it is wide, 0 for a combining mark.
+/// Returns the columns of a character, at most 3: 2 if it is wide, 0 if it is a combining mark.
 fn char_columns(c: char) -> usize
     ensures value { result ≡ spec.char_columns c }
     ensures few { result ≤ 3 }
@@ -40,7 +40,7 @@ fn char_columns(c: char) -> usize
     c.width().unwrap_or(0)
 }
 
-/// Returns how many characters at the front of a name fit into `columns` columns.
+/// Returns the number of characters at the front of a name that fit into `columns` columns.
 #[tactic(auto, using(crate::proofs::Widths::count_within_drop))]
 fn count_within(name: &[char], columns: usize) -> usize
     ensures count { result ≡ spec.count_within columns name.now }
@@ -59,7 +59,7 @@ fn count_within(name: &[char], columns: usize) -> usize
     count
 }
 
-/// Returns how many of `columns` columns a name leaves empty.
+/// Returns the number of columns of `columns` that a name leaves empty.
 pub(crate) fn columns_left(name: &[char], columns: usize) -> usize
     ensures { result ≡ columns - spec.columns_of name.now }
 {
@@ -77,8 +77,7 @@ fn cut_char(is_ascii: bool) -> char
     if is_ascii { '~' } else { '…' }
 }
 
-/// Cuts a name to `columns` columns, without allocating. If it was longer, the last one holds `…`
-/// or `~`.
+/// Cuts a name to `columns` columns, without allocating. If it was longer, it ends in `…` or `~`.
 #[tactic(auto, using(crate::proofs::Widths::fits))]
 pub(crate) fn fit(is_ascii: bool, columns: usize, name: &mut Vec<char>)
     requires { 0 < columns }

@@ -59,7 +59,7 @@ fn push_head(
     text.push_str(head.as_str())
 }
 
-/// Moves to a row at the depth: keeps whether a sibling follows each row above it, and adds `own`.
+/// Moves to a row at the depth. Keeps the flags of the rows above it, and adds `own`.
 fn go_to(follows: &mut Vec<bool>, depth: usize, own: bool) -> Result<(), AllocError> {
     follows.truncate(depth.saturating_sub(1));
     if depth > 0 {
@@ -113,7 +113,7 @@ fn push_trace(
 ///
 /// # Errors
 ///
-/// Returns an error if memory runs out.
+/// Returns an error if out of memory.
 pub(crate) fn picture(alloc: Global, style: Style, batch: &[Span]) -> Result<String, AllocError>
     ensures { length batch.now ≡ 0 → IfOk result (λ text. string_bytes text ≡ []) }
 {

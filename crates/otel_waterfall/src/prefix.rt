@@ -5,7 +5,7 @@ ghost use Rattle.otel_waterfall.specs.Prefix as spec;
 
 use std::alloc::AllocError;
 
-/// Returns the group of an ancestor, which a sibling follows or not.
+/// Returns the group of an ancestor. `follows` says whether a sibling follows it.
 fn rail(is_ascii: bool, follows: bool) -> [char; 3]
     ensures { result ≡ spec.rail is_ascii follows }
 {
@@ -16,7 +16,7 @@ fn rail(is_ascii: bool, follows: bool) -> [char; 3]
     }
 }
 
-/// Returns the group of a span itself, which a sibling follows or not.
+/// Returns the group of the span itself. `follows` says whether a sibling follows it.
 fn branch(is_ascii: bool, follows: bool) -> [char; 3]
     ensures { result ≡ spec.branch is_ascii follows }
 {
@@ -40,11 +40,11 @@ fn push_rails(line: &mut Vec<char>, is_ascii: bool, ancestors: &[bool]) -> Resul
 }
 
 /// Appends the characters in front of a name, none for a top row. `follows` says whether a sibling
-/// follows each ancestor but the top one, and then the span itself.
+/// follows each ancestor except the top one, and then the span itself.
 ///
 /// # Errors
 ///
-/// Returns an error if memory runs out.
+/// Returns an error if out of memory.
 pub(crate) fn push_prefix(
     line: &mut Vec<char>,
     is_ascii: bool,

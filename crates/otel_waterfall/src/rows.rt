@@ -13,7 +13,7 @@ pub(crate) enum Row {
     Span {
         /// The place of the span in the batch.
         place: usize,
-        /// How many rows are above it in the tree.
+        /// The number of rows above it in the tree.
         depth: usize,
         /// Whether a sibling follows it.
         follows: bool,
@@ -43,7 +43,7 @@ struct Node {
     parent: Parent,
 }
 
-/// A span that waits for its turn.
+/// A span that is waiting to be drawn.
 #[derive(Clone, Copy, Debug)]
 struct Waiting {
     place: usize,
@@ -51,7 +51,7 @@ struct Waiting {
     follows: bool,
 }
 
-/// Returns the parent of a span: the first of the spans with that id.
+/// Returns the parent of a span: the first span with the parent's id.
 fn parent_of(batch: &[Span], span: &Span) -> Parent {
     if span.parent_span_id == SpanId::INVALID {
         return Parent::Root;
@@ -98,7 +98,7 @@ impl Drawing {
         place < self.pending.len() && self.pending[place]
     }
 
-    /// Draws a row: that of an absent parent, or that of a span which is still to be drawn.
+    /// Draws a row of an absent parent, or of a span that is still to be drawn.
     fn draw(&mut self, row: Row) -> Result<(), AllocError>
         ensures draws { OnOk result (DrawsOn self.old self.new) }
         ensures drawn { OnOk result (IsDrawn row self.new) }
@@ -149,7 +149,7 @@ fn push_children(
     Ok(())
 }
 
-/// Draws a row, and the spans under `parent`, each with what is under it.
+/// Draws a row, and the spans under `parent`, each followed by the spans under it.
 #[tactic(auto, using(crate::proofs::Draws::draws_more, crate::proofs::Draws::stays_drawn))]
 fn draw_tree(
     alloc: Global,
@@ -179,8 +179,8 @@ fn draw_tree(
     Ok(())
 }
 
-/// Returns the row at the top for a root or a child of an absent parent, and the parent of the
-/// spans under the row.
+/// Returns the top row for a root or a child of an absent parent, and the parent of the spans under
+/// that row.
 fn top_of(node: Node) -> Option<(Row, Parent)> {
     match node.parent {
         Parent::Root => {
@@ -196,7 +196,7 @@ fn top_of(node: Node) -> Option<(Row, Parent)> {
     }
 }
 
-/// Returns for each span of the batch whether it is of the trace.
+/// Returns, for each span of the batch, whether it belongs to the trace.
 fn spans_of(alloc: Global, batch: &[Span], trace: TraceId) -> Result<Vec<bool>, AllocError>
     ensures { IfOk result (λ flags. flags.items ≡ map (λ span. span.trace_id == trace) batch.now) }
 {
@@ -207,12 +207,12 @@ fn spans_of(alloc: Global, batch: &[Span], trace: TraceId) -> Result<Vec<bool>, 
 }
 
 /// Returns the rows of a trace, from the top. Each span of the trace has one row, and no other span
-/// has one. Siblings are ordered by start and then by place in the batch; each is followed by what
-/// is under it. Spans whose parents are in a circle come last, as if they were roots.
+/// has one. Siblings are ordered by start and then by place in the batch. Each is followed by the
+/// spans under it. Spans whose parents form a cycle come last, as if they were roots.
 ///
 /// # Errors
 ///
-/// Returns an error if memory runs out.
+/// Returns an error if out of memory.
 #[tactic(auto, using(crate::proofs::Draws::draws_more, crate::proofs::Draws::draws_nothing))]
 pub(crate) fn rows_of(alloc: Global, batch: &[Span], trace: TraceId) -> Result<Vec<Row>, AllocError>
     ensures once { IfOk result (λ rows.

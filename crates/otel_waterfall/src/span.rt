@@ -1,7 +1,7 @@
 //! Spans as they are drawn.
 use otel_ids::{SpanId, TraceId};
 
-/// What a span's row says of its status.
+/// The text that a span's row shows for its status.
 #[derive(Clone, Copy, Debug)]
 pub(crate) enum Outcome {
     /// Nothing.
@@ -29,7 +29,7 @@ pub(crate) struct Span {
     pub start: u64,
     /// When it ended. It may be before the start.
     pub end: u64,
-    /// When its events were.
+    /// The moments of its events.
     pub moments: Vec<u64>,
     /// Its status.
     pub outcome: Outcome,

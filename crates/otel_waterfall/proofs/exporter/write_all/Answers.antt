@@ -7,7 +7,7 @@ use denote.Ref.{Bor}
 use Rattle.otel_waterfall.proofs.exporter.write_all.Goals as goal
 use Rattle.otel_waterfall.proofs.exporter.write_all.Goals.{in-Ok, in-Err+else-ne}
 
--- what a write takes goes from the rest to what is done
+-- the bytes that a write takes move from the rest to the done part
 moves_front : (all done rest : List ℕ) (n : ℕ) → all ≡ done ++ rest → all ≡ (done ++ take n rest) ++ take (length rest - n) (drop n rest)
 moves_front all done rest n e =
     e ∙ ap (λ l. done ++ l) (sym (take-append-drop n rest)) ∙ sym (append_assoc done (take n rest) (drop n rest))

@@ -1,4 +1,4 @@
--- What is gone from the rest was appended.
+-- The bytes that are gone from the rest were appended.
 use Rattle.std.proofs.Common.{◌≡◌, ℕ, List, ◌++◌}
 use Rattle.std.specs.Io.KnownBytes.{Appends}
 use Rattle.otel_waterfall.proofs.exporter.write_all.Given as goal

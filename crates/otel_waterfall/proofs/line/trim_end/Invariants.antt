@@ -1,4 +1,4 @@
--- Each turn takes a character off.
+-- Each turn removes a character.
 use Rattle.std.proofs.Common.{vec_len}
 use Rattle.otel_waterfall.proofs.line.trim_end.Given as goal
 

@@ -1,4 +1,4 @@
--- Of the characters so far each fits, and those after them have what is left.
+-- Each character so far fits, and the later ones have the columns that are left.
 use Rattle.std.proofs.Common.{◌≡◌, ◌+◌, drop}
 use Rattle.otel_waterfall.specs.Name as spec
 use Rattle.otel_waterfall.proofs.name.count_within.Given as goal

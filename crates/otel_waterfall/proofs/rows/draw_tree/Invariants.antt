@@ -1,4 +1,4 @@
--- What is drawn so far, the top row among it.
+-- The rows drawn so far, with the top row.
 use Rattle.otel_waterfall.specs.Rows.{DrawsOn, IsDrawn}
 use Rattle.otel_waterfall.proofs.rows.draw_tree.Given as goal
 

@@ -1,4 +1,4 @@
--- What is drawn so far, and at last the spans below the place among it.
+-- The rows drawn so far, and at last the spans below the place among them.
 use Rattle.std.proofs.Common.{◌≡◌, ◌==◌, ℕ, ◌<◌, [], false, map, get_or}
 use Rattle.otel_waterfall.specs.Rows.{Draws}
 use Rattle.otel_waterfall.proofs.rows.rows_of.Given as goal
