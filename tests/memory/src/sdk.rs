@@ -1,4 +1,4 @@
-//! Resources, samplers, tracers, spans, and their way to an exporter.
+//! Resources, samplers, tracers and spans, and the path of spans to an exporter.
 mod attributes;
 mod export;
 mod json;

@@ -1,4 +1,5 @@
-//! The callers at work, once each with ample memory, and what no clause says of spans and loggers that keep what they are given.
+//! The callers at work, once each with enough memory, and properties of recording spans and loggers
+//! that no clause states.
 #![tactic(auto)]
 
 // Depends on: test_support

@@ -1,4 +1,4 @@
-//! The calls that docs/DIFFERENCES.md shows to someone who moves over, each made once.
+//! The calls that docs/DIFFERENCES.md shows to users of the Rust crate, each made once.
 use opentelemetry::baggage::{Baggage, BaggageMetadata, KeyValueMetadata};
 use opentelemetry::context::{Context, ContextStack, HasCurrent};
 use opentelemetry::logs::{
@@ -16,10 +16,10 @@ use std::collections::HashMap;
 use std::process::Abort;
 use std::test::Fail;
 
-/// The moment at which all happens.
+/// The moment of all calls.
 const NOW: u64 = 1;
 
-/// A remote span context of a sampled trace.
+/// A remote span context in a sampled trace.
 fn remote() -> SpanContext {
     SpanContext::new(
         TraceId::from(7),

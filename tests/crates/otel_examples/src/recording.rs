@@ -1,4 +1,4 @@
-//! Spans and loggers that keep what they are given, and their providers.
+//! Recording spans and loggers, and their providers.
 
 mod logger;
 mod span;

@@ -20,7 +20,7 @@ pub fn scope(alloc: Global, name: &'static str) -> Result<Rc<InstrumentationScop
     Ok(Rc::new(alloc, scope)?)
 }
 
-/// A local root of trace 7, with this number for its span id, that recorded nothing.
+/// A local root in trace 7, with this number as its span id, that recorded nothing.
 pub fn root(
     alloc: Global,
     number: u64,
@@ -33,7 +33,7 @@ pub fn root(
     Ok(root)
 }
 
-/// The attribute.
+/// The attribute with this key and value.
 pub fn attribute(key: &'static str, value: Value) -> KeyValue {
     KeyValue::new(Key::from(key), value)
 }
@@ -127,7 +127,7 @@ fn request(alloc: Global, scope: Rc<InstrumentationScope>) -> Result<SpanData, F
     Ok(span)
 }
 
-/// A batch of three spans in two scopes, the caller remote, in the order of ends.
+/// A batch of three spans in two scopes, in the order of their ends. The caller is remote.
 pub fn three(alloc: Global) -> Result<Vec<SpanData>, Fail> {
     let own = scope(alloc, "cart")?;
     let mut batch = Vec::new(alloc);

@@ -1,4 +1,4 @@
-//! A writer that fails at each write in turn: flushed again later, each span and each log record is
+//! A writer that fails at each write in turn. After later flushes each span and each log record is
 //! exported once.
 use crate::batches::{root, scope};
 use crate::records::observed;
@@ -11,7 +11,8 @@ use std::io;
 use std::io::{ErrorKind, Write};
 use std::test::Fail;
 
-/// A writer that takes at most 100 bytes a call, and fails so many times, first at this call.
+/// A writer that takes at most 100 bytes in a call. It fails `failures` calls, from call `first`
+/// on.
 #[derive(Drop)]
 struct Failing {
     taken: Vec<u8>,
@@ -48,8 +49,8 @@ const RECORDS: [&'static str; 2] = [
     "/resourceLogs/0/scopeLogs/0/logRecords/1/observedTimeUnixNano",
 ];
 
-// The last digits of the texts at these places of the whole lines, in order, with how many lines
-// aren't whole.
+// The last digits of the texts at these places in the whole lines, in order, and the number of
+// lines that aren't whole.
 fn digits_at(alloc: Global, places: &[&str], bytes: &[u8]) -> Result<(Vec<u8>, usize), Fail> {
     let (mut digits, mut cut) = (Vec::new(alloc), 0);
     for line in bytes.split(|byte| *byte == b'\n') {
@@ -76,8 +77,8 @@ fn failing(alloc: Global, first: usize, failures: usize) -> Failing {
     }
 }
 
-// What the writer took of the spans 1 to 5 in batches of two, flushed until that succeeds, in how
-// many calls, and after how many flushes that failed.
+// The bytes that the writer took for the spans 1 to 5 in batches of two, flushed until that
+// succeeds, and the numbers of calls and of failed flushes.
 fn taken(alloc: Global, first: usize, failures: usize) -> Result<(Vec<u8>, usize, usize), Fail> {
     let config = BatchConfigBuilder::default()
         .with_max_queue_size(8)
@@ -104,7 +105,7 @@ fn taken(alloc: Global, first: usize, failures: usize) -> Result<(Vec<u8>, usize
     Ok((writer.taken.clone()?, writer.calls, failed))
 }
 
-// The same of the log records of the moments 1 to 5.
+// The same for the log records of the moments 1 to 5.
 fn taken_of_logs(
     alloc: Global,
     first: usize,

@@ -1,4 +1,4 @@
-//! What a writer that fails leaves, and what the exporter does about it.
+//! The lines that a failing writer leaves, and the lines that the exporter then writes.
 use crate::batches::{cart, root, scope, three};
 use otel_otlp::{OtlpJsonSpanExporter, traces_text};
 use otel_sdk::error::OTelSdkError;
@@ -11,7 +11,7 @@ use std::io::{ErrorKind, Write};
 use std::rc::Rc;
 use std::test::Fail;
 
-/// A writer that takes so many bytes, then fails so many times, then takes all.
+/// A writer that takes a number of bytes, then fails a number of times, then takes everything.
 #[derive(Drop)]
 pub struct Scripted {
     pub taken: Vec<u8>,
@@ -42,7 +42,7 @@ impl Write for Scripted {
     }
 }
 
-// An exporter to a writer that takes so many bytes and then fails so many times.
+// An exporter to a writer that takes this number of bytes and then fails this number of times.
 fn exporter(
     alloc: Global,
     room: usize,
@@ -56,7 +56,7 @@ fn exporter(
     Ok(OtlpJsonSpanExporter::new(alloc, writer)?)
 }
 
-/// Returns the line of the batch, its `\n` too.
+/// Returns the line of the batch, with its `\n`.
 pub fn line_of(
     alloc: Global,
     resource: Rc<Resource>,

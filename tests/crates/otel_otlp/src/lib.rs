@@ -1,5 +1,5 @@
-//! What no clause says of the lines of JSON: their text, byte by byte, and what a writer that fails
-//! leaves.
+//! Properties of the lines of JSON that no clause states: their text, byte by byte, and the lines
+//! of a writer that fails.
 // Depends on: otel_sdk test_support
 #![tactic(auto)]
 

@@ -47,7 +47,7 @@ fn text_of(alloc: Global, span: SpanData) -> Result<String, Fail> {
     Ok(traces_data(alloc, &resource, &[span])?.to_string(alloc)?)
 }
 
-// A root of scope `s`.
+// A root in the scope `s`.
 fn plain(alloc: Global) -> Result<SpanData, Fail> {
     Ok(root(alloc, 10, scope(alloc, "s")?)?)
 }

@@ -1,4 +1,4 @@
-//! What a writer that fails leaves of log records, and what the exporter does about it.
+//! The lines of log records that a failing writer leaves, and that the exporter then writes.
 use crate::batches::scope;
 use crate::files::Scripted;
 use crate::records::{cart_service, no_price, observed, under};
@@ -11,7 +11,7 @@ use std::alloc::Global;
 use std::rc::Rc;
 use std::test::Fail;
 
-// An exporter to a writer that takes so many bytes and then fails so many times.
+// An exporter to a writer that takes this number of bytes and then fails this number of times.
 fn exporter(
     alloc: Global,
     room: usize,

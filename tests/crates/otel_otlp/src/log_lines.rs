@@ -24,7 +24,7 @@ const NO_PRICE: [&'static str; 10] = [
     "4da6a3ce929d0e0e4736\"}],\"scope\":{\"name\":\"cart\"}}]}]}",
 ];
 
-// The text of the one record of a batch, under the scope `s` and without a resource.
+// The text of a batch with one record, under the scope `s` and without a resource.
 fn text_of(alloc: Global, record: SdkLogRecord) -> Result<String, Fail> {
     let batch = [under(record, scope(alloc, "s")?)];
     let resource = Resource::builder_empty(alloc).build();
@@ -33,7 +33,7 @@ fn text_of(alloc: Global, record: SdkLogRecord) -> Result<String, Fail> {
     Ok(value.pointer(path).ok_or("no record")?.to_string(alloc)?)
 }
 
-// The text of a record that has this body only.
+// The text of a record with only this body.
 fn with_body(alloc: Global, body: AnyValue) -> Result<String, Fail> {
     let mut record = SdkLogRecord::new(alloc);
     record.set_body(body);

@@ -15,21 +15,20 @@ pub fn under(record: SdkLogRecord, scope: Rc<InstrumentationScope>) -> LogData {
     }
 }
 
-/// A record that was observed at this moment, of which nothing else is known.
+/// A record with only the moment at which it was observed.
 pub fn observed(alloc: Global, moment: u64, scope: Rc<InstrumentationScope>) -> LogData {
     let mut record = SdkLogRecord::new(alloc);
     record.set_observed_timestamp(moment);
     under(record, scope)
 }
 
-/// A resource with the name of the service only.
+/// A resource with only the name of the service.
 pub fn cart_service(alloc: Global) -> Result<Resource, AllocError> {
     let name = KeyValue::new(Key::from("service.name"), Value::from("cart"));
     Ok(Resource::builder_empty(alloc).with_attribute(name)?.build())
 }
 
-/// A record of a source with file and line, its timestamp set by hand, with the ids of the span
-/// `price`.
+/// A record with a source file and line, a timestamp set by hand, and the ids of the span `price`.
 pub fn no_price(alloc: Global) -> Result<SdkLogRecord, AllocError> {
     let mut record = SdkLogRecord::new(alloc);
     record.set_severity_number(Severity::Error);

@@ -1,4 +1,4 @@
-//! How ended spans get from a table to an exporter: worked runs.
+//! The path of ended spans from a table to an exporter: worked runs.
 use crate::processor::{Planned, report};
 use opentelemetry::trace::{Span, SpanContext, Spans};
 use otel_sdk::trace::{
@@ -9,7 +9,7 @@ use std::alloc::Global;
 use std::test::Fail;
 use test_support::span_data;
 
-/// A span that records, with this number for its span id.
+/// A span that records, with this number as its span id.
 fn recording(alloc: Global, number: u64, flags: u8) -> Result<SdkSpan, Fail> {
     Ok(SdkSpan::new(
         alloc,
@@ -30,8 +30,8 @@ fn end(spans: &mut Spans<SdkSpan>, ended: &mut Vec<u64>, number: u64) -> Result<
 }
 
 /// Makes the calls of a script: `s`, `r` and `d` start the next span, from number 1 on, as sampled,
-/// recorded only and not at all, `e1` ends the span 1, `c` collects, `f` flushes, and `x` shuts
-/// down. Returns the errors, and how many spans are left in the table.
+/// as only recorded, and as neither; `e1` ends the span 1, `c` collects, `f` flushes, and `x` shuts
+/// down. Returns the errors, and the number of spans left in the table.
 fn played(
     alloc: Global,
     processor: &mut BatchSpanProcessor<Planned>,
@@ -71,8 +71,8 @@ fn played(
 }
 
 /// The limits of the queue and of a batch, the exporter's plan, the calls; the batches that the
-/// exporter is handed, the errors, and how many spans are left in the queue, were dropped, and are
-/// left in the table.
+/// exporter receives, the errors, and the numbers of spans that are left in the queue, were
+/// dropped, and are left in the table.
 type Row = (
     usize,
     usize,

@@ -1,4 +1,4 @@
-//! What an exporter keeps in memory, and what errors print.
+//! The batches that an exporter keeps in memory, and the printed texts of errors.
 use opentelemetry::trace::SpanId;
 use otel_sdk::error::OTelSdkError;
 use otel_sdk::trace::{Exporter, FinishedSpans, InMemorySpanExporter};

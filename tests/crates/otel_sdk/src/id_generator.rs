@@ -1,4 +1,4 @@
-//! The ids drawn from a source of random numbers, and counted ids.
+//! Ids from a source of random numbers, and counted ids.
 use opentelemetry::trace::{SpanId, TraceId};
 use otel_sdk::trace::{CountedIdGenerator, IdError, IdGenerator, RandomIdGenerator};
 use std::cell::Cell;
@@ -7,7 +7,7 @@ use std::io;
 use std::random::RandomSource;
 use std::test::Fail;
 
-/// Returns zeros, then numbers that end in 5; or fails at a draw.
+/// A source that returns zeros, then numbers that end in 5, or fails at a draw.
 #[derive(Drop)]
 struct Scripted {
     zeros: u32,

@@ -1,5 +1,5 @@
-//! What no clause says of tracers, samplers, generators of ids, processors and exporters: that calls
-//! succeed, texts as printed, and worked cases.
+//! Properties of tracers, samplers, id generators, processors and exporters that no clause states:
+//! calls succeed, printed texts, and worked cases.
 #![tactic(auto)]
 
 // Depends on: test_support

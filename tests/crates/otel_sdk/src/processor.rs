@@ -1,4 +1,4 @@
-//! What processors hand to an exporter: worked runs.
+//! The batches that processors hand to an exporter: worked runs.
 use opentelemetry::trace::SpanId;
 use otel_sdk::error::{OTelSdkError, OTelSdkResult};
 use otel_sdk::trace::{
@@ -9,8 +9,8 @@ use std::alloc::{AllocError, Global};
 use std::test::Fail;
 use test_support::span_data;
 
-/// An exporter with a plan: at `+` it accepts a batch, and else refuses it. It writes down each
-/// batch as the spans' numbers in brackets, with a `!` if it refuses it.
+/// An exporter with a plan. It accepts a batch at `+`, and otherwise refuses it. It writes down the
+/// spans' numbers of each batch in brackets, with a `!` if it refuses the batch.
 #[derive(Drop)]
 pub struct Planned {
     kept: InMemorySpanExporter,
@@ -101,7 +101,8 @@ fn played<P: SpanProcessor>(
 }
 
 /// The limits of the queue and of a batch, the exporter's plan, the calls; the batches that the
-/// exporter is handed, the errors, how many spans are left in the queue, and how many were dropped.
+/// exporter receives, the errors, and the numbers of spans that are left in the queue and that were
+/// dropped.
 type Row = (
     usize,
     usize,

@@ -5,10 +5,10 @@ use otel_sdk::trace::{Sampler, SamplingDecision, ShouldSample};
 use std::alloc::{AllocError, Global};
 use std::test::Fail;
 
-/// The high half of the trace ids, which doesn't count.
+/// The high half of the trace ids, which is ignored.
 const HIGH: u128 = 0xffff_ffff_ffff_ffff_0000_0000_0000_0000;
 
-/// Whether a ratio samples the trace with this low half, without a parent.
+/// Returns whether a ratio samples a root of the trace with this low half.
 fn samples(alloc: Global, ratio: f64, low: u64) -> Result<bool, AllocError> {
     let sampler = Sampler::TraceIdRatioBased(ratio);
     let trace_id = TraceId::from(HIGH + low as u128);

@@ -16,7 +16,7 @@ use std::alloc::Global;
 use std::test::Fail;
 use test_support::span_data;
 
-/// A context with a remote parent of the trace 7 with these flags.
+/// A context with a remote parent in the trace 7 with these flags.
 fn under(alloc: Global, flags: u8) -> Result<Context, Fail> {
     let parent = SpanContext::new(
         TraceId::from(7),
@@ -38,15 +38,15 @@ fn start(alloc: Global, flags: u8) -> Result<SpanEvent, Fail> {
     Ok(SpanEvent::Start(work(), under(alloc, flags)?))
 }
 
-/// The attribute with that key and number.
+/// The attribute with this key and number.
 fn attribute(key: &'static str, number: i64) -> SpanChange {
     SpanChange::SetAttribute(KeyValue::new(Key::from(key), Value::I64(number)))
 }
 
-/// The events of a script: `s` and `d` start the next span, from number 0 on, under a parent that is
-/// sampled or not, `n` under the current context, and `p` also attaches it; `r` attaches a sampled
-/// remote parent, and `x1` detaches position 1; `a0` sets an attribute of span 0, `e0` ends it, `c`
-/// collects, `f` flushes, and `q` shuts down.
+/// The events of a script: `s` and `d` start the next span, from number 0 on, under a sampled and
+/// an unsampled parent, and `n` under the current context; `p` also attaches it; `r` attaches a
+/// sampled remote parent, and `x1` detaches position 1; `a0` sets an attribute of span 0, `e0` ends
+/// it, `c` collects, `f` flushes, and `q` shuts down.
 fn events(alloc: Global, script: &'static str) -> Result<Vec<SpanEvent>, Fail> {
     let mut events = Vec::new(alloc);
     for call in script.split(' ') {
@@ -67,7 +67,7 @@ fn events(alloc: Global, script: &'static str) -> Result<Vec<SpanEvent>, Fail> {
     Ok(events)
 }
 
-/// Runs the script, with ids that are counted from 1, so span 0 has the id 1.
+/// Runs the script. Ids are counted from 1, so span 0 has the id 1.
 fn played<S: ShouldSample, E: SpanExporter>(
     rt: HostRuntime,
     sampler: S,
@@ -85,7 +85,7 @@ fn played<S: ShouldSample, E: SpanExporter>(
     Ok(run(alloc, &tracer, exporter, config, events(alloc, script)?)?)
 }
 
-/// How many of the events failed.
+/// The number of events that failed.
 fn failed(outcomes: &[EventOutcome]) -> usize {
     outcomes
         .iter()
@@ -93,9 +93,10 @@ fn failed(outcomes: &[EventOutcome]) -> usize {
         .count()
 }
 
-/// The limits of the queue and of a batch, the exporter's plan, the events; the batches that the
-/// exporter is handed, by the ids of their spans, and how many events failed, how many spans are
-/// left in the queue, were dropped, have ended and aren't collected, and are left in the table.
+/// The limits of the queue and of a batch, the exporter's plan, the events; the span ids in the
+/// batches that the exporter receives, the number of events that failed, and the numbers of spans
+/// that are left in the queue, were dropped, have ended and aren't collected, and are left in the
+/// table.
 type Row = (
     usize,
     usize,

@@ -19,8 +19,8 @@ const LOCAL_SAMPLED: Parent = (1, 0x01, false);
 
 const LOCAL: Parent = (1, 0x00, false);
 
-/// The answer of a sampler under a parent with the trace state `a=1,b=2`, for the trace with this
-/// id.
+/// The answer of a sampler for the trace with this id, under a parent with the trace state
+/// `a=1,b=2`.
 fn asked<S: ShouldSample>(
     alloc: Global,
     sampler: &S,
@@ -43,7 +43,7 @@ fn asked<S: ShouldSample>(
     Ok(sampler.should_sample(alloc, &parent, trace_id, "work", kind, &[], &[])?)
 }
 
-/// Whether a sampler samples under a parent.
+/// Returns whether a sampler samples a span under a parent.
 fn samples<S: ShouldSample>(alloc: Global, sampler: &S, parent: Parent) -> Result<bool, Fail> {
     let answer = asked(alloc, sampler, parent, 1)?;
     Ok(answer.decision == SamplingDecision::RecordAndSample)

@@ -1,4 +1,4 @@
-//! Which ids, flags and parents spans get, with worked cases.
+//! The ids, flags and parents of spans, with worked cases.
 use opentelemetry::context::ContextStack;
 use opentelemetry::trace::{
     Link, Run, Span, SpanBuilder, SpanContext, SpanId, SpanKind, Spans, TraceFlags, TraceId,
@@ -13,7 +13,7 @@ use otel_sdk::trace::{
 use std::alloc::{AllocError, Global};
 use std::test::Fail;
 
-/// Gives the ids 9, or fails.
+/// A generator that returns the ids 9, or fails.
 #[derive(Drop)]
 struct Nines {
     fails: bool,
@@ -43,7 +43,7 @@ impl IdGenerator for Nines {
     }
 }
 
-/// Answers one decision with the attribute `s=1` and the empty trace state.
+/// A sampler with one decision, the attribute `s=1` and the empty trace state.
 #[derive(Drop)]
 pub struct Answers {
     pub decision: SamplingDecision,
@@ -87,7 +87,7 @@ fn work() -> SpanBuilder {
     SpanBuilder::from_name(StringValue::from("work"))
 }
 
-/// The context of a parent of that span id and flags, whose trace id is 1.
+/// The context of a parent with this span id, these flags and the trace id 1.
 fn under(
     alloc: Global,
     span_id: u64,
@@ -105,7 +105,7 @@ fn under(
     Ok(Context::new().with_remote_span_context(alloc, parent)?)
 }
 
-/// The span named `work` of a sampler and a generator under a parent, the clock showing 50.
+/// A span named `work` from a sampler and a generator, under a parent. The clock shows 50.
 fn started<S: ShouldSample, G: IdGenerator>(
     rt: HostRuntime,
     sampler: S,
@@ -229,8 +229,8 @@ fn ids_of(context: Context) -> (TraceId, SpanId) {
     (span_context.trace_id(), span_context.span_id())
 }
 
-/// What a library does that knows only the API: handles a request `a=1` in a span, and a query in
-/// a span inside. Returns the ids that both saw, and the number of the request's span.
+/// A library that knows only the API. It handles a request `a=1` in a span, and a query in a child
+/// span. Returns the ids that both saw, and the number of the request's span.
 fn handle<T: Tracer>(
     alloc: Global,
     tracer: &T,

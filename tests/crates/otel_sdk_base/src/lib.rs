@@ -1,4 +1,4 @@
-//! What no clause says of resources and queues: that calls succeed, and worked cases.
+//! Properties of resources and queues that no clause states: calls succeed, and worked cases.
 #![tactic(auto)]
 
 mod queue;

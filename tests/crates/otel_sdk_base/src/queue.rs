@@ -1,4 +1,4 @@
-//! A queue of items of a type of one's own, before an exporter in memory.
+//! A queue of items of a custom type, in front of an exporter in memory.
 ghost use Rattle.std.specs.Prelude.{◌≡◌, []};
 
 use otel_sdk_base::error::{OTelSdkError, OTelSdkResult};
@@ -55,7 +55,7 @@ impl Exporter<u64> for Closed {
     }
 }
 
-/// Returns how many items a new queue has.
+/// Returns the number of items in a new queue.
 fn length_of_new<E: Exporter<u64>>(alloc: Global, exporter: E) -> usize {
     let queue: Queue<u64, E> = Queue::new(alloc, exporter, BatchConfig::default());
     queue.len()

@@ -1,4 +1,4 @@
-//! That resources are built and merged, with worked cases.
+//! Building and merging resources, with worked cases.
 use otel_base::{Key, KeyValue, StringValue, Value};
 use otel_sdk_base::resource::{Resource, ResourceBuilder};
 use std::alloc::{AllocError, Global};
@@ -8,7 +8,7 @@ fn attribute(key: &'static str, value: &'static str) -> KeyValue {
     KeyValue::new(Key::from(key), Value::from(value))
 }
 
-/// A builder of these attributes only.
+/// A builder with only these attributes.
 fn builder(
     alloc: Global,
     attributes: &[(&'static str, &'static str)],
@@ -72,7 +72,7 @@ fn the_updating_resource_wins(rt: HostRuntime) -> Result<(), Fail> {
     Ok(())
 }
 
-/// The schema URLs of two resources, and that of the merged one; no text for none.
+/// The schema URLs of two resources and of the merged one. An empty text means none.
 const URLS: [(&'static str, &'static str, &'static str); 5] = [
     ("", "", ""),
     ("", "u", "u"),
@@ -81,7 +81,7 @@ const URLS: [(&'static str, &'static str, &'static str); 5] = [
     ("u", "v", ""),
 ];
 
-/// A resource with this schema URL only.
+/// A resource with only this schema URL.
 fn of_url(alloc: Global, url: &'static str) -> Resource {
     Resource::builder_empty(alloc)
         .with_schema_url(StringValue::from(url))
@@ -98,7 +98,7 @@ fn schema_urls_merge(rt: HostRuntime) -> Result<(), Fail> {
     Ok(())
 }
 
-/// Reads the texts, and shows the attributes and the number of the faulty piece.
+/// Reads the texts. Shows the attributes and the number of the faulty piece.
 fn read(
     alloc: Global,
     attributes: &str,

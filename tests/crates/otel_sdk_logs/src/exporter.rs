@@ -1,4 +1,4 @@
-//! The exporter in memory: what it keeps, and what a shutdown leaves.
+//! The exporter in memory: the records that it keeps, also after a shutdown.
 use crate::processor::data;
 use opentelemetry::logs::{AnyValue, LogRecord, Severity};
 use opentelemetry::trace::{SpanId, TraceFlags, TraceId};
@@ -10,7 +10,7 @@ use std::alloc::{AllocError, Global};
 use std::rc::Rc;
 use std::test::Fail;
 
-/// A record with each of its parts set.
+/// A record with every part set.
 fn whole(alloc: Global) -> Result<LogData, AllocError> {
     let mut given = data(alloc, 1)?;
     let record = &mut given.record;

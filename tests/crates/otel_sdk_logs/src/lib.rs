@@ -1,4 +1,4 @@
-//! What no clause says of log records and their processors.
+//! Properties of log records and their processors that no clause states.
 #![tactic(auto)]
 
 // Depends on: test_support

@@ -1,4 +1,4 @@
-//! What processors hand to an exporter: worked runs.
+//! The batches that processors hand to an exporter: worked runs.
 use opentelemetry::logs::LogRecord;
 use opentelemetry::{InstrumentationScope, StringValue};
 use otel_sdk_base::Exporter;
@@ -11,7 +11,7 @@ use std::alloc::{AllocError, Global};
 use std::rc::Rc;
 use std::test::Fail;
 
-/// A record with this number for its timestamp.
+/// A record with this number as its timestamp.
 pub fn data(alloc: Global, number: u64) -> Result<LogData, AllocError> {
     let scope = InstrumentationScope::builder(StringValue::from("tests")).build(alloc)?;
     let mut record = SdkLogRecord::new(alloc);
@@ -22,8 +22,8 @@ pub fn data(alloc: Global, number: u64) -> Result<LogData, AllocError> {
     })
 }
 
-/// An exporter with a plan: at `+` it accepts a batch, and else refuses it. It writes down each
-/// batch as the records' numbers in brackets, with a `!` if it refuses it.
+/// An exporter with a plan. It accepts a batch at `+`, and otherwise refuses it. It writes down the
+/// records' numbers of each batch in brackets, with a `!` if it refuses the batch.
 #[derive(Drop)]
 pub struct Planned {
     plan: &'static [u8],
@@ -72,7 +72,7 @@ pub fn planned(alloc: Global, plan: &'static str) -> Planned {
     }
 }
 
-/// A queue of two, in batches of two.
+/// The limits of two records in the queue and in a batch.
 pub fn two() -> BatchConfig {
     BatchConfigBuilder::default()
         .with_max_queue_size(2)

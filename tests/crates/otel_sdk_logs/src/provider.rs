@@ -1,4 +1,4 @@
-//! Providers and their loggers: what reaches the processor, and what is dropped.
+//! Providers and their loggers: records that reach the processor, and records that are dropped.
 use crate::processor::{planned, two};
 use opentelemetry::logs::{LogRecord, Logger, LoggerProvider, Severity};
 use opentelemetry::{Key, KeyValue, StringValue, Value};
@@ -14,7 +14,7 @@ use std::default::Default;
 use std::rc::Rc;
 use std::test::Fail;
 
-/// Emits a record with this number for its timestamp.
+/// Emits a record with this number as its timestamp.
 fn emit<L: Logger>(alloc: Global, logger: &L, number: u64) -> Result<(), AllocError> {
     let mut record = logger.create_log_record(alloc)?;
     record.set_timestamp(number);
@@ -127,7 +127,7 @@ impl Exporter<LogData> for Named {
     }
 }
 
-/// Returns the attribute, as its value's text.
+/// Returns the attribute with this text as its value.
 fn pair(key: &'static str, value: &'static str) -> KeyValue {
     KeyValue::new(Key::from(key), Value::from(value))
 }

@@ -1,4 +1,4 @@
-//! The attributes of a log record, and what else is set on it.
+//! The attributes and the other parts of a log record.
 use opentelemetry::logs::{AnyValue, LogRecord, Severity};
 use opentelemetry::trace::{SpanId, TraceFlags, TraceId};
 use opentelemetry::{Key, StringValue};
@@ -51,7 +51,7 @@ fn a_record_has_at_most_128_attributes(rt: HostRuntime) -> Result<(), Fail> {
     Ok(())
 }
 
-/// Makes each call of a record that takes no memory.
+/// Makes each call of a record that doesn't allocate.
 fn tell<R: LogRecord>(record: &mut R) {
     record.set_event_name("started");
     record.set_target(StringValue::from("http::server"));
@@ -63,7 +63,7 @@ fn tell<R: LogRecord>(record: &mut R) {
     record.set_trace_context(TraceId::from(1), SpanId::from(2), Some(TraceFlags::new(3)));
 }
 
-/// Asserts that the record holds what [`tell`] told it.
+/// Asserts that the record holds the values that [`tell`] set.
 fn assert_told(rt: &impl Abort, record: &SdkLogRecord) {
     assert!(rt; record.event_name == Some(StringValue::from("started")));
     assert!(rt; record.target == Some(StringValue::from("http::server")));

@@ -1,4 +1,4 @@
-//! What no clause says of spans: that calls succeed, and worked cases.
+//! Properties of spans that no clause states: calls succeed, and worked cases.
 #![tactic(auto)]
 
 // Depends on: test_support

@@ -1,4 +1,4 @@
-//! That spans keep what their limits let them, with worked cases.
+//! The items that spans keep under their limits, with worked cases.
 use opentelemetry::trace::{
     Event, Link, Span, SpanContext, SpanId, Status, TraceFlags, TraceId, TraceState,
 };
@@ -30,7 +30,7 @@ fn context(span_id: u64) -> SpanContext {
     )
 }
 
-/// What a span starts with that has these attributes, and no event and no link.
+/// The initial data of a span with these attributes, without events and links.
 fn given(alloc: Global, held: &[(&'static str, i64)]) -> Result<SpanData, AllocError> {
     let mut given = span_data(alloc, 9, 1)?;
     given.span_context = context(9);
@@ -60,7 +60,7 @@ fn shown(alloc: Global, attributes: &[KeyValue]) -> Result<String, AllocError> {
     Ok(text)
 }
 
-/// The attributes of the span, and how many were dropped.
+/// The attributes of the span, and the number of dropped attributes.
 fn kept(alloc: Global, span: &SdkSpan) -> Result<(String, u32), AllocError> {
     match span.data() {
         Some(data) => Ok((
@@ -263,7 +263,7 @@ fn a_link_to_nothing_needs_attributes(rt: HostRuntime) -> Result<(), Fail> {
     Ok(())
 }
 
-/// A limit of characters, a text, and what is left of it.
+/// A limit of characters, a text, and the text that the limit leaves.
 const CUTS: [(u32, &'static str, &'static str); 6] = [
     (3, "h\u{e9}llo", "h\u{e9}l"),
     (1, "\u{1f44d}\u{1f44d}", "\u{1f44d}"),

@@ -1,5 +1,6 @@
-//! What the service sends on, for headers good and bad. A header that can't be read is no failure: the
-//! service starts a trace of its own (W3C trace-context-2, section 4.3), or keeps what it can read.
+//! The headers that the service sends on, for good and bad headers. A header that can't be read is
+//! no failure. The service starts a new trace (W3C trace-context-2, section 4.3), or keeps the
+//! parts that it can read.
 // Depends on: serde_json
 use crate::clock::CountedClock;
 use crate::failure::Failure;
@@ -26,8 +27,8 @@ use std::time::Clock;
 
 mod full_disk;
 
-/// What is served: the headers of one request, lines of bytes, or lines of one request after the
-/// other, also after one whose spans can't be exported.
+/// The input: the headers of one request, lines of bytes, or the lines of several requests, which
+/// are served even after a request whose spans can't be exported.
 #[derive(Clone, Copy)]
 enum Given<'a> {
     Headers(&'a HashMap<String, String>),
@@ -35,7 +36,7 @@ enum Given<'a> {
     Each(&'a [&'a [u8]]),
 }
 
-/// What is written and logged, and the spans that are exported.
+/// The written and logged lines, and the exported spans.
 #[derive(Drop)]
 struct Outcome {
     lines: String,
@@ -44,7 +45,7 @@ struct Outcome {
     spans: Vec<SpanData>,
 }
 
-/// Serves what is given with counted ids and a counted clock. Returns what is logged.
+/// Serves the input with counted ids and a counted clock. Returns the logged lines.
 fn serve_by<R: RandomSource + Clock + Copy + Drop, X: SpanExporter>(
     rt: R,
     alloc: Global,
@@ -79,7 +80,7 @@ fn serve_by<R: RandomSource + Clock + Copy + Drop, X: SpanExporter>(
         Given::Lines(bytes) => serve_all(&service, processor, bytes, lines, errors)?,
         Given::Each(requests) => {
             for bytes in requests {
-                // What isn't exported stays queued.
+                // Spans that aren't exported stay queued.
                 drop(serve_all(&service, processor, bytes, lines, errors));
             }
         }
@@ -89,7 +90,7 @@ fn serve_by<R: RandomSource + Clock + Copy + Drop, X: SpanExporter>(
     Ok(logged)
 }
 
-/// Serves what is given, and hands the spans to an exporter that keeps them.
+/// Serves the input, and hands the spans to an exporter that keeps them.
 fn served<R: RandomSource + Clock + Copy + Drop>(
     rt: R,
     alloc: Global,
@@ -109,7 +110,7 @@ fn served<R: RandomSource + Clock + Copy + Drop>(
     })
 }
 
-/// Asserts what is written for these headers to standard output, and to standard error.
+/// Asserts the lines that are written to standard output and standard error for these headers.
 fn writes<R: Abort + RandomSource + Clock + Copy + Drop>(
     rt: R,
     alloc: Global,
@@ -126,7 +127,7 @@ fn writes<R: Abort + RandomSource + Clock + Copy + Drop>(
     }
 }
 
-/// Asserts what is written for these lines, of which no header is left out.
+/// Asserts the lines that are written for these lines. No header is left out.
 fn sends_bytes<R: Abort + RandomSource + Clock + Copy + Drop>(
     rt: R,
     alloc: Global,
@@ -152,7 +153,7 @@ fn sends<R: Abort + RandomSource + Clock + Copy + Drop>(
     sends_bytes(rt, alloc, received.as_bytes(), wanted)
 }
 
-/// The headers of the examples of W3C trace-context-2 and of W3C baggage.
+/// The headers in the examples of W3C trace-context-2 and of W3C baggage.
 #[test]
 fn the_examples_of_the_standards_are_carried_on(rt: HostRuntime) -> Result<(), Fail> {
     let received = "traceparent: 00-0af7651916cd43dd8448eb211c80319c-00f067aa0ba902b7-01
@@ -167,7 +168,7 @@ tracestate: rojo=00f067aa0ba902b7,congo=t61rcWkgMzE
     Ok(())
 }
 
-/// What is sent on where the headers name no span and no baggage.
+/// The headers that are sent on if the received headers name no span and no baggage.
 const ANEW: &str = "baggage: service=otel%20service
 traceparent: 00-00000000000000000000000000000001-0000000000000001-01
 tracestate: 
@@ -199,7 +200,8 @@ fn a_trace_starts_anew_where_the_headers_name_no_span(rt: HostRuntime) -> Result
     Ok(())
 }
 
-/// What is sent on for the span of the standard's example, with this trace state and baggage.
+/// The headers that are sent on for the span of the standard's example, with this trace state and
+/// baggage.
 fn under_example(alloc: Global, trace_state: &str, baggage: &str) -> Result<String, AllocError> {
     format!(in alloc;
         "baggage: {baggage}service=otel%20service
@@ -215,10 +217,10 @@ const BESIDE: &[(&str, &str, &str)] = &[
     ("", "", ""),
     ("TraceState: a=1\nTRACESTATE:b=2\n", "a=1,b=2", ""),
     ("tracestate: a=1\ntracestate: a=2\n", "a=1", ""),
-    // A trace state that isn't of the grammar takes nothing from the `traceparent` beside it.
+    // A trace state that violates the grammar doesn't affect the `traceparent` beside it.
     ("tracestate: a=1,b\n", "", ""),
     ("tracestate: A=1\n", "", ""),
-    // Of a baggage what can be read stays.
+    // The members of a baggage that can be read stay.
     ("baggage: a=1, x ,b=%ff,c=2\n", "", "a=1,c=2,"),
     ("baggage: a=1;m\nBaggage: b=2\n", "", "a=1;m,b=2,"),
     ("host: example\nno colon\n: no name\n", "", ""),
@@ -230,8 +232,8 @@ const BESIDE: &[(&str, &str, &str)] = &[
         "a=1\u{b}",
         "b=2%C2%A0,",
     ),
-    // A name with a blank before the colon is no header (RFC 9112, section 5.1), and no line goes on
-    // in the next one.
+    // A name with a blank before the colon is no header (RFC 9112, section 5.1), and no line is
+    // continued in the next one.
     ("tracestate : a=1\nbaggage\t: b=2\n", "", ""),
     (" tracestate: a=1\n", "", ""),
     ("tracestate: a=1\n ,b=2: c\n", "a=1", ""),
@@ -251,7 +253,7 @@ fn what_can_be_read_beside_a_span_is_carried_on(rt: HostRuntime) -> Result<(), F
     Ok(())
 }
 
-/// A byte that isn't UTF-8 costs the line that it is in, and no other.
+/// A line with a byte that isn't UTF-8 is ignored, and other lines aren't.
 #[test]
 fn a_line_that_is_not_utf_8_is_passed_over(rt: HostRuntime) -> Result<(), Fail> {
     let alloc = rt.alloc();
@@ -265,9 +267,9 @@ x-\xff: 1
     Ok(())
 }
 
-/// Values of headers with a carriage return, a line feed or NUL in them, with the name of the header
-/// that is then left out, and the lines that are sent. The rules of both headers let these values
-/// through.
+/// Values of headers that contain a carriage return, a line feed or NUL, the name of the header
+/// that is then left out, and the lines that are sent. The rules of both headers allow these
+/// values.
 const NOT_IN_A_LINE: &[(&str, &str, &str)] = &[
     (
         "tracestate",
@@ -350,7 +352,7 @@ baggage: userId=alice
     Ok(())
 }
 
-/// Without a user the price fails: its span has an error, and the request is served all the same.
+/// Without a user the price fails. Its span has an error, and the request is still served.
 #[test]
 fn a_failed_step_has_an_error(rt: HostRuntime) -> Result<(), Fail> {
     let Ok(found) = served(rt, rt.alloc(), Given::Lines(b"")) else {
@@ -368,7 +370,7 @@ fn a_failed_step_has_an_error(rt: HostRuntime) -> Result<(), Fail> {
     Ok(())
 }
 
-/// A caller whose trace isn't sampled has no spans exported.
+/// No spans are exported for a caller whose trace isn't sampled.
 #[test]
 fn a_trace_that_is_not_sampled_is_not_exported(rt: HostRuntime) -> Result<(), Fail> {
     let received = b"traceparent: 00-0af7651916cd43dd8448eb211c80319c-00f067aa0ba902b7-00\n";
@@ -380,7 +382,7 @@ fn a_trace_that_is_not_sampled_is_not_exported(rt: HostRuntime) -> Result<(), Fa
     Ok(())
 }
 
-/// Requests are parted by empty lines, and so is what is sent on for them.
+/// Empty lines separate the requests, and the headers that are sent on for them.
 #[test]
 fn each_request_is_served(rt: HostRuntime) -> Result<(), Fail> {
     let received = "traceparent: 00-0af7651916cd43dd8448eb211c80319c-00f067aa0ba902b7-00
@@ -400,8 +402,8 @@ tracestate: a=1
     Ok(())
 }
 
-/// A request's headers name a trace, and its log line and what is sent on name that trace and the
-/// service's span.
+/// A request's headers name a trace. Its log line and the headers that are sent on name that trace
+/// and the service's span.
 #[test]
 fn a_request_is_logged_with_its_span(rt: HostRuntime) -> Result<(), Fail> {
     let received = b"traceparent: 00-0af7651916cd43dd8448eb211c80319c-00f067aa0ba902b7-01\n";
@@ -423,7 +425,7 @@ tracestate:
     Ok(())
 }
 
-/// Each request has a log line, also one whose trace isn't sampled.
+/// Each request has a log line, even if its trace isn't sampled.
 #[test]
 fn each_request_is_logged(rt: HostRuntime) -> Result<(), Fail> {
     let received = b"traceparent: 00-0af7651916cd43dd8448eb211c80319c-00f067aa0ba902b7-00

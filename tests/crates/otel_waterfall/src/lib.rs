@@ -1,4 +1,4 @@
-//! What no clause says of pictures of spans: the order of the rows, whole pictures, and writers
+//! Properties of pictures that no clause states: the order of the rows, whole pictures, and writers
 //! that fail.
 #![tactic(auto)]
 

@@ -7,7 +7,7 @@ use std::alloc::{AllocError, Global};
 use std::test::Fail;
 use test_support::span_data;
 
-/// Returns a span of the trace. `ids` are its own id and that of its parent.
+/// Returns a span of the trace. `ids` are its own id and its parent's.
 pub fn span(
     alloc: Global,
     trace: u128,
@@ -179,7 +179,7 @@ xxxxxxxxxxxxxxxxxxxxxxxxxxxxxxx…       0ns █
     Ok(())
 }
 
-/// By the Unicode Standard, U+4E2D, U+6587 and U+5B57 are wide (`East_Asian_Width=W`), U+FF21 is
+/// In the Unicode Standard, U+4E2D, U+6587 and U+5B57 are wide (`East_Asian_Width=W`), U+FF21 is
 /// fullwidth (`F`), and U+0301 is a nonspacing mark (`General_Category=Mn`).
 #[test]
 fn columns_of_wide_characters_and_marks(rt: HostRuntime) -> Result<(), Fail> {
@@ -198,7 +198,7 @@ e\u{301}te\u{301}                                    0ns █
     Ok(())
 }
 
-/// A name has 32 columns. One that is cut keeps 31 of them, so 15 ideographs, and a space follows.
+/// A name has 32 columns. A cut name keeps 31 of them, so 15 ideographs, and a space follows.
 #[test]
 fn a_long_wide_name_is_cut(rt: HostRuntime) -> Result<(), Fail> {
     let alloc = rt.alloc();

@@ -2,7 +2,7 @@
 use std::alloc::{AllocError, Global};
 use std::collections::HashMap;
 
-/// A map of these texts, put in directly.
+/// A map with these texts, inserted directly.
 pub fn map_of(
     alloc: Global,
     pairs: &[(&str, &str)],
@@ -17,7 +17,7 @@ pub fn map_of(
     Ok(texts)
 }
 
-/// What a map holds under a key as it stands, or `none`.
+/// The text of a map under exactly this key, or `none`.
 pub fn held<'a>(texts: &'a HashMap<String, String>, key: &str) -> &'a str {
     match texts.get(key) {
         Some(value) => value.as_str(),

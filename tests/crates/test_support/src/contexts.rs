@@ -1,4 +1,4 @@
-//! Contexts, stacks of them, and baggages.
+//! Contexts, context stacks and baggages.
 use otel_base::{AnyValue, Key, StringValue};
 use otel_context::{Baggage, BaggageMetadata, Context, ContextGuard, ContextStack, HasCurrent};
 use std::alloc::{AllocError, Global};
@@ -36,10 +36,10 @@ pub fn baggage_of(alloc: Global, members: &[Member]) -> Result<Baggage, AllocErr
     Ok(baggage)
 }
 
-/// The newest position of a stack, and the position that an attach then gets: 65535 is none.
+/// The newest position of a stack, and the position of the next attach. 65535 means none.
 pub const POSITIONS: &[(u16, u16)] = &[(65532, 65533), (65533, 65534), (65534, 65535)];
 
-/// A stack whose newest position is this one, where a context named `below` is.
+/// A stack with a context named `below` at this newest position.
 pub fn filled(alloc: Global, newest: u16) -> Result<ContextStack, AllocError> {
     let mut stack = ContextStack::new(alloc)?;
     for _ in 1..newest {
@@ -49,8 +49,8 @@ pub fn filled(alloc: Global, newest: u16) -> Result<ContextStack, AllocError> {
     Ok(stack)
 }
 
-/// Spends the guard of an attach to a stack of [`filled`], and asserts what stood while it was
-/// attached and what stands then.
+/// Detaches the guard of an attach to a stack of [`filled`]. Asserts the state of the stack before
+/// and after.
 pub fn assert_attached(
     rt: &impl Abort,
     stack: &mut ContextStack,

@@ -1,4 +1,4 @@
-//! What the tests of several crates share: contexts with a name, full stacks, spans that record,
+//! Helpers for the tests of several crates: contexts with a name, full stacks, recording spans,
 //! ended spans of the SDK, baggages and maps of texts.
 #![tactic(auto)]
 

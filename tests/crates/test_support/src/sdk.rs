@@ -1,4 +1,4 @@
-//! Spans of the SDK that ended.
+//! Ended spans of the SDK.
 use opentelemetry::trace::{
     SpanContext, SpanId, SpanKind, Status, TraceFlags, TraceId, TraceState,
 };
@@ -7,8 +7,8 @@ use otel_sdk_span::{SpanData, SpanEvents, SpanLinks};
 use std::alloc::{AllocError, Global};
 use std::rc::Rc;
 
-/// A local root of trace 7 with this number as its span id and these flags, which recorded nothing.
-/// Tests change the fields that they are about.
+/// A local root in trace 7 with this number as its span id and these flags, which recorded nothing.
+/// Tests change the fields that they test.
 pub fn span_data(alloc: Global, number: u64, flags: u8) -> Result<SpanData, AllocError> {
     let scope = InstrumentationScope::builder(StringValue::from("tests")).build(alloc)?;
     Ok(SpanData {

@@ -1,4 +1,4 @@
-//! Span contexts, spans that record, and their tracer.
+//! Span contexts, recording spans, and their tracer.
 use otel_base::StringValue;
 use otel_examples::recording::{RecordingSpan, RecordingTracer};
 use otel_ids::{SpanContext, SpanId, TraceFlags, TraceId, TraceState};
@@ -14,17 +14,17 @@ fn numbered(number: u64, is_remote: bool) -> SpanContext {
     )
 }
 
-/// A local span context with that number as both ids.
+/// A local span context with this number as both ids.
 pub fn span_context(number: u64) -> SpanContext {
     numbered(number, false)
 }
 
-/// A remote span context with that number as both ids.
+/// A remote span context with this number as both ids.
 pub fn remote_span_context(number: u64) -> SpanContext {
     numbered(number, true)
 }
 
-/// A span of that number that keeps nothing yet.
+/// A span with this number as both ids, without effects.
 pub fn span(alloc: Global, number: u64) -> RecordingSpan {
     RecordingSpan::new(alloc, span_context(number), StringValue::from("work"))
 }
@@ -39,7 +39,7 @@ pub fn tracer() -> RecordingTracer {
 /// The greatest number that a table gives to a span.
 pub const LAST_NUMBER: u64 = 18446744073709551614;
 
-/// The number that is next in a table, whether a span gets it, and the next one then.
+/// The next number in a table, whether a span gets it, and the next number after that.
 pub const NUMBERS: &[(u64, bool, u64)] = &[
     (LAST_NUMBER - 1, true, LAST_NUMBER),
     (LAST_NUMBER, true, u64::MAX),

@@ -59,7 +59,7 @@ pub fn play<R: Print>(alloc: Global, lines: &Lines<'_, R>) {
     }
 }
 
-/// A sampled span that ended.
+/// An ended, sampled span.
 pub fn span(alloc: Global) -> Result<SpanData, AllocError> {
     let (trace_id, span_id) = (TraceId::from(1), SpanId::from(2));
     let state = TraceState::NONE;
@@ -76,8 +76,8 @@ fn processor(alloc: Global) -> BatchSpanProcessor<InMemorySpanExporter> {
     BatchSpanProcessor::new(alloc, exporter, Default::default())
 }
 
-/// Prints the answer. Returns the number of spans left in the queue, if all accepted spans leave
-/// it: a returned span isn't in it.
+/// Prints the answer. Returns the number of spans left in the queue if all accepted spans leave it.
+/// A span that the error returns isn't in the queue.
 fn ended<R: Print>(lines: &Lines<'_, R>, answer: Result<(), EndRefused>, taken: usize) -> usize {
     match answer {
         Ok(()) => {

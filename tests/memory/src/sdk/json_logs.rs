@@ -71,7 +71,7 @@ fn export<R: Print>(alloc: Global, lines: &Lines<'_, R>) -> Result<(), AllocErro
     Ok(())
 }
 
-/// Calls whose writer fails: the text of the error is allocated.
+/// Calls whose writer fails. They allocate the text of the error.
 fn refusals<R: Print>(alloc: Global, lines: &Lines<'_, R>) -> Result<(), AllocError> {
     let batch = [full(alloc)?];
     let mut exporter = OtlpJsonLogExporter::new(alloc, closed())?;

@@ -1,10 +1,10 @@
-//! Headers as a carrier of one's own.
+//! Headers as a custom carrier.
 use opentelemetry::propagation::{Extractor, Injector};
 use otel_examples::api::headers::Headers;
 use std::alloc::{AllocError, Global};
 use std::test::Fail;
 
-/// Headers of these names and values.
+/// Headers with these names and values.
 pub fn headers(alloc: Global, pairs: &[(&str, &str)]) -> Result<Headers, AllocError> {
     let mut held = Vec::new(alloc);
     for (name, value) in pairs {
@@ -16,7 +16,7 @@ pub fn headers(alloc: Global, pairs: &[(&str, &str)]) -> Result<Headers, AllocEr
     Ok(Headers { pairs: held })
 }
 
-/// Whether these are the pairs, in order.
+/// Returns whether the headers are these pairs, in order.
 pub fn holds(headers: &Headers, pairs: &[(&str, &str)]) -> bool {
     headers.pairs.len() == pairs.len()
         && headers.pairs.iter().zip(pairs).all(|(held, pair)| held.0.as_str() == pair.0

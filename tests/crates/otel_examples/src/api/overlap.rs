@@ -1,4 +1,4 @@
-//! Two attachments, the older of which is detached first.
+//! Two attachments. The older one is detached first.
 use opentelemetry::Key;
 use opentelemetry::context::{Context, ContextStack};
 use opentelemetry::logs::AnyValue;

@@ -6,7 +6,7 @@ use otel_examples::api::scope::{AmountError, amount_under};
 use std::alloc::{AllocError, Global};
 use std::test::Fail;
 
-/// A context with that entry.
+/// A context with this entry.
 fn with_entry(alloc: Global, key: &'static str, value: AnyValue) -> Result<Context, AllocError> {
     Context::new().with_value(alloc, Key::from(key), value)
 }

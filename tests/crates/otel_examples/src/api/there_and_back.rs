@@ -1,4 +1,4 @@
-//! A context that is sent by the W3C headers arrives, by each of the callers that send it.
+//! A context that is sent in the W3C headers arrives, with each of the callers that send it.
 use opentelemetry::baggage::Baggage;
 use opentelemetry::carry::{AttachOutcome, StackEvent};
 use opentelemetry::logs::AnyValue;
@@ -15,7 +15,7 @@ use std::collections::HashMap;
 use std::process::Abort;
 use std::test::Fail;
 
-/// The `traceparent` of the W3C document's example.
+/// The `traceparent` in the W3C document's example.
 const TRACEPARENT: &str = "00-4bf92f3577b34da6a3ce929d0e0e4736-00f067aa0ba902b7-01";
 
 /// The example's span, with a baggage of one member.
@@ -37,7 +37,7 @@ fn sent_context(alloc: Global) -> Result<Context, AllocError> {
         .with_baggage(alloc, baggage)
 }
 
-/// A context with that id of a request.
+/// A context with this request id.
 fn with_id(alloc: Global, context: &Context, id: &'static str) -> Result<Context, AllocError> {
     let id = AnyValue::String(StringValue::from(id));
     context.with_value(alloc, Key::from("request.id"), id)
@@ -50,12 +50,12 @@ fn given<T>(outcome: Result<T, PropagationError>) -> Result<T, AllocError> {
     }
 }
 
-/// Whether the carrier has the header with this value.
+/// Returns whether the carrier has the header with this value.
 fn has(carrier: &HashMap<String, String>, key: &str, value: &str) -> bool {
     matches!(carrier.get(key), Some(held) if held.as_str() == value)
 }
 
-/// Asserts that the headers are those of the example, and that its span and member came back.
+/// Asserts that the headers are the example's, and that its span and member arrived.
 fn assert_arrived(rt: &impl Abort, carrier: &HashMap<String, String>, back: &Context) {
     assert!(rt; has(carrier, "traceparent", TRACEPARENT));
     assert!(rt; has(carrier, "tracestate", "congo=t61rcWkgMzE"));

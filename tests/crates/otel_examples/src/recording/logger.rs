@@ -1,11 +1,11 @@
-//! What loggers keep, and which names those of providers have.
+//! The records that loggers keep, and the names of the loggers of providers.
 use opentelemetry::logs::{AnyValue, LogRecord, Logger, LoggerProvider, Severity};
 use opentelemetry::{InstrumentationScope, StringValue};
 use otel_examples::recording::{RecordingLogger, RecordingLoggerProvider};
 use std::alloc::{AllocError, Global};
 use std::test::Fail;
 
-/// Hands the logger a record of each body.
+/// Emits a record with each body.
 fn emit_each<L: Logger>(alloc: Global, logger: &L, bodies: &[i64]) -> Result<(), AllocError> {
     for body in bodies {
         let mut record = logger.create_log_record(alloc)?;
@@ -31,7 +31,7 @@ fn a_logger_keeps_the_records_that_it_takes(rt: HostRuntime) -> Result<(), Fail>
     Ok(())
 }
 
-/// A logger with that name.
+/// A logger with this name.
 fn named<P: LoggerProvider>(
     alloc: Global,
     provider: &P,

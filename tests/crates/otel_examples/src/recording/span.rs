@@ -1,4 +1,4 @@
-//! What a span keeps.
+//! The effects that a span keeps.
 use otel_base::{Key, KeyValue, StringValue, Value};
 use otel_context::{Span, Status};
 use otel_examples::recording::Effect;

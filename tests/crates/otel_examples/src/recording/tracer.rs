@@ -1,4 +1,4 @@
-//! Which ids a span gets, and which names the tracers of providers have.
+//! The ids of spans, and the names of the tracers of providers.
 use opentelemetry::trace::{Span, SpanBuilder, SpanId, TraceId, Tracer, TracerProvider};
 use opentelemetry::{Context, StringValue};
 use otel_examples::recording::RecordingTracerProvider;
@@ -6,7 +6,7 @@ use std::alloc::{AllocError, Global};
 use std::test::Fail;
 use test_support::{remote_span_context, tracer};
 
-/// The number that both ids of the parent are, and the ids that a span under it gets.
+/// The number of both ids of the parent, and the ids of a span under it.
 const IDS: &[(u64, u128, u64)] = &[(0, 7, 1), (40, 40, 41), (u64::MAX, 0xffffffffffffffff, 0)];
 
 #[test]
@@ -27,7 +27,7 @@ fn a_span_is_in_its_parents_trace_with_the_id_after_its_parents(
     Ok(())
 }
 
-/// A span that a tracer with that name starts.
+/// A span from a tracer with this name.
 fn started<P: TracerProvider>(
     alloc: Global,
     provider: &P,

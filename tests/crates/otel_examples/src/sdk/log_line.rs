@@ -7,7 +7,7 @@ use otel_examples::sdk::log_line::no_price;
 use std::alloc::{AllocError, Global};
 use std::test::Fail;
 
-/// A logger that wants records of at least that severity.
+/// A logger that wants records of at least this severity.
 fn logger(alloc: Global, least: Severity) -> Result<RecordingLogger, AllocError> {
     let scope = InstrumentationScope::builder(StringValue::from("app")).build(alloc)?;
     Ok(RecordingLogger::new(alloc, scope, least))

@@ -1,4 +1,4 @@
-//! Requests with the headers of the W3C's examples.
+//! Requests with the headers in the W3C's examples.
 use http_header::{HeaderMap, HeaderName, HeaderValue};
 use opentelemetry::Context;
 use opentelemetry::trace::TraceId;

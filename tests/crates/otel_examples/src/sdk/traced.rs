@@ -12,7 +12,7 @@ use std::test::Fail;
 
 type Pipeline = TracerPipeline<Sampler, CountedIdGenerator, ManualClock>;
 
-/// A tracer with that sampler, the clock showing 5.
+/// A tracer with this sampler. The clock shows 5.
 fn tracer(rt: HostRuntime, sampler: Sampler) -> Result<SdkTracer<Pipeline>, AllocError> {
     let alloc = rt.alloc();
     let provider = SdkTracerProvider::builder(rt)

@@ -1,5 +1,5 @@
-//! The spans of the service go to a disk that is full for a while: each write in turn is refused once.
-//! A later flush exports what is missing, and each span is exported once.
+//! The spans of the service go to a disk that is full for a while. Each write in turn is refused
+//! once. A later flush exports the missing spans, and each span is exported once.
 use super::{Given, serve_by};
 use otel_otlp::OtlpJsonSpanExporter;
 use otel_sdk::trace::{BatchConfigBuilder, BatchSpanProcessor, SpanProcessor};
@@ -10,7 +10,7 @@ use std::random::RandomSource;
 use std::test::Fail;
 use std::time::Clock;
 
-/// A writer that takes at most 400 bytes a call, and refuses one call.
+/// A writer that takes at most 400 bytes in a call, and refuses one call.
 #[derive(Drop)]
 struct FullOnce {
     taken: Vec<u8>,
@@ -43,8 +43,8 @@ const REQUESTS: &[&[u8]] = &[
     b"traceparent: 00-4bf92f3577b34da6a3ce929d0e0e4736-00f067aa0ba902b7-01\n",
 ];
 
-/// What the writer took of the spans of the requests, in how many calls, and how many spans were
-/// still queued when the requests were done.
+/// The bytes that the writer took for the spans of the requests, the number of calls, and the
+/// number of spans that were still queued after the requests.
 fn taken<R: RandomSource + Clock + Copy + Drop>(
     rt: R,
     alloc: Global,
@@ -74,8 +74,8 @@ fn taken<R: RandomSource + Clock + Copy + Drop>(
     Ok((writer.taken.clone()?, writer.calls, queued))
 }
 
-/// The last digits of the ids of the spans in the whole lines, in order, with how many lines aren't
-/// whole.
+/// The last digits of the ids of the spans in the whole lines, in order, and the number of lines
+/// that aren't whole.
 fn digits(alloc: Global, bytes: &[u8]) -> Result<(Vec<u8>, usize), Fail> {
     let (mut digits, mut cut) = (Vec::new(alloc), 0);
     for line in bytes.split(|byte| *byte == b'\n') {
@@ -94,7 +94,7 @@ fn digits(alloc: Global, bytes: &[u8]) -> Result<(Vec<u8>, usize), Fail> {
     Ok((digits, cut))
 }
 
-/// The children of a span come before it, as they end first.
+/// The children of a span come before it, because they end first.
 #[test]
 fn each_span_is_exported_once(rt: HostRuntime) -> Result<(), Fail> {
     let alloc = rt.alloc();
