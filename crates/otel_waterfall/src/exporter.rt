@@ -8,11 +8,13 @@ use crate::columns::Style;
 use crate::drawn::drawn;
 use crate::pictures::picture;
 use otel_sdk_base::error::{OTelSdkError, OTelSdkResult};
+use otel_sdk_base::resource::Resource;
 use otel_sdk_base::{Accepted, Exporter};
 use otel_sdk_span::SpanData;
 use std::alloc::Global;
 use std::io::{ErrorKind, Write};
 use std::marker::Model;
+use std::rc::Rc;
 
 /// Draws each batch of spans for a terminal, and writes the picture to `W`.
 ///
@@ -164,5 +166,12 @@ impl<W: Write + Drop> Exporter<SpanData> for WaterfallExporter<W> {
     {
         self.is_shut_down = true;
         Ok(())
+    }
+
+    /// Does nothing: a picture doesn't show resources.
+    fn set_resource(&mut self, resource: Rc<Resource>)
+        ensures { self.new ≡ self.old }
+    {
+        drop(resource);
     }
 }
