@@ -37,7 +37,7 @@ fn attributes(alloc: Global) -> Result<Vec<KeyValue>, AllocError> {
 
 /// The initial data of a span with these attributes, without events and links.
 pub fn given(alloc: Global, attributes: Vec<KeyValue>) -> Result<SpanData, AllocError> {
-    let scope = InstrumentationScope::builder(StringValue::from("lib")).build(alloc)?;
+    let scope = InstrumentationScope::builder(StringValue::from("s")).build(alloc)?;
     Ok(SpanData {
         span_context: SpanContext::NONE,
         parent_span_id: SpanId::INVALID,
