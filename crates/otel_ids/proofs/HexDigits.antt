@@ -31,7 +31,7 @@ encoded (b ∷ bytes) small =
 
 -- ---- digits that are read
 
--- the number whose bytes these are, the highest first
+-- the number with these bytes, most significant first
 abbrev worth_of : List ℕ → ℕ
 worth_of [] = 0
 worth_of (b ∷ bytes) = b * 256 ^ length bytes + worth_of bytes
@@ -104,7 +104,7 @@ worth_is k n bytes len below =
     ap worth_of (drop_more bytes n 0 (omega arith)) ∙ ap (λ (m : ℕ). slice_index bytes n * 256 ^ m + worth_of (drop (n + 1) bytes)) left
     ∙ ap (λ (x : ℕ). x + worth_of (drop (n + 1) bytes)) (byte_worth_is (k - n) (slice_index bytes n))
 
--- the sum that std has of bytes, up to place n, and the worth of those that follow
+-- the sum that std computes from bytes, up to place n, and the worth of the bytes that follow
 sum_is : (k n : ℕ) (bytes : List ℕ) → length bytes ≡ suc k → n < suc k → sum_through (λ i. byte_worth (k - i) (slice_index bytes i)) n + worth_of (drop (n + 1) bytes) ≡ worth_of bytes
 sum_is k zero bytes len below = sym (worth_is k 0 bytes len below)
 sum_is k (suc n) bytes len below =
@@ -114,7 +114,7 @@ sum_is k (suc n) bytes len below =
     let same : worth_of (drop (n + 1) bytes) ≡ worth_of (drop (suc n) bytes) = ap (λ (m : ℕ). worth_of (drop m bytes)) place in
     omega (arith, so_far, here, same)
 
--- bytes that are read of digits are the number of the digits
+-- bytes that are decoded from digits encode the number of the digits
 pub decoded : (bits k : ℕ) (text bytes : List ℕ) → 256 ^ suc k ≡ 2 ^ bits → decode_sized text (suc k) ≡ Ok bytes → ReadsId bits text (sum_through (λ i. byte_worth (k - i) (slice_index bytes i)) k)
 decoded bits k text bytes range h =
     let sized = ((IsOk-decode_sized text (suc k)).0 (rw h refl)).0 in

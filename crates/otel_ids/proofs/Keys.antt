@@ -1,4 +1,4 @@
--- Which pairs have a key, and the first pair of each.
+-- The pairs that have a key, and the first pair of each key.
 use Rattle.std.proofs.Common.{◌≡◌, ℕ, zero, suc, ◌≤◌, Bool, true, false, cond, List, [], ◌∷◌, ◌++◌, length, take, Option, Some, None, refl, sym, ap, ◌∙◌, arith, inl, inr}
 use Rattle.std.specs.Prelude.{map, filter, not, ◌||◌, is_some, option_copied}
 use denote.Ref.{Bor}
@@ -14,7 +14,7 @@ use Rattle.otel_ids.specs.TraceState.{Pair, has_key, LacksKey, DistinctKeys, get
 use Rattle.otel_ids.specs.View.{with_new_key}
 use Rattle.otel_ids.specs.Laws.{RepeatsLeftOut, cut_value}
 
--- ---- what a filter leaves
+-- ---- the pairs that a filter keeps
 
 pub valid_filter : (P : Pair → Type 0) (test : Pair → Bool) (ps : List Pair) → AllByRecursion P ps → AllByRecursion P (filter test ps)
 valid_filter P test [] h = tt
@@ -54,7 +54,7 @@ distinct_take zero ps h = tt
 distinct_take (suc n) [] h = tt
 distinct_take (suc n) (p ∷ ps) h = (lacks_take p.key n ps h.0, distinct_take n ps h.1)
 
--- ---- a key that is taken away
+-- ---- a key that is deleted
 
 lacks_delete : (key : List ℕ) (ps : List Pair) → LacksKey key (delete ps key)
 lacks_delete key [] = tt
@@ -99,7 +99,7 @@ pub length_first : (ps : List Pair) → length (first_of_each_key ps) ≤ length
 length_first [] = omega arith
 length_first (p ∷ ps) = let l = length_first ps in omega (arith, length_filter (λ q. not (has_key p.key q)) (first_of_each_key ps))
 
--- distinct pairs all stay
+-- pairs with distinct keys are all kept
 pub first_same : (ps : List Pair) → DistinctKeys ps → first_of_each_key ps ≡ ps
 first_same [] h = refl
 first_same (p ∷ ps) h = ap (λ (x : List Pair). p ∷ x) (ap (λ (x : List Pair). delete x p.key) (first_same ps h.1) ∙ delete_lacking p.key ps h.0)
@@ -153,7 +153,7 @@ copied_some (Some x) = refl
 pub has_from_get : (ps : List Pair) (key : List ℕ) (o : Option (Bor (List ℕ))) → option_copied o ≡ get ps key → is_some o ≡ list_any (has_key key) ps
 has_from_get ps key o e = copied_some o ∙ ap is_some e ∙ get_any ps key
 
--- a pair whose key is there is left out
+-- a pair whose key an earlier pair has is left out
 pub with_new_key-present : (ps : List Pair) (p : Pair) → list_any (has_key p.key) ps ≡ true → ps ≡ with_new_key ps p
 with_new_key-present ps p t = rw t refl
 

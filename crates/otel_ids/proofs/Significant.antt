@@ -1,4 +1,4 @@
--- The digits of a number without the zeros in front.
+-- The digits of a number without leading zeros.
 use Rattle.std.proofs.Common.{◌≡◌, ℕ, zero, suc, ◌-◌, ◌*◌, ◌/◌, ◌%◌, ◌^◌, ◌<◌, ◌≤◌, ◌==◌, Bool, true, false, cond, List, [], ◌∷◌, ◌++◌, length, refl, sym, ap, ◌∙◌, inl, inr, arith, append-nil, append_assoc, eqb-true}
 use Rattle.std.specs.Prelude.{◌≢◌}
 use Rattle.std.specs.Fmt.{IsDefaultSpec, padded_integral, padding_before, char_count, digit_glyph, digits, digits_onto}
@@ -35,13 +35,13 @@ plain_number s prefix numeral h =
 glyph_zero : (x : ℕ) → digit_glyph false (0 / x % 16) ≡ 48
 glyph_zero x = let z : 0 / x ≡ 0 = zero-div x in rw z refl
 
--- the zeros in front are passed by
+-- leading zeros are skipped
 past_zeros : (k : ℕ) (ys : List ℕ) → without_zeros (id_text k 0 ++ ys) ≡ without_zeros ys
 unfolding id_text
 past_zeros zero ys = refl
 past_zeros (suc k) ys = rw (glyph_zero (16 ^ k)) (past_zeros k ys)
 
--- the last digit stands apart from those of a sixteenth
+-- the digits are the digits of a sixteenth of the number, followed by the last digit
 last_digit : (k n : ℕ) → id_text (suc k) n ≡ id_text k (n / 16) ++ digit_glyph false (n % 16) ∷ []
 unfolding id_text
 last_digit zero n = let one : n / 16 ^ 0 ≡ n = omega arith in rw one refl
@@ -88,7 +88,7 @@ one_onto : (k f n : ℕ) (acc : List ℕ) → n / 16 ≡ 0 → digits_onto (suc 
 one_onto k f n acc z =
     rw (last_digit k n, z, past_zeros k (digit_glyph false (n % 16) ∷ [])) (ap (λ (l : List ℕ). l ++ acc) (sym (one_digit (digit_glyph false (n % 16)))))
 
--- the digits of n are those of its text of any length that it fits into, without the zeros in front
+-- the digits of n are its text of any length into which it fits, without leading zeros
 onto : (k f n : ℕ) (acc : List ℕ) → k ≤ f → n < 16 ^ suc k → digits_onto (suc f) 16 false n acc ≡ some_digit (without_zeros (id_text (suc k) n)) ++ acc
 onto zero f n acc room below = one_onto 0 f n acc (omega arith)
 onto (suc k) zero n acc room below = absurd (omega arith)

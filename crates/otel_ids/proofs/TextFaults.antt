@@ -1,4 +1,4 @@
--- The fault that a text has by the grammar is the one that `fault_of` gives.
+-- The fault that a text has according to the grammar is the fault that `fault_of` gives.
 use Rattle.std.proofs.Common.{◌≡◌, ℕ, suc, ◌+◌, false, List, [], ◌∷◌, ◌++◌, Option, Some, None, refl, sym, ap, subst, ◌∙◌, arith, inl, inr, take}
 use Rattle.std.specs.Prelude.{map, replicate, ◌⊎◌}
 use Rattle.std.specs.List.{AllByRecursion, list_any, before_first, after_first, position_or_len}

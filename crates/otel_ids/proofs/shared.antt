@@ -1,4 +1,4 @@
--- Lemmas that crates above use too.
+-- Lemmas that dependent crates use too.
 pub mod Header
 pub mod Numerals
 pub mod Readings

@@ -1,6 +1,6 @@
--- How values are stored, and which value that is: the pairs of a trace state are one text, their
--- header, with the lengths of each key and value. Codes let the value of another model contain
--- these values. No public clause cites this.
+-- How values are stored, and the value that contracts see: the pairs of a trace state are stored as
+-- one text, their header, with the lengths of each key and value. Codes let the value of another
+-- model contain these values. No public clause cites this.
 use Rattle.std.specs.Prelude.{◌≡◌, ℕ, ◌+◌, ◌<◌, ◌≤◌, Bool, List, [], ◌∷◌, length, map, take, drop}
 use Rattle.std.specs.Prelude.{slice_index}
 use Rattle.std.specs.Prelude.{Option, Some, None, refl, ◌++◌, if◌then◌else◌}
@@ -15,7 +15,7 @@ use Rattle.otel_ids.specs.SpanContext.{SpanContextRecord}
 
 -- ---- a trace state
 
--- how long a pair's key and value are
+-- the lengths of a pair's key and value
 abbrev pub place : Pair → Place
 place p = record { key = length p.key; value = length p.value }
 
@@ -33,27 +33,27 @@ pub record IsStored (places : List Place) (text : List ℕ) : Type 0 where
   pub spelled : text ≡ header (cut places text)
   pub placed : places ≡ map place (cut places text)
 
--- the same of a text that begins within a header, if it is a text still
+-- the same for a text that begins within a header, if it is still a text
 pub record IsLeft (places : List Place) (text : List ℕ) : Type 0 where
   pub stored : IsStored places text
   pub utf8 : IsUtf8 text
 
--- the pairs, and the pair after them where none of them has its key
+-- the pairs, with the pair after them if none of them has its key
 abbrev pub with_new_key : List Pair → Pair → List Pair
 with_new_key ps p = if list_any (has_key p.key) ps then ps else ps ++ p ∷ []
 
--- the pairs of an optional `Rc`, and none of `None`
+-- the pairs of an optional `Rc`; `None` has no pairs
 abbrev pub shared : Option (Rc (List Pair) Global) → List Pair
 shared None = []
 shared (Some rc) = rc.value
 
--- what stands before the next entry
+-- the text before the next entry
 abbrev pub separator : List Place → List ℕ
 separator [] = []
 separator (p ∷ ps) = 44 ∷ []
 
--- the text begins with a key, = and a value, as long as the place says, and has a comma after them
--- if they aren't all of it
+-- the text begins with a key, = and a value with the lengths in the place, and has a comma after
+-- them if more text follows
 pub record IsCut (p : Place) (text : List ℕ) : Type 0 where
   pub within : p.key + 1 + p.value ≤ length text
   pub equals : slice_index text p.key ≡ 61

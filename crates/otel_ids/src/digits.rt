@@ -1,4 +1,4 @@
-//! Bytes as hexadecimal digits, and the writing of these.
+//! Conversion of bytes to hexadecimal digits, and functions that write the digits.
 ghost use Rattle.std.specs.Prelude.{◌≡◌, IfOk};
 ghost use Rattle.std.specs.List.{flat_map};
 ghost use Rattle.std.specs.Fmt.{WritesOnOk, WritesStyledOnOk};
@@ -7,8 +7,7 @@ ghost use Rattle.otel_ids.specs.Ids.{hex_styled};
 
 use std::fmt;
 
-/// Returns two lower-case hexadecimal digits for each byte. `room` has as many bytes as there are
-/// digits.
+/// Returns two lower-case hexadecimal digits for each byte. `room` has one byte for each digit.
 fn hex_text<'a>(bytes: &[u8], room: &'a mut [u8]) -> Result<&'a str, fmt::Error>
     ensures { IfOk result (λ text. text.now ≡ flat_map two_digits bytes.now) }
 {
@@ -33,8 +32,8 @@ fn without_leading_zeros(digits: &str) -> &str
     }
 }
 
-/// Writes two lower-case hexadecimal digits for each byte, in one write. `room` has as many bytes
-/// as there are digits.
+/// Writes two lower-case hexadecimal digits for each byte, in one write. `room` has one byte for
+/// each digit.
 pub(crate) fn write_hex<W: fmt::Write>(
     bytes: &[u8],
     room: &mut [u8],
@@ -46,8 +45,8 @@ pub(crate) fn write_hex<W: fmt::Write>(
     f.write_str(digits)
 }
 
-/// Writes the number of the bytes in lower-case hexadecimal digits, without leading zeros, with the
-/// formatter's options. `room` has two bytes for each of the bytes.
+/// Writes the number that the bytes encode in lower-case hexadecimal digits, without leading zeros,
+/// with the formatter's options. `room` has two bytes for each byte of the number.
 pub(crate) fn write_number<W: fmt::Write>(
     bytes: &[u8],
     room: &mut [u8],

@@ -1,4 +1,4 @@
-//! What is made of the pairs of a trace state: checked pairs, copies, texts and hashes.
+//! Functions on the pairs of a trace state: checking, copying, formatting and hashing.
 ghost use Rattle.std.specs.Prelude.{◌≡◌, ◌++◌, ◌-◌, ◌^◌, ◌≤◌, min, length, take, fold};
 ghost use Rattle.std.specs.Prelude.{IfOk, IfErr, OnOk, IsOk, [], None, string_bytes};
 ghost use Rattle.otel_ids.specs.Limits.{max_pairs};
@@ -16,8 +16,8 @@ use std::hash::{Hash, Hasher};
 /// The maximum number of pairs of a trace state.
 pub(crate) const MAX_PAIRS: usize = 32;
 
-/// Returns the first 32 of the pairs that a caller offers, each checked, without those whose key an
-/// earlier one has.
+/// Checks the first 32 of the caller's pairs. Returns them without the pairs whose key an earlier
+/// pair has.
 pub(crate) fn checked_pairs(
     alloc: Global,
     offered: &[(&str, &str)],
@@ -35,7 +35,7 @@ pub(crate) fn checked_pairs(
     Ok(made)
 }
 
-/// Appends the pairs that don't have the key, up to 32 in all.
+/// Appends the pairs that don't have the key, until `out` has 32 pairs.
 pub(crate) fn copy_without(
     out: &mut Pairs,
     others: TraceStateIter<'_>,
@@ -91,7 +91,7 @@ pub(crate) fn delimited(
     Ok(text)
 }
 
-/// Hashes the number of pairs, and their texts.
+/// Hashes the number of pairs, then the key and the value of each.
 pub(crate) fn hash_pairs<H: Hasher>(pairs: TraceStateIter<'_>, state: &mut H)
     ensures { state.new ≡ fold H.write state.old (pairs_writes pairs.entry) }
 {

@@ -1,5 +1,5 @@
-//! Ids, flags, trace states and span contexts: what the headers of a distributed trace carry (W3C
-//! trace-context-2).
+//! Ids, flags, trace states and span contexts: the data that the headers of a distributed trace
+//! carry (W3C trace-context-2).
 #![tactic(auto)]
 
 mod digits;

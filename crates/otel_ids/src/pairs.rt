@@ -49,7 +49,7 @@ impl Model for Pairs {
 }
 
 impl Pairs {
-    /// Returns no pairs. Takes no memory.
+    /// Returns an empty list of pairs. Doesn't allocate.
     pub(crate) fn new(alloc: Global) -> Pairs
         ensures { result ≡ [] }
     {
@@ -59,7 +59,7 @@ impl Pairs {
         }
     }
 
-    /// Reserves room for that many more bytes and pairs.
+    /// Reserves capacity for at least `bytes` more bytes and `pairs` more pairs.
     pub(crate) fn reserve(&mut self, bytes: usize, pairs: usize) -> Result<(), AllocError>
         ensures { self.new ≡ self.old }
     {
@@ -121,7 +121,7 @@ impl Pairs {
     }
 }
 
-/// Appends a pair's entry, after a comma if it isn't the first, and its lengths.
+/// Appends a pair's entry and its lengths. Writes a comma before the entry if it isn't the first.
 fn push_pair(
     text: &mut String,
     places: &mut Vec<Place>,
@@ -148,7 +148,7 @@ fn push_pair(
     Ok(())
 }
 
-/// Returns the key and the value of the pair that begins at `at`, and the index at which it ends.
+/// Returns the key and the value of the pair that begins at byte index `at`, and its end index.
 fn pair_at(text: &str, at: usize, place: Place) -> (&str, &str, usize)
     requires cut { IsCut place (drop at text.now) }
     requires text { IsUtf8 (drop at text.now) }
@@ -162,7 +162,8 @@ fn pair_at(text: &str, at: usize, place: Place) -> (&str, &str, usize)
     (&text[at..equals], &text[equals + 1..end], end)
 }
 
-/// Returns the value of the first pair with the key. A key of another length is skipped at once.
+/// Returns the value of the first pair with the key. Keys of another length are skipped without a
+/// comparison.
 fn value_of<'a>(text: &'a str, places: &[Place], key: &str) -> Option<&'a str>
     requires { IsLeft places.now text.now }
     ensures { option_copied result ≡ get (cut places.now text.now) key.now }
@@ -181,9 +182,9 @@ fn value_of<'a>(text: &'a str, places: &[Place], key: &str) -> Option<&'a str>
     None
 }
 
-/// An iterator over the pairs of a trace state, in order. It knows how many are left.
+/// An iterator over the pairs of a trace state, in order. Its exact length is known.
 ///
-/// Contracts see the list of the pairs that are left.
+/// Contracts see the list of the remaining pairs.
 ///
 /// ```
 /// for (key, value) in &state {
@@ -254,7 +255,7 @@ impl<'a> ExactSizeIterator for TraceStateIter<'a> {
 
 impl<'a> FusedIterator for TraceStateIter<'a> {}
 
-/// The header of the pairs that are left, as in `TraceStateIter("a=1,b=2")`.
+/// Formats the header of the remaining pairs, as in `TraceStateIter("a=1,b=2")`.
 impl<'a> fmt::Debug for TraceStateIter<'a> {
     fn fmt<W: fmt::Write>(&self, f: &mut fmt::Formatter<W>) -> fmt::Result {
         let left = self.text.get(self.at..).unwrap_or("");

@@ -14,8 +14,8 @@ use std::num::ParseIntError;
 
 /// The id of a span, 8 bytes. It is valid if it isn't 0.
 ///
-/// Contracts see the number below 2 ^ 64. It is printed as 16 lower-case hexadecimal digits, by
-/// `{:x}` as a number. See W3C trace-context-2, "parent-id".
+/// Contracts see the number below 2 ^ 64. `{}` prints the id as 16 lower-case hexadecimal digits,
+/// `{:x}` as a number without leading zeros. See W3C trace-context-2, "parent-id".
 ///
 /// See `otel_examples::api::log_bridge`.
 #[derive(Clone, Copy, Eq, Hash)]
@@ -35,7 +35,7 @@ impl SpanId {
     /// The id 0, which isn't valid.
     pub const INVALID: SpanId = SpanId(0);
 
-    /// Returns the id of the bytes, most significant first.
+    /// Creates an id from its bytes, most significant first.
     pub fn from_bytes(bytes: [u8; 8]) -> SpanId
         ensures { result ≡ from_be_bytes w64 bytes }
     {
@@ -56,14 +56,14 @@ impl SpanId {
     ///
     /// `Empty` if the text is empty; `InvalidDigit` if a character isn't a digit, or if no digit
     /// follows the `+`; `PosOverflow` if the number is 2 ^ 64 or more. If the digits before the
-    /// first wrong character are already too many, the error is `PosOverflow` too. Both kinds fit
-    /// there, and the contract allows either; tests show `PosOverflow`.
+    /// first invalid character are already too many, the contract allows either
+    /// `InvalidDigit` or `PosOverflow`; tests show `PosOverflow`.
     pub fn from_hex(hex: &str) -> Result<SpanId, ParseIntError>
         ensures read { IfOk result (λ id. ReadsId 64 hex.now id) }
         ensures returned { (id : ℕ) → ReadsId 64 hex.now id → result ≡ Ok id }
         ensures error { ExplainsUnsignedError 16 hex.now result }
     {
-        // Most texts are the 16 digits of the 8 bytes, which are read faster this way.
+        // Most texts are exactly 16 digits. This reads them faster.
         if let Ok(bytes) = <[u8; 8]>::from_hex(hex) {
             return Ok(SpanId::from_bytes(bytes));
         }
@@ -94,7 +94,7 @@ impl From<u64> for SpanId {
     }
 }
 
-/// The 16 digits, as `Display` prints them.
+/// Formats the id as 16 digits, like `Display`.
 impl fmt::Debug for SpanId {
     ghost debug_output = { λ id. Some (id_text 16 id) };
 
@@ -115,7 +115,7 @@ impl fmt::LowerHex for SpanId {
     /// Writes the number in lower-case hexadecimal digits, without leading zeros.
     fn fmt<W: fmt::Write>(&self, f: &mut fmt::Formatter<W>) -> fmt::Result
         ensures writes { WritesOnOk W.write_str_gives f.old result (hex_digits self.now) f.new }
-        // What is written with a width, a fill, `0` or `#`.
+        // The text that is written with a width, a fill, `0` or `#`.
         ensures styled { WritesStyledOnOk W.write_str_gives f.old result
             (hex_styled f.old (hex_digits self.now)) f.new }
     {

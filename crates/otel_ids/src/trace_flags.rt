@@ -12,7 +12,7 @@ use std::fmt;
 use std::marker::Model;
 use std::ops::{BitAnd, BitOr, Not};
 
-/// The flags of a trace, a byte. Bit 0 is the flag `sampled`; the others are kept as they are.
+/// The flags of a trace, one byte. Bit 0 is the flag `sampled`. The other bits are preserved.
 ///
 /// Contracts see the byte as a number. `{:x}` prints it. See W3C trace-context-2, "trace-flags".
 ///
@@ -37,7 +37,7 @@ impl TraceFlags {
     /// The flag `sampled` only (W3C trace-context-2, "Sampled flag").
     pub const SAMPLED: TraceFlags = TraceFlags(0x01);
 
-    /// Returns the flags of the byte.
+    /// Creates flags from a byte.
     pub fn new(flags: u8) -> TraceFlags
         ensures { result ≡ flags }
     {
@@ -90,7 +90,7 @@ impl PartialEq for TraceFlags {
 impl Default for TraceFlags {
     ghost is_default = { λ flags. flags ≡ 0 };
 
-    /// Returns the flags with none set.
+    /// Returns flags with no bit set.
     fn default() -> TraceFlags
         ensures { result ≡ 0 }
     {
@@ -132,7 +132,7 @@ impl fmt::LowerHex for TraceFlags {
     /// Writes the number in lower-case hexadecimal digits, without leading zeros.
     fn fmt<W: fmt::Write>(&self, f: &mut fmt::Formatter<W>) -> fmt::Result
         ensures writes { WritesOnOk W.write_str_gives f.old result (hex_digits self.now) f.new }
-        // What is written with a width, a fill, `0` or `#`.
+        // The text that is written with a width, a fill, `0` or `#`.
         ensures styled { WritesStyledOnOk W.write_str_gives f.old result
             (hex_styled f.old (hex_digits self.now)) f.new }
     {

@@ -13,13 +13,13 @@ use std::fmt;
 use std::marker::Model;
 use std::num::ParseIntError;
 
-/// 2 ^ 64, which divides the number of a trace id into halves.
+/// 2 ^ 64, the divisor that splits the number of a trace id into halves.
 const HALF: u128 = 1 << 64;
 
 /// The id of a trace, 16 bytes. It is valid if it isn't 0.
 ///
-/// Contracts see the number below 2 ^ 128. It is printed as 32 lower-case hexadecimal digits, by
-/// `{:x}` as a number. See W3C trace-context-2, "trace-id".
+/// Contracts see the number below 2 ^ 128. `{}` prints the id as 32 lower-case hexadecimal digits,
+/// `{:x}` as a number without leading zeros. See W3C trace-context-2, "trace-id".
 ///
 /// ```
 /// let trace_id = TraceId::from_hex("0af7651916cd43dd8448eb211c80319c")?;
@@ -41,7 +41,7 @@ impl TraceId {
     /// The id 0, which isn't valid.
     pub const INVALID: TraceId = TraceId(0);
 
-    /// Returns the id of the bytes, most significant first.
+    /// Creates an id from its bytes, most significant first.
     pub fn from_bytes(bytes: [u8; 16]) -> TraceId
         ensures { result ≡ from_be_bytes w128 bytes }
     {
@@ -62,14 +62,14 @@ impl TraceId {
     ///
     /// `Empty` if the text is empty; `InvalidDigit` if a character isn't a digit, or if no digit
     /// follows the `+`; `PosOverflow` if the number is 2 ^ 128 or more. If the digits before the
-    /// first wrong character are already too many, the error is `PosOverflow` too. Both kinds fit
-    /// there, and the contract allows either; tests show `PosOverflow`.
+    /// first invalid character are already too many, the contract allows either
+    /// `InvalidDigit` or `PosOverflow`; tests show `PosOverflow`.
     pub fn from_hex(hex: &str) -> Result<TraceId, ParseIntError>
         ensures read { IfOk result (λ id. ReadsId 128 hex.now id) }
         ensures returned { (id : ℕ) → ReadsId 128 hex.now id → result ≡ Ok id }
         ensures error { ExplainsUnsignedError 16 hex.now result }
     {
-        // Most texts are the 32 digits of the 16 bytes, which are read faster this way.
+        // Most texts are exactly 32 digits. This reads them faster.
         if let Ok(bytes) = <[u8; 16]>::from_hex(hex) {
             return Ok(TraceId::from_bytes(bytes));
         }
@@ -100,7 +100,7 @@ impl From<u128> for TraceId {
     }
 }
 
-/// The 32 digits, as `Display` prints them.
+/// Formats the id as 32 digits, like `Display`.
 impl fmt::Debug for TraceId {
     ghost debug_output = { λ id. Some (id_text 32 id) };
 
@@ -121,7 +121,7 @@ impl fmt::LowerHex for TraceId {
     /// Writes the number in lower-case hexadecimal digits, without leading zeros.
     fn fmt<W: fmt::Write>(&self, f: &mut fmt::Formatter<W>) -> fmt::Result
         ensures writes { WritesOnOk W.write_str_gives f.old result (number_text self.now) f.new }
-        // What is written with a width, a fill, `0` or `#`.
+        // The text that is written with a width, a fill, `0` or `#`.
         ensures styled { WritesStyledOnOk W.write_str_gives f.old result
             (hex_styled f.old (number_text self.now)) f.new }
     {
@@ -132,7 +132,7 @@ impl fmt::LowerHex for TraceId {
 impl fmt::HasDigits for TraceId {
     ghost word = { word_of };
 
-    /// Returns the high and the low half of the number.
+    /// Returns the high and the low 64 bits of the number.
     fn bits(self) -> (u64, u64)
         ensures word { IfSome (word_of self) (λ n. (result.0 ≡ 0) × (result.1 ≡ n)) }
         ensures high { result.0 ≡ self / 2 ^ 64 }
