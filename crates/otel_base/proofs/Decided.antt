@@ -2,6 +2,6 @@
 use Rattle.std.proofs.Common.{◌≡◌, Bool, subst}
 use Rattle.std.specs.Bool.{Decides}
 
--- it decides what the test decides
+-- a boolean that equals the test decides the same proposition
 pub decided : (P : Type 0) (test r : Bool) → test ≡ r → Decides test P → Decides r P
 decided P test r e d = let D : Bool → Type 0 = λ b. Decides b P in subst D e d

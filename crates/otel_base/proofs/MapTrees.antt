@@ -1,4 +1,4 @@
--- What stands at each key determines a map's tree.
+-- The trees at the keys determine a map's tree.
 use Rattle.std.proofs.Common.{◌≡◌, ℕ, List, [], ◌∷◌, ◌&&◌, cond, T, Option, Some}
 use Rattle.std.proofs.Common.{nat_cmp, refl, sym, ap, ◌∙◌, subst}
 use Rattle.std.specs.Cmp.Lexicographic.{slice_cmp}

@@ -54,7 +54,7 @@ any-map : (g : ℕ → Option Attribute) (is : List ℕ)
 any-map g [] = refl
 any-map g (i ∷ is) = ap (λ b. is_none (g i) || b) (any-map g is)
 
--- ---- rising
+-- ---- sorted keys
 abbrev NoneAbove : List Attribute → ℕ → List ℕ → Type 0
 NoneAbove ps i is = AllByRecursion (λ j. before ps j i ≡ false) is
 

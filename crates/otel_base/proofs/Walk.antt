@@ -1,4 +1,4 @@
--- A walk by positions that are in key order.
+-- Iteration over positions that are in key order.
 use Rattle.std.proofs.Common.{◌≡◌, ℕ, ◌+◌, ◌<◌, ◌≤◌, List, [], ◌∷◌, ◌++◌, map, length, get_or, take}
 use Rattle.std.proofs.Common.{drop, fold, Bool, true, false, not, ◌&&◌, Option, Some, None}
 use Rattle.std.proofs.Common.{option_map, refl, ap, sym, ◌∙◌, true≢false, subst, arith, append-nil}
@@ -70,7 +70,7 @@ in_order_at xs is h i below a e =
     same_Some (attribute_of a) (get_or cs i (attribute_of a)) (ap (λ x. Some (attribute_of x)) e
     ∙ ap (option_map attribute_of) (sym there) ∙ sym (slice_get-map attribute_of xs k) ∙ got)
 
--- ---- what is hashed
+-- ---- the data that is hashed
 pub hashed_more : {S : Type 0} (write : S → List ℕ
     → S) (first s t : S) (cs : List Attribute) (i : ℕ) (c : Attribute) → i < length cs
     → c ≡ get_or cs i c
@@ -146,7 +146,7 @@ pub walk_done : (xs ys : List Attribute) (is js : List ℕ) (i : ℕ) → length
     (map (slice_get ys) (drop i js)) ≡ true
 walk_done xs ys is js i h k = rw (drop_all i is h, drop_all i js k) refl
 
--- if the texts agree, the walk says all
+-- if the texts agree, comparing the attributes decides equality
 pub scopes_from_walk : (a b : Scope) (r : Bool) (xs ys : List KeyValue) (left right : List ℕ)
     → IsKeyOrder (map attribute_of xs) left → IsKeyOrder (map attribute_of ys) right
     → map attribute_of xs ≡ a.attributes → map attribute_of ys ≡ b.attributes → texts_eq a b ≡ true

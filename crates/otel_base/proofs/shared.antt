@@ -1,4 +1,4 @@
--- Lemmas that crates above use too.
+-- Lemmas that dependent crates use too.
 pub mod BlankCuts
 pub mod Bytes
 pub mod Joined

@@ -10,7 +10,7 @@ use Rattle.std.proofs.Math.Bool.{beq}
 use Rattle.std.specs.Cmp.Lexicographic.{slice_cmp, pointwise}
 
 mutual
-  -- a value tree: `list` and `text` of nothing are different trees
+  -- a value tree: an empty `list` and an empty `text` are different trees
   pub data Tree : Type 0 where
     integer : ℤ → Tree
     text : List ℕ → Tree
@@ -24,7 +24,7 @@ mutual
     no_trees : Trees
     more_trees : Tree → Trees → Trees
 
-  -- trees under keys; those of a map stand in the order of the keys
+  -- trees under keys; the entries of a map are in the order of the keys
   pub data Entries : Type 0 where
     no_entries : Entries
     more_entries : List ℕ → Tree → Entries → Entries
@@ -40,7 +40,7 @@ abbrev pub keys_of_entries : Entries → List (List ℕ)
 keys_of_entries no_entries = []
 keys_of_entries (more_entries k e es) = k ∷ keys_of_entries es
 
--- the tree of the last pair of a key, if there is one: of a=1, b=2, a=3 it is 3 at a
+-- the tree of the last pair with a key, if there is one: for a=1, b=2, a=3 it is 3 at a
 abbrev pub last_at : List ℕ → List (List ℕ × Tree) → Option Tree
 last_at k [] = None
 last_at k (p ∷ ps) = option_or (last_at k ps) (if bytes_eq p.0 k then Some p.1 else None)

@@ -44,6 +44,6 @@ mutual
       (λ h. let p = d.0 h in λ i. more_entries (p.0.0 i) (p.0.1 i) (p.1 i), λ e. d.1 ((cc, cc), cc))
   entries_eq-Decides _ _ = (λ h. absurd (true≢false (sym h)), λ e. cc)
 
--- equality of trees is an equivalence: the law of `PartialEq`
+-- equality of trees is an equivalence relation: the law of `PartialEq`
 pub eq-equiv : IsEquivalence eq
 eq-equiv = equiv_from_decides eq eq-Decides

@@ -4,8 +4,8 @@ use Rattle.std.specs.Prelude.{String, string_bytes, string_len, string_capacity}
 use Rattle.std.specs.declared.alloc.AllocError.{AllocError}
 use Rattle.std.specs.declared.alloc.Global.{Global}
 
--- s became t: `Ok` appended the text, and an error came only if the room of s was too small for
--- it: `[1]` is appended wherever three bytes are spare
+-- s became t: `Ok` appended the text, and an error was returned only if the spare capacity of s was
+-- too small for it: `[1]` is always appended if three bytes are spare
 pub record Appends (r : Result (Unit {0}) AllocError) (s : String Global) (text : List ℕ)
     (t : String Global) : Type 0 where
   pub ok : OnOk r (string_bytes t ≡ string_bytes s ++ text)

@@ -1,4 +1,4 @@
--- What an array of an attribute means, how it is printed, and what is hashed of it.
+-- Arrays of attributes: their meaning, their printed text and the data fed to a hasher.
 use Rattle.std.specs.Prelude.{ℕ, zero, suc, ℤ, List, [], ◌∷◌, ◌++◌, map, Bool, false, nat_eq, codes}
 use Rattle.std.specs.Prelude.{if◌then◌else◌}
 use Rattle.std.specs.Fmt.{signed_decimal}
@@ -9,7 +9,7 @@ use Rattle.std.specs.Hash as fed
 use Rattle.std.specs.Hash.{HashWrites}
 use Rattle.std.proofs.Math.Bool.{beq}
 
--- the items, with their type (the Rust crate's `Array`): no `booleans []` is a `texts []`
+-- the items, with their type (the Rust crate's `Array`): `booleans []` isn't `texts []`
 pub data ArrayValue : Type 0 where
   booleans : List Bool → ArrayValue
   integers : List ℤ → ArrayValue
@@ -30,7 +30,7 @@ item_texts (booleans xs) = map boolean_text xs
 item_texts (integers xs) = map signed_decimal xs
 item_texts (texts xs) = map quoted xs
 
--- what stands before the item at a position from 0: nothing, then `,`
+-- the text before the item at a position from 0: empty at 0, then `,`
 abbrev pub separator : ℕ → List ℕ
 separator zero = []
 separator (suc i) = 44 ∷ []
@@ -51,7 +51,7 @@ eq (integers xs) (integers ys) = pointwise int_eq xs ys
 eq (texts xs) (texts ys) = pointwise (pointwise nat_eq) xs ys
 eq _ _ = false
 
--- what is fed to a hasher: the items as a slice, without their type (the Rust crate's `Hash` of
+-- the data fed to a hasher: the items as a slice, without their type (the Rust crate's `Hash` of
 -- `KeyValue`)
 abbrev pub hash : ArrayValue → HashWrites
 hash (booleans xs) = fed.slice fed.bool xs

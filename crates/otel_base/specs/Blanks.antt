@@ -1,4 +1,4 @@
--- Blanks, and a text without those at its ends.
+-- Blanks, and the text without the blanks at its ends.
 use Rattle.std.specs.Prelude.{◌≡◌, ℕ, Bool, true, false, ◌&&◌, ◌||◌, ◌==◌, List, [], ◌∷◌}
 use Rattle.std.specs.Prelude.{if◌then◌else◌}
 use Rattle.std.specs.List.{list_all}
@@ -17,16 +17,16 @@ ends_in_blank [] = false
 ends_in_blank (b ∷ []) = is_blank b
 ends_in_blank (b ∷ c ∷ bs) = ends_in_blank (c ∷ bs)
 
--- without the blanks at its front
+-- the text without the blanks at its front
 abbrev pub cut_front : List ℕ → List ℕ
 cut_front [] = []
 cut_front (b ∷ bs) = if is_blank b then cut_front bs else b ∷ bs
 
--- without the blanks at its end
+-- the text without the blanks at its end
 abbrev pub cut_end : List ℕ → List ℕ
 cut_end [] = []
 cut_end (b ∷ bs) = if is_blank b && list_all is_blank bs then [] else b ∷ cut_end bs
 
--- without the blanks at both ends, as a=1 of a text with a space before and a tab after
+-- the text without the blanks at both ends: a=1 for a=1 with a space before and a tab after it
 abbrev pub cut_blanks : List ℕ → List ℕ
 cut_blanks bs = cut_end (cut_front bs)

@@ -1,4 +1,4 @@
--- What an instrumentation scope is, and when two are the same.
+-- Instrumentation scopes, and when two scopes are the same.
 use Rattle.std.specs.Prelude.{◌≡◌, ℕ, List, [], ◌++◌, Bool, ◌&&◌, Option, Some, None}
 use Rattle.std.specs.List.{list_all, flat_map}
 use Rattle.std.specs.Str.{bytes_eq}
@@ -11,7 +11,7 @@ use Rattle.otel_base.specs.KeyValue as KeyValue
 use Rattle.otel_base.specs.KeyValue.{Attribute, values_under}
 use Rattle.otel_base.specs.KeyOrder.{in_key_order}
 
--- the parts, the attributes in given order (the Rust crate's `InstrumentationScope`)
+-- the parts, with the attributes in the given order (the Rust crate's `InstrumentationScope`)
 pub record Scope : Type 0 where
   pub name : List ℕ
   pub version : Option (List ℕ)
@@ -23,22 +23,22 @@ pub record Scope : Type 0 where
 abbrev pub builder : List ℕ → Scope
 builder name = record { name = name; version = None; schema_url = None; attributes = [] }
 
--- the scope with this version in place of the one before (the Rust crate's `with_version`)
+-- the scope with this version instead of the earlier one (the Rust crate's `with_version`)
 abbrev pub with_version : List ℕ → Scope → Scope
 with_version version s = record s { version = Some version }
 
--- the scope with this schema URL in place of the one before (the Rust crate's `with_schema_url`)
+-- the scope with this schema URL instead of the earlier one (the Rust crate's `with_schema_url`)
 abbrev pub with_schema_url : List ℕ → Scope → Scope
 with_schema_url url s = record s { schema_url = Some url }
 
--- the scope with these attributes in place of those before (the Rust crate's `with_attributes`)
+-- the scope with these attributes instead of the earlier ones (the Rust crate's `with_attributes`)
 abbrev pub with_attributes : List Attribute → Scope → Scope
 with_attributes ps s = record s { attributes = ps }
 
 -- ---- equality and hash
 -- the same texts and, for every key, the same list of values under it (the Rust crate's `PartialEq`
--- of `InstrumentationScope`, ties in given order): k=1, j=0, k=2 is as j=0, k=1, k=2 and not as
--- j=0, k=2, k=1
+-- of `InstrumentationScope`, with ties in the given order): k=1, j=0, k=2 is the same as
+-- j=0, k=1, k=2, but not as j=0, k=2, k=1
 pub record IsSameScope (a b : Scope) : Type 0 where
   pub name : a.name ≡ b.name
   pub version : a.version ≡ b.version
@@ -65,7 +65,7 @@ texts_eq a b =
 abbrev pub eq : Scope → Scope → Bool
 eq a b = texts_eq a b && attributes_eq a.attributes b.attributes
 
--- what is fed to a hasher: the texts, then the attributes in key order (the Rust crate's `Hash` of
+-- the data fed to a hasher: the texts, then the attributes in key order (the Rust crate's `Hash` of
 -- `InstrumentationScope`)
 abbrev pub hash : Scope → HashWrites
 hash s =

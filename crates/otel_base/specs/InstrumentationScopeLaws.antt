@@ -24,7 +24,7 @@ abbrev SameValues : List Attribute → List Attribute → Type 0
 SameValues xs ys = (k : List ℕ) → values_under k xs ≡ values_under k ys
 
 -- ---- attributes
--- what holds of each pair's key holds of k, or no pair has it
+-- a property of each pair's key holds for k, or no pair has the key k
 at_key_step : (t : List ℕ → Bool) (k : List ℕ) (p : Attribute) (rest : List Attribute) (b : Bool)
     → has_key k p ≡ b → t p.0 ≡ true → (t k ≡ true) ⊎ (rest ≡ [])
     → (t k ≡ true) ⊎ (cond b (p ∷ rest) rest ≡ [])
@@ -39,7 +39,7 @@ at_key t k (p ∷ ps) h =
     (first_so (t p.0) (list_all (λ q. t q.0) ps) h)
     (at_key t k ps (second_so (t p.0) (list_all (λ q. t q.0) ps) h))
 
--- what holds of every key holds of those of ps
+-- a property of every key holds for the keys of ps
 all_agree : (t : List ℕ → Bool) → ((k : List ℕ) → t k ≡ true) → (ps : List Attribute)
     → list_all (λ p. t p.0) ps ≡ true
 all_agree t h [] = refl
@@ -72,7 +72,7 @@ attributes_eq-Decides xs ys =
           λ i. all_agree t each xs i && all_agree t each ys i,
     )
 
--- the key orders are equal exactly if the values under each key are
+-- the key orders are equal if and only if the values under each key are equal
 orders_Decides : (xs ys : List Attribute)
     → Decides (pointwise KeyValue.eq (in_key_order xs) (in_key_order ys)) (SameValues xs ys)
 orders_Decides xs ys =
@@ -87,7 +87,7 @@ some_eq [] (y ∷ ys) = refl
 some_eq (x ∷ xs) [] = refl
 some_eq (x ∷ xs) (y ∷ ys) = ap (λ b. KeyValue.eq x y && b) (some_eq xs ys)
 
--- a walk of both in key order decides the same
+-- comparing both in key order decides the same
 pub walked_eq : (xs ys : List Attribute) (left right : List ℕ) → IsKeyOrder xs left
     → IsKeyOrder ys right
     → pointwise (option_eq KeyValue.eq) (map (slice_get xs) left) (map (slice_get ys) right)
@@ -140,7 +140,7 @@ IsSameScope-trans a b c s t =
       values = λ k. s.values k ∙ t.values k;
     }
 
--- being the same scope is an equivalence: the law of `Eq`
+-- being the same scope is an equivalence relation: the law of `Eq`
 pub eq-IsEquivalence : IsEquivalence eq
 eq-IsEquivalence = record {
   refl = λ a. (eq-Decides a a).1
@@ -157,7 +157,7 @@ eq-IsEquivalence = record {
       );
 }
 
--- the same scope is hashed alike: the law of `Hash`
+-- scopes that are the same are hashed alike: the law of `Hash`
 pub hash-respects : (a b : Scope) → eq a b ≡ true → hash a ≡ hash b
 hash-respects a b h =
     let s = (eq-Decides a b).0 h in

@@ -35,12 +35,12 @@ is_gt-reverse Less h = absurd (true≢false (sym h))
 is_gt-reverse Equal h = absurd (true≢false (sym h))
 is_gt-reverse Greater h = refl
 
--- of two keys one at most is the greater
+-- of two keys, at most one is greater than the other
 gt_back : (j k : List ℕ) → is_gt (cmp j k) ≡ true → is_gt (cmp k j) ≡ false
 gt_back j k h = ap is_gt (nat_list_cmp_total.antisymm k j) ∙ rw (is_gt-reverse (cmp j k) h) refl
 
 -- ---- inserting
--- two attributes that don't both pass may change places
+-- two attributes that don't both pass can be swapped
 filter_swap : (a b : Bool) (p q : Attribute) (xs : List Attribute) → (a ≡ true → b ≡ true → ⊥)
     → cond b (q ∷ cond a (p ∷ xs) xs) (cond a (p ∷ xs) xs)
     ≡ cond a (p ∷ cond b (q ∷ xs) xs) (cond b (q ∷ xs) xs)
@@ -67,7 +67,7 @@ filter-insert_in_order k p [] = refl
 filter-insert_in_order k p (q ∷ qs) =
     filter_insert_at k p q qs (is_gt (cmp p.0 q.0)) refl (filter-insert_in_order k p qs)
 
--- the attributes of one key stay in given order
+-- the attributes with the same key keep the given order
 pub filter-in_key_order : (k : List ℕ) (ps : List Attribute)
     → filter (has_key k) (in_key_order ps) ≡ filter (has_key k) ps
 filter-in_key_order k [] = refl
@@ -75,7 +75,7 @@ filter-in_key_order k (p ∷ ps) =
     filter-insert_in_order k p (in_key_order ps)
     ∙ ap (λ xs. cond (has_key k p) (p ∷ xs) xs) (filter-in_key_order k ps)
 
--- no key of the list is less than that of p
+-- no key of the list is less than the key of p
 abbrev NoneBelow : Attribute → List Attribute → Type 0
 NoneBelow p ps = AllByRecursion (λ q. is_gt (cmp p.0 q.0) ≡ false) ps
 
@@ -109,12 +109,12 @@ rising_insert p [] up = (tt, tt)
 rising_insert p (q ∷ qs) up =
     rising_insert_at p q qs (is_gt (cmp p.0 q.0)) refl up (rising_insert p qs up.1)
 
--- the keys rise
+-- the keys are sorted
 pub rising-in_key_order : (ps : List Attribute) → IsRising (in_key_order ps)
 rising-in_key_order [] = tt
 rising-in_key_order (p ∷ ps) = rising_insert p (in_key_order ps) (rising-in_key_order ps)
 
--- ---- one order by itself
+-- ---- uniqueness of the order
 kept_own : (p : Attribute) (ps : List Attribute)
     → filter (has_key p.0) (p ∷ ps) ≡ p ∷ filter (has_key p.0) ps
 kept_own p ps = rw (has_own_key p) refl
@@ -142,7 +142,7 @@ equal_keys Greater h k = absurd (true≢false h)
 nil_not_cons : (p : Attribute) (ps : List Attribute) → [] ≡ p ∷ ps → ⊥
 nil_not_cons p ps h = cc
 
--- the heads are one, if neither key is the greater
+-- the heads are equal if neither key is greater
 one_head : (x y : Attribute) (xs ys : List Attribute) → is_gt (cmp x.0 y.0) ≡ false
     → is_gt (cmp y.0 x.0) ≡ false → filter (has_key x.0) (x ∷ xs) ≡ filter (has_key x.0) (y ∷ ys)
     → x ≡ y
@@ -180,7 +180,7 @@ unique_at x y xs ys up also same next false false g_is h_is =
     ∙ ap (λ p. filter (has_key k) (p ∷ ys)) (sym head))) in
     λ i. head i ∷ tails i
 
--- two lists with rising keys that agree under each key are one list
+-- two lists with sorted keys that agree under each key are equal
 pub unique_order : (xs ys : List Attribute) → IsRising xs → IsRising ys
     → ((k : List ℕ) → filter (has_key k) xs ≡ filter (has_key k) ys) → xs ≡ ys
 unique_order [] [] up also same = refl
@@ -192,7 +192,7 @@ unique_order (x ∷ xs) (y ∷ ys) up also same =
     unique_at x y xs ys up also same (unique_order xs ys up.1 also.1) (is_gt (cmp x.0 y.0))
     (is_gt (cmp y.0 x.0)) refl refl
 
--- a list that rises, and has the pairs of ps under each key in the order of ps
+-- a sorted list that has the pairs of ps under each key in the order of ps
 pub is_in_key_order : (xs ps : List Attribute) → IsRising xs
     → ((k : List ℕ) → filter (has_key k) xs ≡ filter (has_key k) ps) → xs ≡ in_key_order ps
 is_in_key_order xs ps up same =
@@ -216,7 +216,7 @@ pairs_from_values k [] = refl
 pairs_from_values k (p ∷ ps) =
     pairs_at k p (filter (has_key k) ps) (has_key k p) refl (pairs_from_values k ps)
 
--- lists with the same values under each key have one key order
+-- lists with the same values under each key have the same key order
 pub one_order_from_values : (xs ys : List Attribute)
     → ((k : List ℕ) → values_under k xs ≡ values_under k ys) → in_key_order xs ≡ in_key_order ys
 one_order_from_values xs ys h =
@@ -226,7 +226,7 @@ one_order_from_values xs ys h =
     ∙ (pairs_from_values k xs ∙ ap (map (with_key k)) (h k) ∙ sym (pairs_from_values k ys))
     ∙ sym (filter-in_key_order k ys))
 
--- and lists with one key order have the same values under each key
+-- lists with the same key order have the same values under each key
 pub values_from_one_order : (xs ys : List Attribute) → in_key_order xs ≡ in_key_order ys
     → (k : List ℕ) → values_under k xs ≡ values_under k ys
 values_from_one_order xs ys e k =

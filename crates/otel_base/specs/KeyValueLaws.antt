@@ -1,4 +1,4 @@
--- The equalities of arrays, values and attributes decide whether what they mean is the same.
+-- The equalities of arrays, values and attributes decide whether their meanings are the same.
 use Rattle.std.specs.Prelude.{◌≡◌, ℕ, List, Bool, nat_eq}
 use Rattle.std.specs.Bool.{Decides}
 use Rattle.std.specs.Cmp.{IsEquivalence, booleans_Decides, signed_Decides}
@@ -46,7 +46,7 @@ attribute_eq-Decides p q =
     (value_eq-Decides p.1 q.1) in
     (λ h. let e = d.0 h in λ i. (e.0 i, e.1 i), λ e. d.1 (ap (λ r. r.0) e, ap (λ r. r.1) e))
 
--- a test that decides `≡` is an equivalence
+-- a test that decides `≡` is an equivalence relation
 pub equiv_from_decides : {K : Type 0} (eq : K → K → Bool) → ((a b : K) → Decides (eq a b) (a ≡ b))
     → IsEquivalence eq
 equiv_from_decides eq d = record {

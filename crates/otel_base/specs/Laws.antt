@@ -1,4 +1,4 @@
--- What holds of each value tree that is a map.
+-- Laws of every value tree that is a map.
 use Rattle.std.specs.Prelude.{◌≡◌, ℕ, List}
 use Rattle.otel_base.specs.AnyValue.{Tree, IsMapOf, last_at}
 

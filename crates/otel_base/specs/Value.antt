@@ -1,4 +1,4 @@
--- What the value of an attribute means, how it is printed, and what is hashed of it.
+-- Values of attributes: their meaning, their printed text and the data fed to a hasher.
 use Rattle.std.specs.Prelude.{ℕ, ℤ, List, Bool, true, false, nat_eq}
 use Rattle.std.specs.Fmt.{signed_decimal}
 use Rattle.std.specs.Ordering.{int_eq}
@@ -36,7 +36,7 @@ eq (text x) (text y) = pointwise nat_eq x y
 eq (array x) (array y) = Array.eq x y
 eq _ _ = false
 
--- what is fed to a hasher: the content, without its type (the Rust crate's `Hash` of `KeyValue`)
+-- the data fed to a hasher: the content, without its type (the Rust crate's `Hash` of `KeyValue`)
 abbrev pub hash : AttributeValue → HashWrites
 hash (boolean b) = fed.bool b
 hash (integer z) = fed.i64 z

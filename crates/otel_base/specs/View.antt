@@ -1,4 +1,4 @@
--- What contracts see of an `Array`, a `Value`, a `KeyValue` and an `AnyValue`.
+-- The values that contracts see for an `Array`, a `Value`, a `KeyValue` and an `AnyValue`.
 use Rattle.std.specs.Prelude.{◌≡◌, ℕ, List, [], ◌∷◌, map, Option, Some, None}
 use Rattle.std.specs.Coded.{Coded, coded_ℕ, coded_ℤ, coded_bool, coded_list}
 use base.Stored.{Gv, gnil, gnum, gcons}
@@ -37,7 +37,7 @@ value_of (V.Array a) = value.array (array_of a)
 abbrev pub attribute_of : KeyValue → Attribute
 attribute_of a = (a.key, value_of a.value)
 
--- the attributes that a builder was given, none before the first call (the Rust crate's
+-- the attributes given to a builder, none before the first call (the Rust crate's
 -- `InstrumentationScopeBuilder`)
 abbrev pub given_attributes : Option (Vec KeyValue Global) → List Attribute
 given_attributes None = []
@@ -54,7 +54,7 @@ abbrev pub entries_of : List (List ℕ × Tree) → Entries
 entries_of [] = no_entries
 entries_of (e ∷ es) = more_entries e.0 e.1 (entries_of es)
 
--- one level, with each value inside already seen as its tree
+-- one level, in which each inner value is already its tree
 abbrev pub tree_step : AnyValue-F Tree → Tree
 tree_step (AnyValue-F.Int z) = any.integer z
 tree_step (AnyValue-F.String s) = any.text s
@@ -80,7 +80,7 @@ entries_view es = entries_of (map (λ e. (e.0, tree e.1)) es)
 abbrev pub pairs_view : List (List ℕ × AnyValue) → List (List ℕ × Tree)
 pairs_view = map (λ e. (e.0, tree e.1))
 
--- ---- a code of trees, by which the value of a model may hold them
+-- ---- a code of trees, with which the value of a model can contain them
 abbrev mutual
   -- the case as a number, then the content
   pub code_tree : Tree → Gv
@@ -103,7 +103,7 @@ abbrev mutual
       gcons ((coded_list coded_ℕ).code k) (gcons (code_tree t) (code_entries es))
 
 mutual
-  -- trees of one code are one tree
+  -- trees with the same code are equal
   pub tree_inj : (x y : Tree) → code_tree x ≡ code_tree y → x ≡ y
   tree_inj (any.integer x) (any.integer y) p = λ i. any.integer (coded_ℤ.inj x y (cc) i)
   tree_inj (any.text x) (any.text y) p = λ i. any.text ((coded_list coded_ℕ).inj x y (cc) i)

@@ -1,4 +1,4 @@
-//! Value trees, the bodies and attributes of log records and the entries of contexts.
+//! Value trees: the bodies and attributes of log records, and the entries of contexts.
 ghost use Rattle.std.specs.Prelude.{◌≡◌, ◌↔◌, IfOk, IsTrue, string_bytes, pos};
 ghost use Rattle.std.specs.Cmp.{on_per, partial_equiv_from_equiv};
 ghost use Rattle.otel_base.specs.AnyValue as spec;
@@ -18,8 +18,8 @@ use std::default::Emptied;
 /// Trees are equal if they have the same shape and content. Values of different variants are never
 /// equal; maps are equal if they have equal trees under the same keys.
 ///
-/// `AnyValue::from("text")` and `AnyValue::from(1)` are trees; a list and a map take memory.
-/// See `otel_examples::api::log_bridge`, where one is the body of a record.
+/// `AnyValue::from("text")` and `AnyValue::from(1)` don't allocate; lists and maps do.
+/// See `otel_examples::api::log_bridge`, which uses a tree as the body of a record.
 #[derive(Debug, Drop)]
 pub enum AnyValue {
     /// An integer.
@@ -37,7 +37,7 @@ pub enum AnyValue {
 }
 
 impl AnyValue {
-    /// Returns the list of the given trees, in order (the Rust crate's `FromIterator<T> for
+    /// Creates a list of the given trees, in order (the Rust crate's `FromIterator<T> for
     /// AnyValue`).
     ///
     /// # Errors
@@ -49,7 +49,7 @@ impl AnyValue {
         Ok(AnyValue::ListAny(Box::new(alloc, values)?))
     }
 
-    /// Returns the map of the pairs; the last value of a key wins (the Rust crate's
+    /// Creates a map from the pairs; the last value of a key wins (the Rust crate's
     /// `FromIterator<(K, V)> for AnyValue`).
     ///
     /// # Errors
@@ -65,7 +65,7 @@ impl AnyValue {
         Ok(AnyValue::Map(Box::new(alloc, entries)?))
     }
 
-    /// Returns a tree with a copy of the given bytes (the Rust crate's `From<&[u8]> for AnyValue`).
+    /// Creates a tree with a copy of the given bytes (the Rust crate's `From<&[u8]> for AnyValue`).
     ///
     /// # Errors
     ///
@@ -81,7 +81,7 @@ impl AnyValue {
 impl Clone for AnyValue {
     ghost is_clone = { λ v w. tree w ≡ tree v };
 
-    /// Returns a copy, made in one walk.
+    /// Returns a copy, made in one traversal.
     ///
     /// # Errors
     ///
@@ -139,7 +139,7 @@ impl PartialEq for AnyValue {
 
     ghost laws = { on_per tree (partial_equiv_from_equiv eq-equiv) };
 
-    /// Returns `true` if both are the same tree. Takes no memory.
+    /// Returns `true` if both are the same tree. Doesn't allocate.
     fn eq(&self, other: &AnyValue) -> bool
         ensures value { result ≡ spec.eq (tree self.now) (tree other.now) }
         ensures same { IsTrue result ↔ (tree self.now ≡ tree other.now) }

@@ -31,7 +31,7 @@ pub enum Array {
 impl From<Vec<bool>> for Array {
     ghost from_gives = { λ v a. array_of a ≡ booleans v.items };
 
-    /// Returns the array of these booleans.
+    /// Creates an array of these booleans.
     fn from(bools: Vec<bool>) -> Array {
         Array::Bool(bools)
     }
@@ -40,7 +40,7 @@ impl From<Vec<bool>> for Array {
 impl From<Vec<i64>> for Array {
     ghost from_gives = { λ v a. array_of a ≡ integers v.items };
 
-    /// Returns the array of these integers.
+    /// Creates an array of these integers.
     fn from(integers: Vec<i64>) -> Array {
         Array::I64(integers)
     }
@@ -49,7 +49,7 @@ impl From<Vec<i64>> for Array {
 impl From<Vec<StringValue>> for Array {
     ghost from_gives = { λ v a. array_of a ≡ texts v.items };
 
-    /// Returns the array of these texts.
+    /// Creates an array of these texts.
     fn from(texts: Vec<StringValue>) -> Array {
         Array::String(texts)
     }
@@ -88,7 +88,7 @@ impl PartialEq for Array {
     }
 }
 
-// An item of an array, as it is printed.
+// An item of an array, with its printed text.
 trait Item {
     ghost text: { Self → List ℕ };
 
@@ -150,7 +150,7 @@ pub fn append_integer(value: i64, out: &mut String) -> Result<(), AllocError>
     out.push_str(digits.format(value))
 }
 
-// Returns what is printed before the item at this index.
+// Returns the text that is printed before the item at this index.
 fn separator(position: usize) -> &'static str
     ensures { result.now ≡ spec.separator position }
 {
@@ -180,7 +180,7 @@ fn append_items<I: Item>(items: &[I], out: &mut String) -> Result<(), AllocError
 }
 
 impl Array {
-    // Appends the `Display` text of the item.
+    // Appends the `Display` text of the array.
     pub(crate) fn append_to(&self, out: &mut String) -> Result<(), AllocError>
         ensures { Appends result out.old (spec.display (array_of self.now)) out.new }
     {

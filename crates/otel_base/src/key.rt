@@ -17,7 +17,7 @@ use std::rc::RcStr;
 /// Equality, order (by bytes), hash and `Display` depend on the text only, so it can be the key of
 /// a map.
 ///
-/// A key in the program's text is `Key::from("tenant")`. A text made at run time has to be owned:
+/// For a literal, use `Key::from("tenant")`. A text made at run time has to be owned:
 ///
 /// ```
 /// let key = Key::from(String::from_str(alloc, name)?);
@@ -38,7 +38,7 @@ impl Model for Key {
 }
 
 impl Key {
-    /// Returns the key of an owned text. Takes no memory.
+    /// Creates a key from an owned text. Doesn't allocate.
     pub fn new(value: String) -> Key
         ensures { result ≡ string_bytes value }
     {
@@ -47,7 +47,7 @@ impl Key {
         }
     }
 
-    /// Returns the key of a static text. Neither it nor its clones take memory.
+    /// Creates a key from a static text. Neither this nor cloning the key allocates.
     pub fn from_static_str(value: &'static str) -> Key
         ensures { result ≡ value.now }
     {
@@ -63,7 +63,7 @@ impl Key {
 
     /// Returns the text as an owned `String` (the Rust crate's `From<Key> for String`).
     ///
-    /// A key made from a `String` returns that `String` and takes no memory. A static or shared
+    /// A key made from a `String` returns that `String` without allocating. A static or shared
     /// text is copied.
     ///
     /// # Errors
@@ -93,7 +93,7 @@ impl PartialEq for Key {
 impl Clone for Key {
     ghost is_clone = { λ s copy. copy ≡ s };
 
-    /// Returns a key of the same text. Only an owned text takes memory.
+    /// Returns a key with the same text. Allocates only if the text is owned.
     fn clone(&self) -> Result<Key, AllocError> {
         Ok(Key {
             text: self.text.clone()?,
@@ -104,7 +104,7 @@ impl Clone for Key {
 impl From<&'static str> for Key {
     ghost from_gives = { λ s k. k ≡ s.now };
 
-    /// Returns the key of a static text.
+    /// Creates a key from a static text.
     ///
     /// For a text made at run time, write `Key::from(String::from_str(alloc, name)?)`.
     fn from(value: &'static str) -> Key {
@@ -116,7 +116,7 @@ impl From<&'static str> for Key {
 impl From<String> for Key {
     ghost from_gives = { λ s k. k ≡ string_bytes s };
 
-    /// Returns the key of an owned text.
+    /// Creates a key from an owned text.
     fn from(value: String) -> Key {
         Key::new(value)
     }
@@ -125,7 +125,7 @@ impl From<String> for Key {
 impl From<RcStr> for Key {
     ghost from_gives = { λ s k. k ≡ rc_str_bytes s };
 
-    /// Returns the key of a shared text.
+    /// Creates a key from a shared text.
     fn from(value: RcStr) -> Key {
         let text = Text::from(value);
         Key { text }
@@ -135,7 +135,7 @@ impl From<RcStr> for Key {
 impl fmt::Display for Key {
     ghost output = { λ k. Some k };
 
-    /// Writes the plain text: a width, a fill and a precision are left out.
+    /// Writes the plain text. Ignores width, fill and precision.
     fn fmt<W: fmt::Write>(&self, f: &mut fmt::Formatter<W>) -> fmt::Result {
         fmt::Display::fmt(&self.text, f)
     }

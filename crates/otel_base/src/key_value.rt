@@ -1,4 +1,4 @@
-//! Attributes: a key with a value.
+//! Attributes: keys with values.
 ghost use Rattle.std.specs.Prelude.{◌≡◌, ◌↔◌, IsTrue};
 ghost use Rattle.std.specs.Cmp.{on_per, on_equiv, partial_equiv_from_equiv};
 ghost use Rattle.std.proofs.Common.{ap};
@@ -26,7 +26,7 @@ pub struct KeyValue {
 }
 
 impl KeyValue {
-    /// Returns the attribute of a key and a value.
+    /// Creates an attribute from a key and a value.
     pub fn new(key: Key, value: Value) -> KeyValue
         ensures { attribute_of result ≡ (key, value_of value) }
     {

@@ -1,4 +1,4 @@
-//! Instrumentation scopes: which library or module made a span or a log record.
+//! Instrumentation scopes: the libraries and modules that make spans and log records.
 ghost use Rattle.std.specs.Prelude.{◌≡◌, IsTrue, ◌↔◌, IfOk, IsOk, Some, None, [], ◌++◌, map};
 ghost use Rattle.std.specs.Prelude.{option_map, fold, length};
 ghost use Rattle.std.specs.Cmp.{partial_equiv_from_equiv};
@@ -25,8 +25,8 @@ use std::slice::Iter;
 /// A library or module that makes spans or log records (the Rust crate's `InstrumentationScope`).
 ///
 /// Two scopes are equal if they have the same name, version and schema URL and, for every key, the
-/// same values under that key, in the same order. Equality and hash take no memory, and time linear
-/// in the number of attributes.
+/// same values under that key, in the same order. Equality and hash don't allocate, and take time
+/// linear in the number of attributes.
 ///
 /// ```
 /// let scope = InstrumentationScope::builder(StringValue::from("lib"))
@@ -39,7 +39,8 @@ pub struct InstrumentationScope {
     version: Option<StringValue>,
     schema_url: Option<StringValue>,
     attributes: Vec<KeyValue>,
-    // The positions of the attributes in the order of their keys. Those of one key stay in order.
+    // The positions of the attributes, sorted by key. Attributes with the same key keep their
+    // order.
     positions: Vec<usize>,
 }
 
@@ -62,7 +63,7 @@ impl Model for InstrumentationScope {
 }
 
 impl InstrumentationScope {
-    /// Returns a builder with the name, without version, schema URL and attributes.
+    /// Returns a builder with the name, and without a version, schema URL or attributes.
     pub fn builder(name: StringValue) -> InstrumentationScopeBuilder
         ensures { result ≡ spec.builder name }
     {
@@ -101,7 +102,7 @@ impl InstrumentationScope {
         }
     }
 
-    /// Returns the attributes in the order in which they were given, with repeated keys.
+    /// Returns the attributes in the order in which they were given, including repeated keys.
     pub fn attributes(&self) -> Iter<'_, KeyValue>
         ensures { map attribute_of (iter_rest result) ≡ self.now.attributes }
     {
@@ -167,7 +168,7 @@ impl PartialEq for InstrumentationScope {
 
     ghost laws = { partial_equiv_from_equiv eq-IsEquivalence };
 
-    /// Returns `true` if both are the same scope. Takes no memory.
+    /// Returns `true` if both are the same scope. Doesn't allocate.
     fn eq(&self, other: &InstrumentationScope) -> bool
         ensures value { result ≡ spec.eq self.now other.now }
         ensures same { IsTrue result ↔ IsSameScope self.now other.now }
@@ -186,7 +187,7 @@ impl Eq for InstrumentationScope {
     ghost laws = { eq-IsEquivalence };
 }
 
-// Returns an iterator over the attributes at the positions, in order.
+// Hashes the attributes at the positions, in order.
 fn hash_in_order<H: Hasher>(attributes: &[KeyValue], positions: &[usize], state: &mut H)
     requires { IsKeyOrder (map attribute_of attributes.now) positions.now }
     ensures { state.new ≡ fold H.write state.old
@@ -202,7 +203,7 @@ impl Hash for InstrumentationScope {
 
     ghost respects_eq = { hash-respects };
 
-    /// Hashes the texts, then the attributes in the order of their keys. Takes no memory.
+    /// Hashes the texts, then the attributes in the order of their keys. Doesn't allocate.
     fn hash<H: Hasher>(&self, state: &mut H) {
         self.name.hash(state);
         self.version.hash(state);
@@ -245,7 +246,7 @@ fn by_key(attributes: &[KeyValue], a: usize, b: usize) -> Ordering
     first.cmp(&second)
 }
 
-// Returns the positions of the attributes in the order of their keys. Those of one key stay in
+// Returns the positions of the attributes, sorted by key. Attributes with the same key keep their
 // order.
 fn key_order(alloc: Global, attributes: &[KeyValue]) -> Result<Vec<usize>, AllocError>
     ensures order { IfOk result (λ v. IsKeyOrder (map attribute_of attributes.now) v.items) }
@@ -260,7 +261,7 @@ fn key_order(alloc: Global, attributes: &[KeyValue]) -> Result<Vec<usize>, Alloc
 }
 
 impl InstrumentationScopeBuilder {
-    /// Sets the version, and replaces that of an earlier call.
+    /// Sets the version. Replaces the version of an earlier call.
     pub fn with_version(mut self, version: StringValue) -> InstrumentationScopeBuilder
         ensures { result ≡ spec.with_version version self }
     {
@@ -268,7 +269,7 @@ impl InstrumentationScopeBuilder {
         self
     }
 
-    /// Sets the schema URL, and replaces that of an earlier call.
+    /// Sets the schema URL. Replaces the schema URL of an earlier call.
     pub fn with_schema_url(mut self, schema_url: StringValue) -> InstrumentationScopeBuilder
         ensures { result ≡ spec.with_schema_url schema_url self }
     {
@@ -276,8 +277,8 @@ impl InstrumentationScopeBuilder {
         self
     }
 
-    /// Sets the attributes, and replaces those of an earlier call. Keeps their order and repeated
-    /// keys.
+    /// Sets the attributes. Replaces the attributes of an earlier call. Keeps their order and
+    /// repeated keys.
     pub fn with_attributes(mut self, attributes: Vec<KeyValue>) -> InstrumentationScopeBuilder
         ensures { result ≡ spec.with_attributes (map attribute_of attributes.items) self }
     {
@@ -285,14 +286,14 @@ impl InstrumentationScopeBuilder {
         self
     }
 
-    /// Returns the scope of what was given.
+    /// Builds the scope from the given parts.
     ///
-    /// Sorts the positions of the attributes by their keys, once. Takes no memory if there are no
+    /// Sorts the positions of the attributes by their keys, once. Doesn't allocate if there are no
     /// attributes.
     ///
     /// # Errors
     ///
-    /// `AllocError` if out of memory, which is possible only with attributes. What was given is
+    /// `AllocError` if out of memory. This is possible only with attributes. The given parts are
     /// dropped.
     pub fn build(self, alloc: Global) -> Result<InstrumentationScope, AllocError>
         ensures built { IfOk result (λ s. s ≡ self) }

@@ -8,9 +8,9 @@ ghost use Rattle.otel_base.specs.Severity as spec;
 
 use std::cmp::Ordering;
 
-/// A severity of the OpenTelemetry logs data model, from the least severe.
+/// A severity of the OpenTelemetry logs data model, least severe first.
 ///
-/// Severities are ordered by their numbers.
+/// Severities are ordered by number.
 ///
 /// ```
 /// record.set_severity_number(Severity::Warn);
@@ -68,7 +68,7 @@ pub enum Severity {
 }
 
 impl Severity {
-    /// Returns the short name of the OpenTelemetry logs data model, as `WARN2`.
+    /// Returns the short name in the OpenTelemetry logs data model, such as `WARN2`.
     pub fn name(&self) -> &'static str
         ensures { result.now ≡ spec.name self.now }
     {
@@ -100,7 +100,7 @@ impl Severity {
         }
     }
 
-    /// Returns the number of the OpenTelemetry logs data model, from 1 for `TRACE` to 24 for
+    /// Returns the number in the OpenTelemetry logs data model, from 1 for `TRACE` to 24 for
     /// `FATAL4`. Not in the Rust crate, which has `severity as u8`.
     pub fn number(&self) -> u8
         ensures { result ≡ spec.number self.now }

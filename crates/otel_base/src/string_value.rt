@@ -19,8 +19,7 @@ use std::rc::RcStr;
 /// Contracts see its text, the list of its UTF-8 bytes, which may be owned, static or shared.
 /// Equality, order (by bytes), hash and `Display` depend on the text only.
 ///
-/// A value in the program's text is `StringValue::from("acme")`. A text made at run time has to be
-/// owned:
+/// For a literal, use `StringValue::from("acme")`. A text made at run time has to be owned:
 ///
 /// ```
 /// let text = StringValue::from(String::from_str(alloc, name)?);
@@ -50,7 +49,7 @@ impl StringValue {
 
     /// Returns the text as an owned `String` (the Rust crate's `From<StringValue> for String`).
     ///
-    /// A value made from a `String` returns that `String` and takes no memory. A static or shared
+    /// A value made from a `String` returns that `String` without allocating. A static or shared
     /// text is copied.
     ///
     /// # Errors
@@ -64,11 +63,11 @@ impl StringValue {
 
     /// Returns the `Display` text of a value (the Rust crate's `From<Value> for StringValue`).
     ///
-    /// A value that is a text is moved, and takes no memory.
+    /// A value that is a text is moved without allocating.
     ///
     /// # Errors
     ///
-    /// `AllocError` if out of memory, which is possible only for a value that isn't a text. The
+    /// `AllocError` if out of memory. This is possible only for a value that isn't a text. The
     /// value is dropped.
     pub fn from_value(alloc: Global, value: Value) -> Result<StringValue, AllocError>
         ensures text { IfOk result (λ s. s ≡ display (value_of value)) }
@@ -102,7 +101,7 @@ impl PartialEq for StringValue {
 impl Clone for StringValue {
     ghost is_clone = { λ s copy. copy ≡ s };
 
-    /// Returns a value of the same text. Only an owned text takes memory.
+    /// Returns a value with the same text. Allocates only if the text is owned.
     fn clone(&self) -> Result<StringValue, AllocError> {
         Ok(StringValue {
             text: self.text.clone()?,
@@ -113,7 +112,7 @@ impl Clone for StringValue {
 impl From<&'static str> for StringValue {
     ghost from_gives = { λ s k. k ≡ s.now };
 
-    /// Returns the value of a static text.
+    /// Creates a value from a static text.
     ///
     /// For a text made at run time, write `StringValue::from(String::from_str(alloc, name)?)`.
     fn from(value: &'static str) -> StringValue {
@@ -126,7 +125,7 @@ impl From<&'static str> for StringValue {
 impl From<String> for StringValue {
     ghost from_gives = { λ s k. k ≡ string_bytes s };
 
-    /// Returns the value of an owned text.
+    /// Creates a value from an owned text.
     fn from(value: String) -> StringValue {
         StringValue {
             text: Text::from(value),
@@ -137,7 +136,7 @@ impl From<String> for StringValue {
 impl From<RcStr> for StringValue {
     ghost from_gives = { λ s k. k ≡ rc_str_bytes s };
 
-    /// Returns the value of a shared text.
+    /// Creates a value from a shared text.
     fn from(value: RcStr) -> StringValue {
         StringValue {
             text: Text::from(value),
@@ -148,7 +147,7 @@ impl From<RcStr> for StringValue {
 impl fmt::Display for StringValue {
     ghost output = { λ k. Some k };
 
-    /// Writes the plain text: a width, a fill and a precision are left out.
+    /// Writes the plain text. Ignores width, fill and precision.
     fn fmt<W: fmt::Write>(&self, f: &mut fmt::Formatter<W>) -> fmt::Result {
         fmt::Display::fmt(&self.text, f)
     }

@@ -1,4 +1,4 @@
-//! A text that is owned, static or shared. Contracts see its bytes only.
+//! A text that is owned, static or shared. Contracts see only its bytes.
 ghost use Rattle.std.specs.Prelude.{◌≡◌, IfOk, string_bytes, Some, refl, nat_eq, ℕ, List};
 ghost use Rattle.std.specs.Rc.{rc_str_bytes};
 ghost use Rattle.std.specs.Ordering.{nat_cmp};
@@ -15,7 +15,7 @@ use std::hash::{Hash, Hasher};
 use std::marker::Model;
 use std::rc::RcStr;
 
-// A text, which is owned, static or shared. Cloning a static or shared one takes no memory.
+// An owned, static or shared text. Cloning a static or shared text doesn't allocate.
 #[derive(Drop)]
 enum Form {
     Owned(String),
@@ -49,7 +49,7 @@ impl Text {
         }
     }
 
-    /// Takes no memory if the text is owned.
+    /// Returns the text as an owned `String`. Doesn't allocate if the text is owned.
     pub fn into_string(self, alloc: Global) -> Result<String, AllocError>
         ensures { IfOk result (λ s. string_bytes s ≡ self) }
     {

@@ -38,7 +38,7 @@ pub enum Value {
 impl From<bool> for Value {
     ghost from_gives = { λ b v. value_of v ≡ boolean b };
 
-    /// Returns the value of a boolean.
+    /// Creates a value from a boolean.
     fn from(value: bool) -> Value {
         Value::Bool(value)
     }
@@ -47,7 +47,7 @@ impl From<bool> for Value {
 impl From<i64> for Value {
     ghost from_gives = { λ n v. value_of v ≡ integer n };
 
-    /// Returns the value of an integer.
+    /// Creates a value from an integer.
     fn from(value: i64) -> Value {
         Value::I64(value)
     }
@@ -56,7 +56,7 @@ impl From<i64> for Value {
 impl From<StringValue> for Value {
     ghost from_gives = { λ s v. value_of v ≡ text s };
 
-    /// Returns the value of a text.
+    /// Creates a value from a text.
     fn from(value: StringValue) -> Value {
         Value::String(value)
     }
@@ -65,7 +65,7 @@ impl From<StringValue> for Value {
 impl From<&'static str> for Value {
     ghost from_gives = { λ s v. value_of v ≡ text s.now };
 
-    /// Returns the value of a static text.
+    /// Creates a value from a static text.
     fn from(value: &'static str) -> Value {
         Value::String(StringValue::from(value))
     }
@@ -74,7 +74,7 @@ impl From<&'static str> for Value {
 impl From<String> for Value {
     ghost from_gives = { λ s v. value_of v ≡ text (string_bytes s) };
 
-    /// Returns the value of an owned text.
+    /// Creates a value from an owned text.
     fn from(value: String) -> Value {
         Value::String(StringValue::from(value))
     }
@@ -83,7 +83,7 @@ impl From<String> for Value {
 impl From<RcStr> for Value {
     ghost from_gives = { λ s v. value_of v ≡ text (rc_str_bytes s) };
 
-    /// Returns the value of a shared text.
+    /// Creates a value from a shared text.
     fn from(value: RcStr) -> Value {
         Value::String(StringValue::from(value))
     }
@@ -92,11 +92,11 @@ impl From<RcStr> for Value {
 impl Value {
     /// Returns the `Display` text.
     ///
-    /// A value that is a text is borrowed, and takes no memory.
+    /// A value that is a text is borrowed without allocating.
     ///
     /// # Errors
     ///
-    /// `AllocError` if out of memory, which is possible only for a value that isn't a text.
+    /// `AllocError` if out of memory. This is possible only for a value that isn't a text.
     pub fn as_str(&self, alloc: Global) -> Result<CowStr<'_>, AllocError>
         ensures text { IfOk result (λ s. cow_str_bytes s ≡ spec.display (value_of self.now)) }
         ensures without_memory { IsTrue (is_text (value_of self.now)) → IsOk result }

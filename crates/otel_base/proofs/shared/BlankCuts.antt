@@ -1,4 +1,5 @@
--- What is left of a text without the blanks at its ends, and what the trimming methods of `str` leave if the pattern is the two blanks.
+-- The text without the blanks at its ends, and the result of the trimming methods of `str` with the
+-- two blanks as the pattern.
 use Rattle.std.proofs.Common.{◌≡◌, ℕ, ◌+◌, ◌-◌, ◌<◌, Bool, true, false, eqb, ◌&&◌, List, [], ◌∷◌, ◌++◌, length, take, drop, Option, Some, None, refl, sym, ap, ◌∙◌, arith, inl, inr}
 use Rattle.std.specs.Prelude.{IfSome, ◌⊎◌}
 use Rattle.std.specs.List.{list_all, list_any}
@@ -32,7 +33,7 @@ cut_front-blank b bs e = rw e refl
 pub cut_front-kept : (b : ℕ) (bs : List ℕ) → is_blank b ≡ false → cut_front (b ∷ bs) ≡ b ∷ bs
 cut_front-kept b bs e = rw e refl
 
--- what the two blanks give as a pattern
+-- the two blanks as a pattern
 abbrev pub Prefixes : List ℕ → Option ℕ → Type 0
 Prefixes s r = (k : ℕ → Bool) → ((c : ℕ) → char_set_contains (32 ∷ 9 ∷ []) c ≡ k c) → FindsPrefixBy k s r
 
@@ -79,7 +80,7 @@ cut_end-append (x ∷ xs) ys e =
     let t : list_all is_blank (xs ++ ys) ≡ list_all is_blank xs = list_all-append is_blank xs ys ∙ ap (λ (t : Bool). list_all is_blank xs && t) e ∙ and-true (list_all is_blank xs) in
     rw (t, cut_end-append xs ys e) refl
 
--- a text that is all blanks and not empty ends in one
+-- a nonempty text of only blanks ends in a blank
 ends_from_all : (b : ℕ) (bs : List ℕ) → is_blank b ≡ true → list_all is_blank bs ≡ true → ends_in_blank (b ∷ bs) ≡ true
 ends_from_all b [] e h = e
 ends_from_all b (c ∷ bs) e h = let p = and_parts (is_blank c) (list_all is_blank bs) h in ends_from_all c bs p.0 p.1
@@ -171,7 +172,7 @@ cut_end-ends (b ∷ bs) =
 pub blank_piece : (piece : List ℕ) → IsBlanks piece → cut_blanks piece ≡ []
 blank_piece piece h = ap cut_end (cut_front-blanks piece h)
 
--- a text is what is left of it between blanks
+-- a text is its cut text between blanks
 pub piece_split : (piece : List ℕ) → (before : List ℕ) × (after : List ℕ) × IsBlanks before × IsBlanks after × (piece ≡ before ++ (cut_blanks piece ++ after))
 piece_split piece =
     let f = front_split piece in let e = end_split (cut_front piece) in
@@ -183,7 +184,7 @@ blanks_from_cut piece e =
     let spelled : piece ≡ s.0 ++ s.1 = s.4 ∙ ap (λ (x : List ℕ). s.0 ++ (x ++ s.1)) e in
     rw spelled (list_all-append is_blank s.0 s.1 ∙ rw (s.2, s.3) refl)
 
--- ---- the end of a text that is made of parts
+-- ---- the end of a text made of parts
 
 pub ends-past : (xs : List ℕ) (b : ℕ) (bs : List ℕ) → ends_in_blank (xs ++ b ∷ bs) ≡ ends_in_blank (b ∷ bs)
 ends-past [] b bs = refl

@@ -1,4 +1,4 @@
--- Lists whose elements are mapped, as to their views.
+-- Lists whose elements are mapped, for example to their views.
 use Rattle.std.proofs.Common.{◌≡◌, List, [], ◌∷◌, Bool, true, false, ◌||◌, cond, map, refl, ap}
 use Rattle.std.specs.List.{AllZip, filter, list_any}
 use Rattle.otel_base.specs.View.{attribute_of}

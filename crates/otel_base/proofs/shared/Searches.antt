@@ -1,4 +1,4 @@
--- Whether a byte of a text passes a test, and where the text is cut at the first one that does.
+-- Whether a byte of a text passes a test, and the text cut at the first such byte.
 use Rattle.std.proofs.Common.{◌≡◌, ℕ, ◌+◌, ◌<◌, Bool, true, false, List, [], ◌∷◌, ◌++◌, length, take, drop, get_or, refl, subst, sym, ap, ◌∙◌, arith, All, inl, inr}
 use Rattle.std.specs.Prelude.{not, IsUtf8}
 use Rattle.std.specs.List.{list_all, list_any, position_or_len, before_first, after_first}
@@ -52,7 +52,7 @@ module _ (p : ℕ → Bool) where
   pub after_none : (xs : List ℕ) → list_any p xs ≡ false → after_first p xs ≡ []
   after_none xs h = let e = place_none xs h in drop_all (position_or_len p xs + 1) xs (omega arith)
 
--- ---- what a search found
+-- ---- the result of a search
 
 pub list_any_none : (p : ℕ → Bool) (xs : List ℕ) → position_or_len p xs ≡ length xs → list_any p xs ≡ false
 list_any_none p [] e = refl

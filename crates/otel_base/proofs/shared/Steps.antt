@@ -1,4 +1,4 @@
--- One step more of a walk over a list.
+-- One more step of an iteration over a list.
 use Rattle.std.proofs.Common.{◌≡◌, ℕ, zero, suc, ◌+◌, ◌<◌, ◌≤◌, List, [], ◌∷◌, ◌++◌, length, take, drop, get_or, fold}
 use Rattle.std.proofs.Common.{Some, inl, inr, ◌⊎◌, refl, sym, ap, ◌∙◌, arith}
 use Rattle.std.specs.List.{flat_map, slice_get}
@@ -8,7 +8,7 @@ use Rattle.std.proofs.lemmas.List.Sums.{fold-append}
 use Rattle.std.proofs.lemmas.List.Concat.{flat_map-append}
 use Rattle.std.proofs.lemmas.Option.{slice_get_within}
 
--- what is left begins with the next element
+-- the rest of the list begins with the next element
 pub next_element : {X : Type 0} (xs : List X) (n : ℕ) (x : X) → (n < length xs) × (x ≡ get_or xs n x)
     → drop n xs ≡ x ∷ drop (n + 1) xs
 next_element xs n x h = drop_more xs n x h.0 ∙ ap (λ y. y ∷ drop (n + 1) xs) (sym h.1)
@@ -22,7 +22,7 @@ pub slice_get-append_end : {X : Type 0} (xs : List X) (y : X) → slice_get (xs 
 slice_get-append_end [] y = refl
 slice_get-append_end (x ∷ xs) y = slice_get-append_end xs y
 
--- an element at an index of one more is that one, or one of those before
+-- an element below the next index is the element at the index, or an earlier one
 pub last_or_before : {X : Type 0} (xs : List X) (y : X) (i : ℕ) (x : X) → slice_get (xs ++ y ∷ []) i ≡ Some x → (i < length xs) ⊎ ((i ≡ length xs) × (y ≡ x))
 last_or_before xs y i x at = elim (cases_lt i (length xs)) [
   | inl h ↦ inl h

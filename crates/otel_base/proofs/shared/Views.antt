@@ -1,4 +1,4 @@
--- A value, level by level, and a `BTreeMap` beside the entries that it stands for.
+-- A value, level by level, and a `BTreeMap` with the entries that it represents.
 use Rattle.std.proofs.Common.{◌≡◌, ℕ, List, [], ◌∷◌, ◌++◌, Vec, BTreeMap, Box, Global, Ordering}
 use Rattle.std.proofs.Common.{Less, Equal, Greater, nat_cmp, Option, Some, None, option_map, cond}
 use Rattle.std.proofs.Common.{Bool, true, false, refl, sym, ap, ◌∙◌, rules}
@@ -54,7 +54,7 @@ below_middle : (first : Entry) (es : List Entry) (e : Entry) (more : List Entry)
 below_middle first [] e more h = h.0
 below_middle first (x ∷ es) e more h = below_middle first es e more h.1
 
--- a key that is above those before it goes last
+-- a key that is greater than the earlier keys is inserted last
 pub put_last : (done : List Entry) (e : Entry) (more : List Entry)
     → IsStrictlySortedBy (slice_cmp nat_cmp) (keys_of (done ++ e ∷ more))
     → put e.0 (tree e.1) (entries_view done) ≡ entries_view (done ++ e ∷ [])

@@ -6,7 +6,7 @@ use Rattle.otel_base.specs.Array.{bracketed}
 use Rattle.otel_base.proofs.shared.Joined.{joined_more, joined_room}
 use Rattle.otel_base.proofs.array.append_items.Goals as goal
 
--- the separator found no room
+-- the separator didn't fit into the capacity
 pub returns-in_err-push_str-2 : goal.returns-in_err-push_str-2
 returns-in_err-push_str-2 g c =
     let xs = c.args.items.now in
@@ -37,7 +37,7 @@ returns-in_err-push_str-2 g c =
           omega (arith, c.loop-i.invariant.1, c.push_str-in-loop-i.ensures.capacity);
     }
 
--- the item found no room
+-- the item didn't fit into the capacity
 pub returns-in_err-append_item : goal.returns-in_err-append_item
 returns-in_err-append_item g c =
     let xs = c.args.items.now in

@@ -6,7 +6,7 @@ use Rattle.otel_base.specs.KeyValue as attribute
 use Rattle.otel_base.specs.View.{attribute_of}
 use Rattle.otel_base.proofs.scope.same_in_order.Given as goal
 
--- what is left to compare decides
+-- the elements left to compare decide
 abbrev pub invariant-loop-place : goal.invariant-loop-place
 invariant-loop-place l =
     pointwise (option_eq attribute.eq) (map (slice_get (map attribute_of l.left)) l.left_positions)
