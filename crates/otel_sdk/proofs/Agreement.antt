@@ -1,4 +1,4 @@
--- The live spans of a run are those of its history, but for some that have ended.
+-- The live spans of a run are the spans of its history, except for some ended ones.
 use Rattle.std.proofs.Common.{◌≡◌, ℕ, ◌+◌, ◌≤◌, Bool, true, false, cond, List, [], ◌∷◌, ◌++◌}
 use Rattle.std.proofs.Common.{take, fold, Option, Some, None, refl, sym, ap, subst, ◌∙◌, arith, inl, inr}
 use Rattle.std.specs.Prelude.{◌==◌, ◌⊎◌, if◌then◌else◌, option_map}
@@ -22,7 +22,7 @@ use Rattle.otel_sdk.proofs.LiveLemmas.{all-push, none-listed, changed-keeps, rep
 
 -- ---- the history and the live spans
 
--- a span in the live spans and in the history: the same, or gone after its end
+-- a span in the live spans and in the history: the same, or removed after its end
 abbrev pub Both : Option SpanState → Option SpanState → Type 0
 Both x y = (x ≡ y) ⊎ ((x ≡ None) × (is_ended y ≡ true))
 
@@ -40,7 +40,7 @@ none_of : (x y : Option SpanState) → Both x y → y ≡ None → x ≡ None
 none_of x y (inl e) f = e ∙ f
 none_of x y (inr e) f = e.0
 
--- the live spans are those of the history but for some that have ended
+-- the live spans are the spans of the history, except for some ended ones
 pub record Agree (history live : LiveState) : Type 0 where
   pub next_number : live.spans.next_number ≡ history.spans.next_number
   pub same : (n : ℕ) → Both (table.get live.spans n) (table.get history.spans n)

@@ -1,4 +1,4 @@
--- What each event of a run does.
+-- The effect of each event of a run.
 use Rattle.std.proofs.Common.{◌≡◌, ℕ, false, List, []}
 use Rattle.std.proofs.Common.{refl, sym, ap, subst, ◌∙◌, inl, inr}
 use Rattle.std.specs.Prelude.{alloc_error, not, IsErrOf, IsTrue, Result, Ok, Err}

@@ -1,4 +1,4 @@
--- Ended spans on their way to a processor: none is lost.
+-- No ended span is lost on its way to a processor.
 use Rattle.std.proofs.Common.{◌≡◌, ℕ, zero, suc, ◌+◌, ◌-◌, ◌^◌, ◌*◌, ◌<◌, ◌≤◌, get_or, min, Bool, true, false, cond, List, [], ◌∷◌, ◌++◌, length}
 use Rattle.std.proofs.Common.{take, drop, map, fold, Option, Some, None, refl, sym, ap, subst, ◌∙◌, arith, append_assoc}
 use Rattle.std.specs.Prelude.{◌==◌, if◌then◌else◌, nat_lt}
@@ -22,7 +22,7 @@ use Rattle.otel_sdk_base.proofs.shared.BatchLemmas.{keeps}
 use Rattle.otel_sdk_span.specs.Span.{SpanState}
 use Rattle.otel_sdk_span.specs.SpanData.{SpanRecord}
 
--- ---- what waits after a span has left the table
+-- ---- the waiting spans after a span was removed from the table
 
 equal_of : (r : Ordering) → is_eq r ≡ true → r ≡ Equal
 equal_of Less e = cc
@@ -34,7 +34,7 @@ same_bool true c f g = sym (f refl)
 same_bool false true f g = g refl
 same_bool false false f g = refl
 
--- `==` tells numbers apart as their order does
+-- `==` on numbers agrees with their order
 pub flipped : (k q : ℕ) → eq_by_cmp nat_cmp q k ≡ (k == q)
 flipped k q = same_bool (eq_by_cmp nat_cmp q k) (q == k)
     (λ e. (unsigned_Decides q k).1 (map.nat_cmp-IsAntisymmetric q k (equal_of (nat_cmp q k) e)))
@@ -76,7 +76,7 @@ up_to : (n m : ℕ) → m ≡ n + 1 → min (min n (2 ^ 64 - 1) + 1) (2 ^ 64 - 1
 up_to n m e = grind arith
 
 module _ {E : Type 0} (accepted : E → List (List SpanRecord)) (earlier ends : List SpanRecord) where
-  -- what is known while the data waits
+  -- the invariant while the data waits
   pub record Before (rest : List SpanRecord) (p : ProcessorState E) (fates : List Fate) : Type 0 where
     pub ended : ends ≡ map (λ f. f.span) fates ++ rest
     pub received : items_of (accepted p.exporter) ++ p.queue ≡ earlier ++ filter_map kept fates

@@ -23,7 +23,7 @@ use Rattle.otel_sdk.proofs.Agreement.{get-changed}
 use Rattle.otel_sdk.proofs.LiveLemmas.{get-replace, get-started, same_number}
 use Rattle.otel_sdk.proofs.ParentLemmas.{end-under}
 
--- ---- what a span table does to one span
+-- ---- the effect of a table's calls on one span
 
 -- the same, or the same span with another state under the same parent
 abbrev pub Moves : Option SpanState → Option SpanState → Type 0
@@ -33,7 +33,7 @@ Moves x y = (y ≡ x) ⊎ ((s : SpanState) × (t : SpanState) × (x ≡ Some s) 
 some-same : (s t : SpanState) → Some s ≡ Some t → s ≡ t
 some-same s t e = cc
 
--- a span that is there after the move was there before it
+-- a span that exists after the move existed before it, and the reverse
 module _ (x y : Option SpanState) where
   was-there : Moves x y → (t : SpanState) → y ≡ Some t → (s : SpanState) × (x ≡ Some s)
       × ((p : Option SpanContextRecord) → IsUnder p s → IsUnder p t)
@@ -44,9 +44,9 @@ module _ (x y : Option SpanState) where
   is-there (inl e) s at = (s, e ∙ at, refl)
   is-there (inr m) s at = (m.1, m.3, m.4 ∙ ap (λ (s : SpanState). s.context) (some-same m.0 s (sym m.2 ∙ at)))
 
--- ---- what comes from somewhere still does
+-- ---- contexts keep their origins
 
--- the spans that are there stay, with their span contexts
+-- the existing spans stay, with their span contexts
 abbrev pub Grows : SpansState SpanState → SpansState SpanState → Type 0
 Grows a b = (n : ℕ) (s : SpanState) → table.get a n ≡ Some s
     → (t : SpanState) × (table.get b n ≡ Some t) × (t.context ≡ s.context)
@@ -100,7 +100,7 @@ module _ (P : ContextRecord → Type 0) where
 
 -- ---- the spans, their parents and the stack
 
--- what holds after each event
+-- the invariant after each event
 pub record Kin (contexts : List ContextRecord) (history : LiveState) (parents : SpansState ContextRecord) (live : Live)
     : Type 0 where
   pub next : parents.next_number ≡ history.spans.next_number
@@ -123,7 +123,7 @@ get-parent parents c m = map.get-insert nat_cmp_total parents.spans parents.next
 
 module _ (contexts : List ContextRecord) (history : LiveState) (parents : SpansState ContextRecord) (live : Live)
     (kin : Kin contexts history parents live) where
-  -- the current context comes from somewhere
+  -- the current context has an origin
   pub current-comes : ComesFrom contexts history.spans history.spans.next_number (stack.current live)
   current-comes = last-is (λ c. ComesFrom contexts history.spans history.spans.next_number c) live empty_context (inl refl) kin.attached
 
@@ -218,7 +218,7 @@ module _ (contexts : List ContextRecord) (history : LiveState) (parents : SpansS
           (history.spans.next_number + 1) live (omega arith) kin.attached;
     }
 
-    -- the context with the span as its active one
+    -- the context in which the span is active
     pub active-comes : (base : ContextRecord) (n : ℕ) → n ≡ history.spans.next_number
         → ComesFrom contexts (table.insert history.spans s) (history.spans.next_number + 1) (with_span base s.context n)
     active-comes base n e = inr (inr (record {

@@ -1,4 +1,4 @@
--- What a start, a change and an end keep of the spans that have ended.
+-- A start, a change and an end keep the ended spans.
 use Rattle.std.proofs.Common.{◌≡◌, ℕ, ◌+◌, ◌-◌, ◌<◌, ◌≤◌, Bool, true, false, cond, List, [], ◌∷◌, ◌++◌, length}
 use Rattle.std.proofs.Common.{take, fold, Result, Ok, Err, OnOk, OnErr, Option, Some, None, refl, sym, ap, subst, ◌∙◌, arith, inl, inr}
 use Rattle.std.specs.Prelude.{◌==◌, if◌then◌else◌, is_some, not, option_map}
@@ -48,9 +48,9 @@ written_back a n s e = ap (λ (spans : map.FinMap nat_cmp SpanState). record a {
       | inr f ↦ ap (λ (b : Bool). cond b (Some s) (map.get a.spans m)) f
     ])))
 
--- ---- what stays of the spans that have ended
+-- ---- ended spans are kept
 
--- the spans that have ended stay as they are
+-- the ended spans are unchanged
 pub record Keeps (a b : SpansState SpanState) : Type 0 where
   pub same : (m : ℕ) → is_ended (table.get a m) ≡ true → table.get b m ≡ table.get a m
 
@@ -125,7 +125,7 @@ replaced-keeps a n s runs = record {
   ]);
 }
 
--- a span that runs isn't listed
+-- a running span isn't listed
 pub is_other : (a : SpansState SpanState) (n : ℕ) (ns : List ℕ) → is_ended (table.get a n) ≡ false
     → AllByRecursion (λ m. is_ended (table.get a m) ≡ true) ns → AllByRecursion (λ m. n == m ≡ false) ns
 is_other a n [] runs h = h
@@ -161,7 +161,7 @@ ended-listed a ns n s runs e h = record {
   distinct = distinct-push ns n h.distinct (is_other a n ns runs h.ended);
 }
 
--- ---- room
+-- ---- capacity
 
 pub is_filled : (m : map.FinMap nat_cmp SpanState) (n : ℕ) → map.contains_key m n ≡ true → 0 < map.len m
 is_filled m n e = elim (cases_lt 0 (map.len m)) [
@@ -180,7 +180,7 @@ without n (k ∷ ns) m d h = (
   without n ns m d.1 h.1,
 )
 
--- there are at least as many spans as numbers of some of them
+-- a list of distinct numbers of spans is no longer than the table
 pub is_room : (ns : List ℕ) (m : map.FinMap nat_cmp SpanState) → IsDistinct ◌==◌ ns
     → AllByRecursion (λ n. map.contains_key m n ≡ true) ns → length ns ≤ map.len m
 unfolding IsDistinct
@@ -192,7 +192,7 @@ is_room (n ∷ ns) m d h =
     let rest : length ns ≤ map.len (map.remove m n) = is_room ns (map.remove m n) d.1 (without n ns m d.0 h.1) in
     omega arith
 
--- ---- room for the number of each span
+-- ---- capacity for the number of each span
 
 ended-is-some : (o : Option SpanState) → is_ended o ≡ true → is_some o ≡ true
 ended-is-some None e = cc
@@ -209,7 +209,7 @@ unfolding IsDistinct
 is_room_all n ns a s at h runs = is_room (n ∷ ns) a.spans
     (is_other a n ns runs h.ended, h.distinct) (ap is_some at, ended-contained a ns h.ended)
 
--- a span that runs and those that have ended are no more than all
+-- one running span and the listed ended spans are at most all spans of the table
 pub room_for : (a : SpansState SpanState) (ns : List ℕ) (n : ℕ) (s : SpanState) → table.get a n ≡ Some s
     → s.has_ended ≡ false → AreListed a ns → length ns + 1 ≤ table.len a
 room_for a ns n s at runs h =
@@ -255,7 +255,7 @@ pub with_ended-nothing : (live : LiveState) (n t : ℕ) → is_running (table.ge
     → with_ended n t live ≡ live
 with_ended-nothing live n t e = nothing_of live n t (table.get live.spans n) e
 
--- ---- what each call of live spans keeps
+-- ---- each call of live spans keeps the invariant
 
 no_numbers : IsDistinct {K = ℕ} ◌==◌ []
 unfolding IsDistinct

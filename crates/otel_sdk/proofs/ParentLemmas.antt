@@ -21,7 +21,7 @@ use Rattle.otel_sdk.specs.declared.trace.change.SpanChange.{SpanChange}
 use Rattle.otel_sdk.specs.declared.trace.change.SpanChange.TheVariants.{SetAttribute, AddEvent}
 use Rattle.otel_sdk.specs.declared.trace.change.SpanChange.TheVariants.{AddLink, SetStatus, UpdateName}
 
--- ---- what is recorded keeps its ids
+-- ---- the recorded data keeps its ids
 
 pub record SameIds (d e : SpanRecord) : Type 0 where
   pub own : e.span_context ≡ d.span_context

@@ -12,7 +12,7 @@ floors_rise x y k p h = le-div (x / k) y k p (le_trans (div-mul-le_self x k) h)
 double : (k : ℕ) → 2 ^ (1 + k) ≡ 2 * 2 ^ k
 double k = pow-add 2 1 k
 
--- m * 2 ^ e with m from d up to 2 * d rises with e
+-- m * 2 ^ e, with m from d up to 2 * d, increases with e
 steps : (m n d e f : ℕ) → m ≤ 2 * d → d ≤ n → e < f → m * 2 ^ e ≤ n * 2 ^ f
 steps m n d e f h k l =
     let more : 1 + e ≤ f = omega arith in

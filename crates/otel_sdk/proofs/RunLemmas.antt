@@ -69,7 +69,7 @@ module _ {E : Type 0} where
   open_folded (n ∷ ns) c = open_folded ns (after_end_of c n) ∙ open_if (ended_data (table.get c.spans n)) c.processor
 
 module _ {E : Type 0} (accepted : E → List (List SpanRecord)) (shuts_down : E → E → Type 0) (earlier : List SpanRecord) where
-  -- what holds after each event
+  -- the invariant after each event
   pub record Stands (s : RunState E) : Type 0 where
     pub agree : Agree s.history s.live
     pub before : ProcessorState E
@@ -77,7 +77,7 @@ module _ {E : Type 0} (accepted : E → List (List SpanRecord)) (shuts_down : E 
     pub lost : NothingLost accepted earlier (waiting s.history.spans s.history.ended)
         (of before s.live.spans) s.live.ended
 
-  -- the history and the live spans had the same ends more
+  -- the history and the live spans have the same additional ends
   moved : (h l k m : LiveState) (p : ProcessorState E) (more : List ℕ) → Agree h l → Keeps h.spans k.spans
       → Keeps l.spans m.spans → k.ended ≡ h.ended ++ more → m.ended ≡ l.ended ++ more
       → waiting k.spans more ≡ waiting m.spans more
@@ -171,7 +171,7 @@ module _ {E : Type 0} (accepted : E → List (List SpanRecord)) (shuts_down : E 
   stays_as : (a b : RunState E) → b ≡ a → Stands a → Stands b
   stays_as a b e h = subst (λ (x : RunState E). Stands x) (sym e) h
 
-  -- a processor that stands itself for the one before its shutdown
+  -- a processor that is itself the processor before its shutdown
   as_open : (a : RunState E) → (h : Stands a) → a.processor ≡ h.before
       → NothingLost accepted earlier (waiting a.history.spans a.history.ended) (of a.processor a.live.spans) a.live.ended
   as_open a h e = subst (λ (p : ProcessorState E).
@@ -199,7 +199,7 @@ module _ {E : Type 0} (accepted : E → List (List SpanRecord)) (shuts_down : E 
     | inr shut ↦ stays_as a b (got.closed (ap (λ (p : ProcessorState E). p.is_shut_down) shut.2)) h
   ]
 
-  -- the queue was flushed, of a processor that may then have been shut down
+  -- the queue was flushed, and then the processor may have been shut down
   flushed-stands : (a : RunState E) (f p : ProcessorState E) → IsFlushed accepted a.processor f → (h : Stands a)
       → a.processor ≡ h.before → WasOpen shuts_down f p → Stands (record a { processor = p })
   flushed-stands a f p flushed h same is_open = record {
@@ -315,7 +315,7 @@ module _ {E : Type 0} (accepted : E → List (List SpanRecord)) (shuts_down : E 
     plays-stands (e ∷ es) (o ∷ os) a b f h =
         plays-stands es os f.0 b f.2 (follows-stands e o a f.0 f.1 h)
 
-    -- one event more
+    -- one more event
     pub plays-push : (es : List SpanEvent) (os : List EventOutcome) (a b c : RunState E) (e : SpanEvent) (o : EventOutcome)
         → Plays accepted shuts_down may_start es os a b → Follows accepted shuts_down may_start e o b c
         → Plays accepted shuts_down may_start (es ++ e ∷ []) (os ++ o ∷ []) a c

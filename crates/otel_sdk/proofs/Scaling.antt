@@ -28,7 +28,7 @@ scale_away m e n d small h =
     scale_down m e n below
     ∙ div-eq_of_lt (lt_of_lt_of_le small (pow-le-pow_right (pow_pos 1) room))
 
--- less than 2 ^ d, shifted so that it stays below 2 ^ n
+-- a number below 2 ^ d, shifted so that it stays below 2 ^ n
 pub scale_below : (m k d n : ℕ) → m < 2 ^ d → k + d ≤ n → m * 2 ^ k < 2 ^ n
 scale_below m k d n small h =
     lt_of_lt_of_le (mul-lt-mul_of_pos_right small (pow_pos k))

@@ -1,4 +1,4 @@
--- A span that records is the one that starts.
+-- A span that records is a span that starts.
 use Rattle.std.proofs.Common.{◌≡◌, ℕ, Bool, true, Option, sym, subst, ◌∙◌}
 use Rattle.std.specs.Option.{unwrap_or}
 use Rattle.std.proofs.lemmas.Bool.{cond-true}

@@ -1,4 +1,4 @@
--- How the ended spans of a table get to a processor.
+-- How a processor collects the ended spans of a table.
 use Rattle.std.specs.Prelude.{◌≡◌, ◌⊎◌, ℕ, ◌-◌, ◌^◌, ◌≤◌, min, Bool, false, true, List, ◌++◌}
 use Rattle.std.specs.Prelude.{[], ◌∷◌, length, take, drop, ◌==◌}
 use Rattle.std.specs.Prelude.{map, fold, Option, Some, None, if◌then◌else◌}
@@ -11,12 +11,12 @@ use Rattle.otel_sdk_base.specs.declared.error.OTelSdkError.{OTelSdkError}
 use Rattle.otel_sdk_span.specs.Span.{SpanState}
 use Rattle.otel_sdk_span.specs.SpanData.{SpanRecord}
 
--- whether there is such a span and it has ended
+-- whether the span exists and has ended
 abbrev pub is_ended : Option SpanState → Bool
 is_ended None = false
 is_ended (Some s) = s.has_ended
 
--- what such a span has recorded, if it has ended and recorded at all
+-- the recorded data of the span, if it has ended and has recorded any
 abbrev pub ended_data : Option SpanState → Option SpanRecord
 ended_data None = None
 ended_data (Some s) = if s.has_ended then s.recorded else None
@@ -36,13 +36,13 @@ abbrev pub exported : Option SpanRecord → Option SpanRecord
 exported None = None
 exported (Some span) = if is_sampled span then Some span else None
 
--- The sampled spans that have ended and aren't collected: those of the table under these numbers,
--- in this order.
+-- The sampled spans that have ended and aren't collected: the spans of the table under these
+-- numbers, in this order.
 abbrev pub waiting : SpansState SpanState → List ℕ → List SpanRecord
 waiting spans numbers =
     filter_map (λ number. exported (ended_data (table.get spans number))) numbers
 
--- each number is that of a span that has ended, and no number occurs twice
+-- each number is the number of an ended span, and no number occurs twice
 pub record AreListed (spans : SpansState SpanState) (numbers : List ℕ) : Type 0 where
   pub ended : AllByRecursion (λ number. is_ended (table.get spans number) ≡ true) numbers
   pub distinct : IsDistinct ◌==◌ numbers
@@ -60,13 +60,13 @@ kept f = if f.is_dropped then None else Some f.span
 abbrev pub dropped : Fate → Option SpanRecord
 dropped f = if f.is_dropped then Some f.span else None
 
--- a processor, and the table whose spans it takes
+-- a processor, and the table whose spans it collects
 pub record Collecting (E : Type 0) : Type 0 where
   pub processor : ProcessorState E
   pub spans : SpansState SpanState
 
 module _ {E : Type 0} where
-  -- these two
+  -- the record of the two
   abbrev pub of : ProcessorState E → SpansState SpanState → Collecting E
   of processor spans = record { processor = processor; spans = spans }
 
@@ -75,28 +75,28 @@ module _ {E : Type 0} where
   after_end_if None p = p
   after_end_if (Some span) p = after_end span p
 
-  -- The span under the number leaves the table if it has ended, and its data is handed in.
+  -- If the span under the number has ended, it is removed from the table and its data is handed in.
   abbrev pub after_end_of : Collecting E → ℕ → Collecting E
   after_end_of c number = record {
     processor = after_end_if (ended_data (table.get c.spans number)) c.processor;
     spans = without_ended c.spans number;
   }
 
-  -- The first of the numbers were handed in, in order and each once, and the others are left.
+  -- The spans under the first numbers were handed in, in order and each once. The other numbers are
+  -- left.
   pub record AreCollected (numbers left : List ℕ) (old new : Collecting E) : Type 0 where
-    -- how many
+    -- the number of such spans
     pub count : ℕ
     pub within : count ≤ length numbers
     pub rest : left ≡ drop count numbers
     pub handed_in : new ≡ fold after_end_of old (take count numbers)
 
-  -- Of the sampled spans that ended, in the order of their ends, each is in exactly one place:
-  -- taken (accepted by the exporter after what that had accepted earlier, or queued), waiting, or
-  -- dropped and counted. Those taken, followed by those that wait, are in that order (OpenTelemetry
-  -- trace SDK, "Span processor").
+  -- Each sampled span that ended is in exactly one place: received (accepted by the exporter after
+  -- the earlier spans, or queued), waiting, or dropped and counted. The received spans, followed by
+  -- the waiting ones, are in the order of their ends (OpenTelemetry trace SDK, "Span processor").
   pub record NothingLost (accepted : E → List (List SpanRecord)) (earlier ends : List SpanRecord)
       (c : Collecting E) (numbers : List ℕ) : Type 0 where
-    -- what became of those that were collected
+    -- the fates of the collected spans
     pub fates : List Fate
     pub ended : ends ≡ map (λ f. f.span) fates ++ waiting c.spans numbers
     pub received : (received_of accepted c.processor).items ≡ earlier ++ filter_map kept fates
@@ -108,7 +108,7 @@ module _ {E : Type 0} where
   LosesNothing accepted numbers left old new = (earlier ends : List SpanRecord)
       → NothingLost accepted earlier ends old numbers → NothingLost accepted earlier ends new left
 
-  -- The first batches of the queue were accepted, and the table stays.
+  -- The first batches of the queue were accepted, and the table is unchanged.
   pub record OnlyFlushes (accepted : E → List (List SpanRecord)) (old new : Collecting E)
       : Type 0 where
     pub flushed : IsFlushed accepted old.processor new.processor
@@ -118,7 +118,7 @@ module _ {E : Type 0} where
   abbrev pub IsHandedOn : (E → List (List SpanRecord)) → ℕ → Collecting E → Collecting E → Type 0
   IsHandedOn accepted number old new = OnlyFlushes accepted (after_end_of old number) new
 
-  -- Nothing changed, and the error says why; or the span under the number was handed on.
+  -- Nothing changed, and the error is the reason; or the span under the number was handed on.
   abbrev pub IsRefusedOrHandedOn : (E → List (List SpanRecord)) → ℕ → Collecting E → Collecting E
       → OTelSdkError → Type 0
   IsRefusedOrHandedOn accepted number old new error =
@@ -133,10 +133,11 @@ module _ {E : Type 0} where
       × OnlyFlushes accepted old between × (between.processor.queue ≡ [])
       × EachIsHandedOn accepted numbers (after_end_of between number) new
 
-  -- The first of the numbers were handed on, in order and each once, and the others are left.
+  -- The spans under the first numbers were handed on, in order and each once. The other numbers are
+  -- left.
   pub record AreHandedOn (accepted : E → List (List SpanRecord)) (numbers left : List ℕ)
       (old new : Collecting E) : Type 0 where
-    -- how many
+    -- the number of such spans
     pub count : ℕ
     pub within : count ≤ length numbers
     pub rest : left ≡ drop count numbers

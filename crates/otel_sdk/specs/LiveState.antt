@@ -8,12 +8,12 @@ use Rattle.otel_context.specs.Spans.{SpansState}
 use Rattle.otel_context.specs.SpanCalls.{after_effect}
 use Rattle.otel_sdk_span.specs.Span.{SpanState, after_end}
 
--- the spans, and the numbers of those that have ended, in the order of their ends
+-- the spans, and the numbers of the ended spans, in the order of their ends
 pub record LiveState : Type 0 where
   pub spans : SpansState SpanState
   pub ended : List ℕ
 
--- a code of live states: that of the pair of the two fields
+-- a code of live states: the code of the pair of the two fields
 abbrev pub live_code : Coded SpanState → Coded LiveState
 live_code span_code = code_by (SpansState SpanState × List ℕ)
     (coded× (spans_code span_code) (coded_list coded_ℕ))
@@ -35,8 +35,8 @@ with_changed change number live = record live {
   spans = after_effect change live.spans (Some number);
 }
 
--- the span, which stands under the number, ended at that moment, after all others; if it had
--- already ended, or if there is none, nothing changed
+-- The state after an end at this time of the span that is under the number. The span is the last
+-- one to end. If it had already ended, or if there is none, nothing changes.
 abbrev pub with_end_of : Option SpanState → ℕ → ℕ → LiveState → LiveState
 with_end_of None number time live = live
 with_end_of (Some s) number time live = if s.has_ended then live else record {
@@ -44,6 +44,6 @@ with_end_of (Some s) number time live = if s.has_ended then live else record {
   ended = live.ended ++ number ∷ [];
 }
 
--- the span under the number has ended at that moment
+-- the state after an end at this time of the span under the number
 abbrev pub with_ended : ℕ → ℕ → LiveState → LiveState
 with_ended number time live = with_end_of (table.get live.spans number) number time live

@@ -1,4 +1,4 @@
--- The sampler that follows the parent.
+-- The sampler that follows the parent's decision.
 use Rattle.std.specs.Prelude.{◌≡◌, ℕ, List, string_bytes}
 use Rattle.std.specs.declared.string.String.{String}
 use Rattle.otel_sdk.specs.Sampler.{parent_based_text}

@@ -1,4 +1,4 @@
--- Which parent each span of a run has. Not in the Rust crate.
+-- The parent of each span of a run. Not in the Rust crate.
 use Rattle.std.specs.Prelude.{◌≡◌, ◌⊎◌, ◌<◌, ℕ, Bool, false, List, [], ◌∷◌, Option, Some, None}
 use Rattle.std.specs.List.{flat_map}
 use Rattle.otel_context.specs.Context.{ContextRecord, SpanPart}
@@ -24,20 +24,20 @@ abbrev pub IsInTrace : Option SpanContextRecord → SpanContextRecord → Type 0
 IsInTrace None own = Unit {0}
 IsInTrace (Some parent) own = (own ≡ no_span_context) ⊎ (own.trace_id ≡ parent.trace_id)
 
--- What is recorded has the trace id and the span id of the parent, and whether that is remote; a
--- root has the parent's span id 0.
+-- The recorded data has the parent's trace id, its span id, and whether it is remote. A root has
+-- the parent span id 0.
 abbrev pub IsChild : Option SpanContextRecord → SpanRecord → Type 0
 IsChild None span = (span.parent_span_id ≡ 0) × (span.parent_span_is_remote ≡ false)
 IsChild (Some parent) span = (span.span_context.trace_id ≡ parent.trace_id)
     × (span.parent_span_id ≡ parent.span_id) × (span.parent_span_is_remote ≡ parent.is_remote)
 
--- the same of a span, if it has recorded something; that has its own span context
+-- the same for a span that has recorded data; the data has the span's own span context
 abbrev pub IsChildIfRecorded : Option SpanContextRecord → SpanContextRecord → Option SpanRecord
     → Type 0
 IsChildIfRecorded parent own None = Unit {0}
 IsChildIfRecorded parent own (Some span) = (span.span_context ≡ own) × IsChild parent span
 
--- a span under that parent, or a root
+-- a span under this parent, or a root
 pub record IsUnder (parent : Option SpanContextRecord) (span : SpanState) : Type 0 where
   pub trace : IsInTrace parent span.context
   pub child : IsChildIfRecorded parent span.context span.recorded
@@ -59,12 +59,12 @@ given_by Shutdown = []
 abbrev pub given : List SpanEvent → List ContextRecord
 given events = flat_map given_by events
 
--- it is the active span of one of the contexts
+-- the span is the active span of one of the contexts
 abbrev pub IsActiveIn : List ContextRecord → Option SpanPart → Type 0
 IsActiveIn [] part = ⊥
 IsActiveIn (context ∷ contexts) part = (part ≡ context.span) ⊎ IsActiveIn contexts part
 
--- it is a span of the run with a number below that one
+-- the span is a span of the run with a number below the bound
 pub record IsOwn (spans : SpansState SpanState) (bound : ℕ) (part : Option SpanPart) : Type 0 where
   pub number : ℕ
   pub below : number < bound
@@ -72,8 +72,8 @@ pub record IsOwn (spans : SpansState SpanState) (bound : ℕ) (part : Option Spa
   pub found : table.get spans number ≡ Some span
   pub same : part ≡ Some (record { context = span.context; number = Some number })
 
--- The active span of a context: none, that of a given context, or a span of the run that was
--- started earlier.
+-- The active span of a context is none, the active span of a given context, or a span of the run
+-- that was started earlier.
 abbrev pub ComesFrom : List ContextRecord → SpansState SpanState → ℕ → ContextRecord → Type 0
 ComesFrom contexts spans bound context = (context.span ≡ None)
     ⊎ (IsActiveIn contexts context.span ⊎ IsOwn spans bound context.span)
@@ -87,18 +87,18 @@ pub record IsStartedUnder (contexts : List ContextRecord) (spans : SpansState Sp
   pub under : IsUnder (parent_of parent) span
   pub origin : ComesFrom contexts spans number parent
 
--- this of each span
+-- the same for each span
 abbrev pub HaveParents : List ContextRecord → SpansState SpanState → SpansState ContextRecord
     → Type 0
 HaveParents contexts spans parents = (number : ℕ) (span : SpanState)
     → table.get spans number ≡ Some span → IsStartedUnder contexts spans parents number span
 
--- each span that may start is under its parent
+-- each span that may be started is under its parent
 abbrev pub StartChildren : (BuilderRecord → ContextRecord → SpanState → Type 0) → Type 0
 StartChildren may_start = (builder : BuilderRecord) (parent : ContextRecord) (span : SpanState)
     → may_start builder parent span → IsUnder (parent_of parent) span
 
--- this of the tracers of a provider
+-- the same for the tracers of a provider
 abbrev pub TracersStartChildren : Type 0
 TracersStartChildren = (answer : Asked → Answer) (random : Bool) (limits : SpanLimits) (scope : Scope)
     → StartChildren (MayBuild answer random limits scope)

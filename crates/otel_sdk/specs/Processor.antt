@@ -1,4 +1,4 @@
--- What the end of a span does to a processor.
+-- The effect of a span's end on a processor.
 use Rattle.std.specs.Prelude.{◌≡◌, Bool, List, MatchBool, MatchOption, Option, if◌then◌else◌}
 use Rattle.otel_ids.specs.TraceFlags as flags
 use Rattle.otel_sdk_base.specs.Queue.{IsFlushed, IsKeptOrDropped, QueueState, Received, after_add}
@@ -10,7 +10,7 @@ use Rattle.otel_sdk_span.specs.SpanData.{SpanRecord}
 abbrev pub is_sampled : SpanRecord → Bool
 is_sampled span = flags.is_sampled span.span_context.trace_flags
 
--- A sampled span is kept, as the last one, or dropped and counted; any other is dropped.
+-- A sampled span is kept, as the last one, or dropped and counted. Any other span is dropped.
 abbrev pub IsHandedIn : SpanRecord → Received SpanRecord → Received SpanRecord → Type 0
 IsHandedIn span old new = MatchBool (is_sampled span) (IsKeptOrDropped span old new) (new ≡ old)
 
@@ -20,17 +20,17 @@ abbrev pub IsHandedInOrReturned : SpanRecord → Received SpanRecord → Receive
 IsHandedInOrReturned span old new returned =
     MatchOption returned (IsHandedIn span old new) (λ back. (back ≡ span) × (new ≡ old))
 
--- what a processor of spans with a queue keeps
+-- the state of a span processor with a queue
 abbrev pub ProcessorState : Type 0 → Type 0
 ProcessorState E = QueueState SpanRecord E
 
--- after the end of a span: a sampled one is queued last, or dropped and counted if the queue is
--- full; any other is dropped (OpenTelemetry trace SDK, "Batching processor")
+-- The processor after the end of a span. A sampled span is queued last, or dropped and counted if
+-- the queue is full. Any other span is dropped (OpenTelemetry trace SDK, "Batching processor").
 abbrev pub after_end : {E : Type 0} → SpanRecord → ProcessorState E → ProcessorState E
 after_end span p = if is_sampled span then after_add span p else p
 
--- The end of the span counts and the queue was flushed, or the span is returned: nothing changed,
--- and the error says why.
+-- Either the span was handed in and the queue was flushed, or the span is returned. In the second
+-- case nothing changed, and the error is the reason.
 abbrev pub IsFlushedOrReturned : {E : Type 0} → (E → List (List SpanRecord)) → SpanRecord
     → ProcessorState E → ProcessorState E → Option SpanRecord → OTelSdkError → Type 0
 IsFlushedOrReturned accepted span old new returned error =

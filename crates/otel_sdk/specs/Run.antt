@@ -1,4 +1,4 @@
--- What a run of events over the spans of a program means. Not in the Rust crate.
+-- The meaning of a run of events over the spans of a program. Not in the Rust crate.
 use Rattle.std.specs.Prelude.{◌≡◌, ◌⊎◌, true, false, List, [], ◌∷◌, alloc_error, IsTrue}
 use Rattle.otel_context.specs.Context.{ContextRecord, with_span}
 use Rattle.otel_context.specs.Spans.{SpansState, insert, starting_at, used_up}
@@ -28,10 +28,10 @@ use Rattle.otel_sdk.specs.declared.trace.program.event.EventOutcome.{EventOutcom
 use Rattle.otel_sdk.specs.declared.trace.program.event.EventOutcome.TheVariants.{Done, NumbersUsedUp}
 use Rattle.otel_sdk.specs.declared.trace.program.event.EventOutcome.TheVariants.{NotAttached, Failed}
 
--- The history of a run has each span that was started, also after a processor took it, and the
--- numbers of all that ended, in the order of their ends. The live spans are those that no processor
--- has taken. The stack has the contexts that are attached, each at its position. Under the number
--- of each span of the history stands the context that it was started under.
+-- The history of a run has each span that was started, even after a processor collected it, and
+-- the numbers of all ended spans, in the order of their ends. The live spans are the spans that no
+-- processor has collected. The stack has the attached contexts, each at its position. The parents
+-- have, under the number of each span of the history, the context under which it was started.
 pub record RunState (E : Type 0) : Type 0 where
   pub history : LiveState
   pub parents : SpansState ContextRecord
@@ -39,20 +39,20 @@ pub record RunState (E : Type 0) : Type 0 where
   pub stack : Live
   pub processor : ProcessorState E
 
--- the outcome of a start that is refused for that reason
+-- the outcome of a start that failed for this reason
 abbrev pub outcome_of : SpanCause → EventOutcome
 outcome_of cause_of.NumbersUsedUp = NumbersUsedUp
 outcome_of (cause_of.Memory error) = Failed (Memory error)
 
--- One of the spans that may start was started, or an error says why not; then nothing changed.
+-- One of the spans that may be started was started; or there is an error, and nothing changed.
 abbrev pub StartsOne : (SpanState → Type 0) → LiveState → LiveState → EventOutcome → Type 0
 StartsOne May old new Done = (span : SpanState) × May span × (new ≡ with_started span old)
 StartsOne May old new NumbersUsedUp = (old.spans.next_number ≡ used_up) × (new ≡ old)
 StartsOne May old new NotAttached = ⊥
 StartsOne May old new (Failed error) = (error ≡ Memory alloc_error) × (new ≡ old)
 
--- The context was attached, or was not, as the greatest position is live or for an error: then
--- nothing changed.
+-- The context was attached; or it was not, because the greatest position is in use or because of an
+-- error, and nothing changed.
 abbrev pub AttachesOne : ContextRecord → Live → Live → EventOutcome → Type 0
 AttachesOne context old new Done = new ≡ stack.attach context old
 AttachesOne context old new NumbersUsedUp = ⊥
@@ -60,13 +60,14 @@ AttachesOne context old new NotAttached =
     (stack.newest_position old ≡ stack.last_position) × (new ≡ old)
 AttachesOne context old new (Failed error) = (error ≡ Memory alloc_error) × (new ≡ old)
 
--- the current context, with the span as its active one, under the next number of the live spans
+-- the current context, in which the span with the next number of the live spans is active
 abbrev pub active_context : SpanState → LiveState → Live → ContextRecord
 active_context span live contexts =
     with_span (stack.current contexts) span.context live.spans.next_number
 
--- One span was started, of those that may under the current context, and that context was attached
--- with it, or was not; or an error says why no span was started: then nothing changed.
+-- One of the spans that may be started under the current context was started, and that context was
+-- attached with the span as its active one, or was not attached; or there is an error, and nothing
+-- changed.
 abbrev pub StartsActive : (ContextRecord → SpanState → Type 0) → LiveState → Live → LiveState → Live
     → EventOutcome → Type 0
 StartsActive May old contexts new after Done = (span : SpanState)
@@ -80,7 +81,7 @@ StartsActive May old contexts new after (Failed error) =
     (error ≡ Memory alloc_error) × (new ≡ old) × (after ≡ contexts)
 
 module _ {E : Type 0} where
-  -- these five
+  -- the record of the five
   abbrev pub state_of : LiveState → SpansState ContextRecord → LiveState → Live → ProcessorState E
       → RunState E
   state_of history parents live contexts processor = record {
@@ -96,11 +97,11 @@ module _ {E : Type 0} where
   at_start exporter config =
       state_of no_spans (starting_at 0) no_spans [] (new_processor exporter config)
 
-  -- the history and the live spans changed so, and the rest stays
+  -- the change applied to the history and the live spans; the rest is unchanged
   abbrev pub with_both : (LiveState → LiveState) → RunState E → RunState E
   with_both change old = record old { history = change old.history; live = change old.live }
 
-  -- the span was started under that context
+  -- the span was started under this context
   abbrev pub with_child : ContextRecord → SpanState → RunState E → RunState E
   with_child parent span old = record old {
     history = with_started span old.history;
@@ -108,34 +109,36 @@ module _ {E : Type 0} where
     live = with_started span old.live;
   }
 
-  -- the stack is this one, and the rest stays
+  -- the stack is replaced, and the rest is unchanged
   abbrev pub with_stack : Live → RunState E → RunState E
   with_stack contexts old = record old { stack = contexts }
 
-  -- the first of the ended spans were handed to the processor, in the order of their ends; none if
-  -- it was shut down
+  -- The first of the ended spans were passed to the processor, in the order of their ends. If it
+  -- was shut down, nothing changed.
   pub record IsCollected (old new : RunState E) : Type 0 where
     pub same : new ≡ record old { live = new.live; processor = new.processor }
     pub collected : AreCollected old.live.ended new.live.ended
         (of old.processor old.live.spans) (of new.processor new.live.spans)
     pub closed : IsTrue old.processor.is_shut_down → new ≡ old
 
-  -- the first batches of the queue were accepted, in order; none if the processor was shut down
+  -- The first batches of the queue were accepted, in order. If the processor was shut down, nothing
+  -- changed.
   pub record IsExported (accepted : E → List (List SpanRecord)) (old new : RunState E)
       : Type 0 where
     pub flushed : IsFlushed accepted old.processor new.processor
     pub same : new ≡ record old { processor = new.processor }
     pub closed : IsTrue old.processor.is_shut_down → new ≡ old
 
-  -- The queue was exported whole, and the exporter and the processor were shut down.
+  -- The whole queue was exported, and the exporter and the processor were shut down.
   pub record IsShutDown (accepted : E → List (List SpanRecord)) (shuts_down : E → E → Type 0)
       (old new : RunState E) : Type 0 where
     pub was_open : old.processor.is_shut_down ≡ false
     pub closed : IsClosed accepted shuts_down old.processor new.processor
     pub same : new ≡ record old { processor = new.processor }
 
-  -- A shutdown failed with this error: the processor was shut down before, and nothing changed; or
-  -- the flush failed, and the processor is open; or its exporter failed, and it is shut down.
+  -- A shutdown failed with this error. Either the processor was shut down before, and nothing
+  -- changed; or the flush failed, and the processor is open; or the exporter failed, and the
+  -- processor is shut down.
   abbrev pub FailsToClose : (E → List (List SpanRecord)) → (E → E → Type 0) → OTelSdkError
       → RunState E → RunState E → Type 0
   FailsToClose accepted shuts_down error old new =
@@ -143,8 +146,8 @@ module _ {E : Type 0} where
       ⊎ (((new.processor.is_shut_down ≡ false) × IsExported accepted old new)
       ⊎ IsShutDown accepted shuts_down old new)
 
-  -- The processor is as it was, and wasn't shut down; or its exporter and it were shut down, with
-  -- an empty queue.
+  -- The processor was open before. Since then it is unchanged, or it and its exporter were shut
+  -- down with an empty queue.
   abbrev pub WasOpen : (E → E → Type 0) → ProcessorState E → ProcessorState E → Type 0
   WasOpen shuts_down before processor = (before.is_shut_down ≡ false) × ((processor ≡ before)
       ⊎ ((before.queue ≡ []) × shuts_down before.exporter processor.exporter
@@ -152,7 +155,8 @@ module _ {E : Type 0} where
 
   module _ (accepted : E → List (List SpanRecord)) (shuts_down : E → E → Type 0)
       (may_start : BuilderRecord → ContextRecord → SpanState → Type 0) where
-    -- the event took effect: each ended span was collected, each queued one exported
+    -- The event took effect. A collection collected each ended span; a flush or a shutdown exported
+    -- each queued span.
     abbrev pub Takes : SpanEvent → RunState E → RunState E → Type 0
     Takes (Start builder parent) old new = (span : SpanState)
         × may_start (builder_of builder) parent span × (new ≡ with_child parent span old)
@@ -171,8 +175,8 @@ module _ {E : Type 0} where
     Takes Flush old new = IsExported accepted old new × (new.processor.queue ≡ [])
     Takes Shutdown old new = IsShutDown accepted shuts_down old new
 
-    -- The event failed with this error: a collection or a flush did the first part, a shutdown that
-    -- or the whole, and any other event nothing. An end and a detach never fail.
+    -- The event failed with this error. A collection or a flush did a first part, a shutdown did a
+    -- first part or everything, and any other event did nothing. An end and a detach never fail.
     abbrev pub Fails : SpanEvent → OTelSdkError → RunState E → RunState E → Type 0
     Fails (Start builder parent) error old new = (error ≡ Memory alloc_error) × (new ≡ old)
     Fails (StartCurrent builder) error old new = (error ≡ Memory alloc_error) × (new ≡ old)
@@ -198,7 +202,7 @@ module _ {E : Type 0} where
     RunsOut Flush old new = ⊥
     RunsOut Shutdown old new = ⊥
 
-    -- the context wasn't attached; a span that was to be its active one was started
+    -- the context wasn't attached; the span of a `StartActive` was started
     abbrev pub StaysUnattached : SpanEvent → RunState E → RunState E → Type 0
     StaysUnattached (Start builder parent) old new = ⊥
     StaysUnattached (StartCurrent builder) old new = ⊥
@@ -214,14 +218,14 @@ module _ {E : Type 0} where
     StaysUnattached Flush old new = ⊥
     StaysUnattached Shutdown old new = ⊥
 
-    -- the event with this outcome
+    -- the effect of the event with this outcome
     abbrev pub Follows : SpanEvent → EventOutcome → RunState E → RunState E → Type 0
     Follows event Done old new = Takes event old new
     Follows event NumbersUsedUp old new = RunsOut event old new
     Follows event NotAttached old new = StaysUnattached event old new
     Follows event (Failed error) old new = Fails event error old new
 
-    -- the event with this outcome, whatever the history and the parents are
+    -- the effect of the event with this outcome, for any history and parents
     abbrev pub Applies : SpanEvent → EventOutcome → LiveState → Live → ProcessorState E
         → LiveState → Live → ProcessorState E → Type 0
     Applies event outcome live contexts processor after_live after_contexts after_processor =
@@ -230,7 +234,7 @@ module _ {E : Type 0} where
         × Follows event outcome (state_of history parents live contexts processor)
         (state_of after after_parents after_live after_contexts after_processor)
 
-    -- the events, in order, each with its outcome
+    -- the effects of the events, in order, each with its outcome
     abbrev pub Plays : List SpanEvent → List EventOutcome → RunState E → RunState E → Type 0
     Plays [] [] old new = new ≡ old
     Plays [] (outcome ∷ outcomes) old new = ⊥
@@ -239,8 +243,8 @@ module _ {E : Type 0} where
         × Follows event outcome old between × Plays events outcomes between new
 
     -- Each sampled span that ended in the history is in exactly one place: accepted by the exporter
-    -- before it was shut down, queued, ended and not collected, or dropped by a full queue and
-    -- counted. The first three, in this order, follow the order of the ends.
+    -- before its shutdown, queued, not collected, or dropped by a full queue and counted. The first
+    -- three, in this order, are in the order of the ends.
     pub record HasRun (exporter : E) (config : Limits) (events : List SpanEvent)
         (outcomes : List EventOutcome) (live : LiveState) (contexts : Live)
         (processor : ProcessorState E) : Type 0 where
@@ -253,6 +257,6 @@ module _ {E : Type 0} where
       pub was_open : WasOpen shuts_down before processor
       pub nothing_lost : NothingLost accepted (items_of (accepted exporter))
           (waiting history.spans history.ended) (of before live.spans) live.ended
-      -- each span has the trace id of its parent, and its parent's span id, if the tracer starts
-      -- such
+      -- If the tracer starts only children of their parents, each span has its parent's trace id,
+      -- and the parent's span id.
       pub have_parents : StartChildren may_start → HaveParents (given events) history.spans parents

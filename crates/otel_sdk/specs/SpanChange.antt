@@ -1,4 +1,4 @@
--- What a change does to a span. Not in the Rust crate.
+-- The effect of a change on a span. Not in the Rust crate.
 use Rattle.otel_base.specs.View.{attribute_of}
 use Rattle.otel_context.specs.SpanEffects.{attributes_of}
 use Rattle.otel_sdk_span.specs.Span.{SpanState, after_attribute, after_event, after_link}

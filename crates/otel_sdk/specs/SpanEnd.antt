@@ -1,4 +1,4 @@
--- What an end does to a span table. Not in the Rust crate.
+-- The effect of an end on a span table. Not in the Rust crate.
 use Rattle.std.specs.Prelude.{◌≡◌, ℕ, Bool, false, not, Option, Some, None}
 use Rattle.otel_context.specs.Spans as table
 use Rattle.otel_context.specs.Spans.{SpansState}
@@ -9,7 +9,7 @@ abbrev pub is_running : Option SpanState → Bool
 is_running None = false
 is_running (Some s) = not s.has_ended
 
--- the span under the number ran, and has now ended at that moment
+-- the span under the number was running, and has now ended at this time
 pub record EndsNow (old : SpansState SpanState) (number time : ℕ) (new : SpansState SpanState)
     : Type 0 where
   pub span : SpanState
@@ -17,7 +17,7 @@ pub record EndsNow (old : SpansState SpanState) (number time : ℕ) (new : Spans
   pub ran : span.has_ended ≡ false
   pub ended : new ≡ table.replace old number (after_end span time)
 
--- no span under the number ran, and nothing changed
+-- no span under the number was running, and nothing changed
 pub record EndsNothing (old : SpansState SpanState) (number : ℕ) (new : SpansState SpanState)
     : Type 0 where
   pub same : new ≡ old

@@ -27,7 +27,7 @@ abbrev pub parent_of : ContextRecord → Option SpanContextRecord
 parent_of context =
     if has_parent (span_context context) then Some (span_context context) else None
 
--- The trace id of a span: its parent's, or for a root any but 0.
+-- The trace id of a span: its parent's, or, for a root, any id but 0.
 abbrev pub IsTraceId : Option SpanContextRecord → ℕ → Type 0
 IsTraceId None id = id ≢ 0
 IsTraceId (Some parent) id = id ≡ parent.trace_id
@@ -46,7 +46,7 @@ parent_is_remote (Some parent) = parent.is_remote
 abbrev pub is_random : ℕ → Bool
 is_random flags = flags / 2 % 2 == 1
 
--- Whether the trace id is random: as the parent's flags say, or for a root as the generator says.
+-- Whether the trace id is random, according to the parent's flags, or, for a root, the generator.
 abbrev pub has_random_id : Option SpanContextRecord → Bool → Bool
 has_random_id None random = random
 has_random_id (Some parent) random = is_random parent.trace_flags
@@ -63,14 +63,14 @@ samples Drop = false
 samples RecordOnly = false
 samples RecordAndSample = true
 
--- The flags of a span: bit 0 is set if it is exported, bit 1 if its trace id is random, and no
--- other bit is [W3C trace-context-2, "trace-flags"].
+-- The flags of a span: bit 0 is set if it is exported, and bit 1 if its trace id is random. No
+-- other bit is set [W3C trace-context-2, "trace-flags"].
 abbrev pub flags_of : SamplingDecision → Bool → ℕ
 flags_of decision random = (if samples decision then 1 else 0) + (if random then 2 else 0)
 
--- ---- what a span starts with
+-- ---- the start of a span
 
--- what is given, or nothing
+-- the given list, or an empty one
 abbrev pub listed : {X : Type 0} → Option (List X) → List X
 listed given = unwrap_or given []
 
@@ -78,7 +78,7 @@ listed given = unwrap_or given []
 abbrev pub kind_of : Option SpanKind → SpanKind
 kind_of kind = unwrap_or kind Internal
 
--- what the sampler is asked about a span of that trace
+-- the question to the sampler about a span of this trace
 abbrev pub asked : BuilderRecord → ContextRecord → ℕ → Asked
 asked builder context trace_id = record {
   parent = context;
@@ -89,7 +89,7 @@ asked builder context trace_id = record {
   links = listed builder.links;
 }
 
--- the span context of these ids: local, with the flags of the decision and that trace state
+-- the span context with these ids: local, with the flags of the decision and this trace state
 abbrev pub span_context_of : ℕ → ℕ → SamplingDecision → Bool → List Pair → SpanContextRecord
 span_context_of trace_id span_id decision random trace_state = record {
   trace_id = trace_id;
@@ -99,8 +99,8 @@ span_context_of trace_id span_id decision random trace_state = record {
   trace_state = trace_state;
 }
 
--- What a span starts with at that moment: what its builder gives, the sampler's attributes after
--- the builder's [the Rust crate's `build_recording_span`].
+-- The data of a span that starts at this time: the builder's parts, with the sampler's attributes
+-- after the builder's [the Rust crate's `build_recording_span`].
 abbrev pub given_data : Scope → BuilderRecord → Option SpanContextRecord → SpanContextRecord
     → List Attribute → ℕ → SpanRecord
 given_data scope builder parent context sampled start = record {
@@ -125,12 +125,12 @@ given_data scope builder parent context sampled start = record {
 abbrev pub silent : SpanState
 silent = unrecorded no_span_context
 
--- the span without new ids: it doesn't record, and has the parent's span context if it has a parent
+-- the span without new ids: it doesn't record, and has its parent's span context if there is one
 abbrev pub without_ids : Option SpanContextRecord → SpanState
 without_ids None = silent
 without_ids (Some parent) = unrecorded parent
 
--- the span of that decision: one that is dropped has its span context and nothing more
+-- the span with this decision: a dropped one has only its span context
 abbrev pub decided : SamplingDecision → SpanLimits → SpanRecord → SpanState
 decided decision limits d =
     if records decision then started limits d else unrecorded d.span_context
@@ -145,7 +145,7 @@ pub record TracerState (S G : Type 0) : Type 0 where
   pub limits : SpanLimits
   pub scope : Scope
 
--- The span with these ids that starts from a builder under a parent context at the moment `now`,
+-- The span with these ids that starts from a builder under a parent context at the time `now`,
 -- given the sampler's answers and whether the generator's ids are random.
 abbrev pub started_span : (Asked → Answer) → Bool → SpanLimits → Scope → BuilderRecord
     → ContextRecord → ℕ → ℕ → ℕ → SpanState
@@ -158,14 +158,14 @@ started_span answer random limits scope builder context trace_id span_id now =
     decided answered.decision limits
     (given_data scope builder parent own answered.attributes start)
 
--- the span records, and started at some moment
+-- the span records, and started at some time
 abbrev pub Records : SpanLimits → Scope → BuilderRecord → Option SpanContextRecord
     → SpanContextRecord → List Attribute → SpanState → Type 0
 Records limits scope builder parent context sampled span = (now : ℕ)
     × (span ≡ started limits
     (given_data scope builder parent context sampled (unwrap_or builder.start_time now)))
 
--- the span has these ids, and started at some moment
+-- the span has these ids, and started at some time
 abbrev pub StartsWith : (Asked → Answer) → Bool → SpanLimits → Scope → BuilderRecord
     → ContextRecord → ℕ → ℕ → SpanState → Type 0
 StartsWith answer random limits scope builder context trace_id span_id span = (now : ℕ)
@@ -178,9 +178,9 @@ MayStart answer random limits scope builder context span = (trace_id : ℕ) × (
     × IsTraceId (parent_of context) trace_id × (span_id ≢ 0)
     × StartsWith answer random limits scope builder context trace_id span_id span
 
--- The spans that a tracer may start. Under suppressed telemetry: only the silent one. Otherwise:
--- the silent one if the provider is shut down, one without new ids if the generator fails (no
--- contract sees either), or one that starts.
+-- The spans that a tracer may start. Under suppressed telemetry: only the silent span. Otherwise:
+-- the silent span if the provider is shut down, a span without new ids if the generator fails (no
+-- contract sees either condition), or a span with new ids.
 abbrev pub MayBuild : (Asked → Answer) → Bool → SpanLimits → Scope → BuilderRecord → ContextRecord
     → SpanState → Type 0
 MayBuild answer random limits scope builder context span =
@@ -204,7 +204,7 @@ pub record ProviderState (S G : Type 0) : Type 0 where
   pub limits : SpanLimits
   pub resource : Parts
 
--- a provider under construction; `None` stands for the default resource
+-- a provider under construction; `None` means the default resource
 pub record ProviderParts (S G : Type 0) : Type 0 where
   pub sampler : S
   pub id_generator : G
@@ -212,7 +212,7 @@ pub record ProviderParts (S G : Type 0) : Type 0 where
   pub resource : Option Parts
 
 module _ {S G : Type 0} where
-  -- the tracer of a provider for that scope
+  -- the provider's tracer for this scope
   abbrev pub tracer_of : ProviderState S G → Scope → TracerState S G
   tracer_of provider scope = record {
     sampler = provider.sampler;
@@ -221,7 +221,7 @@ module _ {S G : Type 0} where
     scope = scope;
   }
 
-  -- the provider of these parts
+  -- the provider with these parts
   abbrev pub provider_of : ProviderParts S G → ProviderState S G
   provider_of parts = record {
     sampler = parts.sampler;

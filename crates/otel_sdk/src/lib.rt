@@ -1,5 +1,5 @@
 //! A tracing SDK after the Rust crate `opentelemetry_sdk`: providers whose tracers start spans,
-//! resources, and the way of ended spans to an exporter.
+//! resources, and processors that pass ended spans to an exporter.
 #![tactic(auto)]
 
 pub mod laws;

@@ -1,5 +1,5 @@
-//! Providers, tracers, spans and what they record, exporters and processors, samplers, generators
-//! of ids, and clocks.
+//! Providers, tracers, spans and their recorded data, exporters and processors, samplers,
+//! generators of ids, and clocks.
 mod change;
 mod id_generator;
 mod in_memory_exporter;

@@ -1,4 +1,4 @@
-//! The changes of a span before its end, and its end.
+//! Changes to a span before its end, and its end.
 ghost use Rattle.std.specs.Prelude.{◌≡◌, Some, OnOk, OnErr, MatchBool};
 ghost use Rattle.otel_context.specs.SpanCalls.{after_effect};
 ghost use Rattle.otel_sdk.specs.SpanEnd.{EndsNow, EndsNothing};
@@ -9,28 +9,28 @@ use opentelemetry::{KeyValue, StringValue};
 use otel_sdk_span::SdkSpan;
 use std::alloc::{AllocError, Global};
 
-/// One change of a span. Not in the Rust crate, where each is a call of the span.
+/// One change to a span. Not in the Rust crate, where each change is a call on the span.
 ///
 /// See [`crate::trace::LiveSpans::change`].
 #[derive(Debug, Drop)]
 pub enum SpanChange {
-    /// Set the attribute.
+    /// Sets the attribute.
     SetAttribute(KeyValue),
-    /// Add an event with this name, at this moment in nanoseconds since 1970, with the attributes.
+    /// Adds an event with this name, this time in nanoseconds since 1970, and these attributes.
     AddEvent(StringValue, u64, Vec<KeyValue>),
-    /// Add a link to this span context, with the attributes.
+    /// Adds a link to this span context, with these attributes.
     AddLink(SpanContext, Vec<KeyValue>),
-    /// Set the status.
+    /// Sets the status.
     SetStatus(Status),
-    /// Replace the name.
+    /// Replaces the name.
     UpdateName(StringValue),
 }
 
-/// Makes the change.
+/// Applies the change to the span.
 ///
 /// # Errors
 ///
-/// Returns an error if memory runs out. The span is then unchanged.
+/// `AllocError` if out of memory. The span is unchanged.
 pub(crate) fn make_change(
     alloc: Global,
     span: &mut SdkSpan,
@@ -58,11 +58,11 @@ pub(crate) fn make_change(
     }
 }
 
-/// Makes the change to the span with the number, if there is one.
+/// Applies the change to the span with this number, if there is one.
 ///
 /// # Errors
 ///
-/// Returns an error if memory runs out. The spans are then unchanged.
+/// `AllocError` if out of memory. The spans are unchanged.
 pub(crate) fn change_in(
     alloc: Global,
     spans: &mut Spans<SdkSpan>,
@@ -82,7 +82,8 @@ pub(crate) fn change_in(
     }
 }
 
-/// Ends the span with the number if there is one and it hasn't ended. Returns whether it did.
+/// Ends the span with this number if there is one and it hasn't ended. Returns `true` if this call
+/// ended it.
 pub(crate) fn end_in(spans: &mut Spans<SdkSpan>, number: u64, timestamp: u64) -> bool
     ensures { MatchBool result (EndsNow spans.old number timestamp spans.new)
         (EndsNothing spans.old number spans.new) }

@@ -1,4 +1,4 @@
-//! The exporter that keeps spans in memory.
+//! An exporter that keeps spans in memory.
 ghost use Rattle.std.specs.Prelude.{◌≡◌, IfOk};
 ghost use Rattle.otel_sdk_base.specs.Export.{items_of};
 
@@ -9,20 +9,21 @@ use std::alloc::AllocError;
 /// Keeps copies of the spans that it accepts, for tests (the Rust crate's `InMemorySpanExporter`).
 ///
 /// ```
-/// let exporter = InMemorySpanExporter::new(alloc);
+/// let processor = SimpleSpanProcessor::new(alloc, InMemorySpanExporter::new(alloc));
+/// let spans = processor.exporter().get_finished_spans()?;
 /// ```
 pub type InMemorySpanExporter = InMemoryExporter<SpanData>;
 
 /// The method `get_finished_spans` of an [`InMemorySpanExporter`].
 ///
-/// The ghost member `finished` names the batches that it has.
+/// Implementors define the ghost function `finished`: the batches that the exporter keeps.
 pub trait FinishedSpans {
     ghost use Rattle.std.specs.Prelude.{List};
     ghost use Rattle.otel_sdk_span.specs.SpanData.{SpanRecord};
 
     ghost finished: { Self → List (List SpanRecord) };
 
-    /// Returns copies of the spans that it has, in order.
+    /// Returns copies of the spans that the exporter keeps, in order.
     ///
     /// # Errors
     ///

@@ -1,4 +1,4 @@
-//! The spans of a program until a processor takes them.
+//! The spans of a program until a processor collects them.
 ghost use Rattle.std.specs.Prelude.{◌≡◌, ◌≤◌, false, [], OnOk, OnErr, IfOk, IfErr, IsErr};
 ghost use Rattle.std.specs.Prelude.{IsTrue, None, Some, option_copied};
 ghost use Rattle.std.specs.Vec.{vec_capacity};
@@ -21,14 +21,12 @@ use otel_sdk_span::{SdkSpan, SpanExporter};
 use std::alloc::{AllocError, Global};
 use std::marker::Model;
 
-/// The spans of a program until a processor takes them, and the numbers of those that have ended,
-/// in the order of their ends. Not in the Rust crate, whose spans go to a processor when they end.
+/// The spans of a program until a processor collects them, and the numbers of the ended spans, in
+/// the order of their ends. Not in the Rust crate, whose spans go to a processor when they end.
 ///
-/// Room for the number of a span is taken when it starts, so its end takes no memory.
+/// Space for the span's number is reserved at start, so ending a span never allocates.
 ///
-/// ```
-/// let mut live = LiveSpans::new(alloc);
-/// ```
+/// See [`run`](crate::trace::run).
 #[derive(Drop)]
 pub struct LiveSpans {
     spans: Spans<SdkSpan>,
@@ -55,11 +53,11 @@ impl Model for LiveSpans {
     } };
 }
 
-/// Makes room for so many numbers in all.
+/// Reserves capacity for `room` numbers in total.
 ///
 /// # Errors
 ///
-/// Returns an error if memory runs out.
+/// `AllocError` if out of memory. The numbers are unchanged.
 fn make_room(ended: &mut Vec<u64>, room: usize) -> Result<(), AllocError>
     ensures same { ended.new.items ≡ ended.old.items }
     ensures kept { vec_capacity ended.old ≤ vec_capacity ended.new }
@@ -71,8 +69,8 @@ fn make_room(ended: &mut Vec<u64>, room: usize) -> Result<(), AllocError>
 impl LiveSpans {
     ghost use Rattle.otel_sdk.specs.Ended.{AreListed};
 
-    /// Returns an empty list of spans. The first span that starts gets the number 0. Takes no
-    /// memory.
+    /// Returns a table without spans. The first span that starts gets the number 0. Doesn't
+    /// allocate.
     pub fn new(alloc: Global) -> LiveSpans
         ensures { result ≡ no_spans }
     {
@@ -82,15 +80,15 @@ impl LiveSpans {
         }
     }
 
-    /// Returns the spans that no processor has taken.
+    /// Returns the spans that no processor has collected.
     pub fn spans(&self) -> &Spans<SdkSpan>
         ensures spans { result.now ≡ self.now.spans }
     {
         &self.spans
     }
 
-    /// Returns the numbers of the spans that have ended and that no processor has taken, in the
-    /// order of their ends.
+    /// Returns the numbers of the ended spans that no processor has collected, in the order of
+    /// their ends.
     pub fn ended(&self) -> &[u64]
         ensures numbers { result.now ≡ self.now.ended }
         ensures listed { AreListed self.now.spans self.now.ended }
@@ -98,12 +96,12 @@ impl LiveSpans {
         self.ended.as_slice()
     }
 
-    /// Puts a span under the next number, and returns that number.
+    /// Inserts a span under the next number. Returns that number.
     ///
     /// # Errors
     ///
     /// `NumbersUsedUp` if the next number is 18446744073709551615, or `Memory` if out of memory.
-    /// Nothing changes, and the span comes back.
+    /// Nothing changes, and the error returns the span.
     pub fn start(&mut self, span: SdkSpan) -> Result<u64, SpanRefused<SdkSpan>>
         ensures number { IfOk result (λ number. number ≡ self.old.spans.next_number) }
         ensures fresh { get self.old.spans self.old.spans.next_number ≡ None }
@@ -123,12 +121,12 @@ impl LiveSpans {
         self.spans.insert(span)
     }
 
-    /// Puts a span under the next number, and returns a copy of the current context whose active
-    /// span it is.
+    /// Inserts a span under the next number. Returns a copy of the current context in which the
+    /// span is active.
     ///
     /// # Errors
     ///
-    /// As [`LiveSpans::start`]: nothing changes, and the span comes back.
+    /// As for [`LiveSpans::start`]. Nothing changes, and the error returns the span.
     pub fn start_in(
         &mut self,
         stack: &ContextStack,
@@ -153,12 +151,12 @@ impl LiveSpans {
         stack.current_with_span(&mut self.spans, span)
     }
 
-    /// Changes the span with the number. Does nothing if there is no such span, if it has ended, or
-    /// if it doesn't record.
+    /// Changes the span with this number. Does nothing if there is no such span, if it has ended,
+    /// or if it doesn't record.
     ///
     /// # Errors
     ///
-    /// Returns an error if memory runs out. Nothing changes.
+    /// `AllocError` if out of memory. Nothing changes.
     pub fn change(
         &mut self,
         alloc: Global,
@@ -171,8 +169,8 @@ impl LiveSpans {
         change_in(alloc, &mut self.spans, number, change)
     }
 
-    /// Ends the span with the number at the given moment, in nanoseconds since 1970. Does nothing
-    /// if there is no such span or it has ended. Takes no memory.
+    /// Ends the span with this number at the given time, in nanoseconds since 1970. Does nothing if
+    /// there is no such span or it has ended. Doesn't allocate.
     pub fn end(&mut self, number: u64, timestamp: u64)
         ensures { self.new ≡ with_ended number timestamp self.old }
     {
@@ -181,12 +179,13 @@ impl LiveSpans {
         }
     }
 
-    /// Hands the ended spans to the processor, in the order of their ends.
+    /// Passes the ended spans to the processor, in the order of their ends.
     ///
     /// # Errors
     ///
-    /// `AlreadyShutdown` if the processor was shut down: nothing changes. Otherwise `Memory` if out
-    /// of memory: the span that wasn't taken, and those that ended after it, stay.
+    /// - `AlreadyShutdown` if the processor was shut down. Nothing changes.
+    /// - Otherwise `Memory` if out of memory. The rejected span, and the spans that ended after it,
+    ///   stay.
     pub fn collect<E: SpanExporter>(
         &mut self,
         processor: &mut BatchSpanProcessor<E>,

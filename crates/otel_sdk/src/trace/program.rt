@@ -1,4 +1,4 @@
-//! A run of events over the spans of a program, from their starts to an exporter.
+//! Runs events over the spans of a program, from their starts to their export.
 ghost use Rattle.std.specs.Prelude.{◌≡◌, IfOk};
 ghost use Rattle.opentelemetry.specs.View.{builder_of};
 ghost use Rattle.otel_sdk.specs.Run.{Applies, AttachesOne, HasRun, StartsActive, StartsOne};
@@ -19,7 +19,7 @@ use otel_sdk_base::error::OTelSdkError;
 use otel_sdk_span::SpanExporter;
 use std::alloc::{AllocError, Global};
 
-/// The greatest position of an attachment.
+/// The greatest position at which a context can be attached.
 const LAST_POSITION: u16 = 65534;
 
 /// The result of a run.
@@ -27,17 +27,17 @@ const LAST_POSITION: u16 = 65534;
 /// See [`run`].
 #[derive(Drop)]
 pub struct RunReport<E> {
-    /// The spans that the processor hasn't taken.
+    /// The spans that the processor hasn't collected.
     pub live: LiveSpans,
-    /// The contexts that are attached.
+    /// The attached contexts.
     pub stack: ContextStack,
-    /// The processor, which has the exporter and the spans that are queued.
+    /// The processor, with the exporter and the queued spans.
     pub processor: BatchSpanProcessor<E>,
     /// The outcome of each event, in order.
     pub outcomes: Vec<EventOutcome>,
 }
 
-/// Returns the outcome of a start that was refused.
+/// Returns the outcome of a start that failed for this reason.
 fn not_started(cause: SpanCause) -> EventOutcome
     ensures { result ≡ outcome_of cause }
 {
@@ -47,7 +47,7 @@ fn not_started(cause: SpanCause) -> EventOutcome
     }
 }
 
-/// Starts a span, and returns the outcome.
+/// Starts a span. Returns the outcome.
 fn start<P: Pipeline>(
     alloc: Global,
     tracer: &SdkTracer<P>,
@@ -68,7 +68,7 @@ fn start<P: Pipeline>(
     }
 }
 
-/// Attaches the context, and returns the outcome.
+/// Attaches the context. Returns the outcome.
 fn attach(stack: &mut ContextStack, context: Context) -> EventOutcome
     ensures { AttachesOne context stack.old.live stack.new.live result }
 {
@@ -81,8 +81,8 @@ fn attach(stack: &mut ContextStack, context: Context) -> EventOutcome
     }
 }
 
-/// Starts a span under the current context and attaches a copy of that with the span, and returns
-/// the outcome.
+/// Starts a span under the current context, and attaches a copy of that context in which the span
+/// is active. Returns the outcome.
 fn start_active<P: Pipeline>(
     alloc: Global,
     tracer: &SdkTracer<P>,
@@ -98,7 +98,7 @@ fn start_active<P: Pipeline>(
         Err(error) => return EventOutcome::Failed(OTelSdkError::Memory(error)),
     };
     match live.start_in(stack, span) {
-        // If the attach is refused, the span stays started.
+        // If the context can't be attached, the span stays started.
         Ok(context) => match attach(stack, context) {
             EventOutcome::Done => EventOutcome::Done,
             _ => EventOutcome::NotAttached,
@@ -107,7 +107,7 @@ fn start_active<P: Pipeline>(
     }
 }
 
-/// Applies one event, and returns the outcome.
+/// Applies one event. Returns the outcome.
 fn apply<P: Pipeline, E: SpanExporter>(
     alloc: Global,
     tracer: &SdkTracer<P>,
@@ -151,15 +151,15 @@ fn apply<P: Pipeline, E: SpanExporter>(
     }
 }
 
-/// Applies the events in order, to spans that a tracer starts and a processor with this exporter
-/// takes, and to a stack of contexts. Parts that fail lose nothing, and the run goes on. Not in the
-/// Rust crate.
+/// Applies the events in order, to spans that the tracer starts, a stack of contexts, and a batch
+/// processor with this exporter. An event that fails loses nothing, and the run continues. Not in
+/// the Rust crate.
 ///
-/// The spans are numbered from 0, in the order of their starts. Nothing is exported but in a
-/// [`SpanEvent::Flush`] and a [`SpanEvent::Shutdown`], and an exported span is as it was recorded
-/// at its end. After a shutdown the ended spans stay where they are. Spans accepted before a
-/// shutdown count even if the exporter then forgets them. The report holds the spans that weren't
-/// collected, and the processor with those that weren't exported.
+/// The spans are numbered from 0, in the order of their starts. Only [`SpanEvent::Flush`] and
+/// [`SpanEvent::Shutdown`] export spans, and an exported span is as it was recorded at its end.
+/// After a shutdown, the ended spans stay where they are. Spans that the exporter accepted before a
+/// shutdown count as accepted even if it then forgets them. The report has the spans that weren't
+/// collected, and the processor with the spans that weren't exported.
 ///
 /// # Errors
 ///

@@ -1,4 +1,4 @@
-//! What makes the tracers of the SDK.
+//! The provider, which makes the tracers of the SDK, and its builder.
 ghost use Rattle.std.specs.Prelude.{◌≡◌, IfOk, Some, None, map};
 ghost use Rattle.std.specs.Option.{option_map_or};
 ghost use Rattle.otel_sdk_base.specs.Resource.{merge, with_defaults};
@@ -18,7 +18,7 @@ use std::marker::Model;
 use std::random::RandomSource;
 use std::rc::Rc;
 
-/// What the tracers of a provider share.
+/// The state that the tracers of a provider share.
 #[derive(Drop)]
 pub(crate) struct TracerProviderInner<S, G, C> {
     pub resource: Resource,
@@ -31,14 +31,14 @@ pub(crate) struct TracerProviderInner<S, G, C> {
 }
 
 impl<S, G, C> TracerProviderInner<S, G, C> {
-    /// Counts a span without new ids.
+    /// Counts a span for which no ids were generated.
     pub(crate) fn count_failed_ids(&self) {
         self.failed_ids.set(self.failed_ids.get().saturating_add(1));
     }
 }
 
-/// Makes the tracers of the SDK, which share its sampler, generator of ids, clock and limits (the
-/// Rust crate's `SdkTracerProvider`).
+/// Makes the tracers of the SDK, which share the provider's sampler, generator of ids, clock and
+/// limits (the Rust crate's `SdkTracerProvider`).
 ///
 /// ```
 /// let provider = SdkTracerProvider::builder(rt)
@@ -69,9 +69,12 @@ impl<R> SdkTracerProvider<ParentBased<Sampler>, RandomIdGenerator<R>, SystemCloc
 where
     R: RandomSource + std::time::Clock + Copy + Drop,
 {
-    /// Starts a provider with the defaults: roots are sampled and other spans as their parent is,
-    /// ids are random, the clock is the system's, and the limits are those of
-    /// [`SpanLimits::default`]. Takes no memory.
+    /// Returns a builder with the defaults. Doesn't allocate.
+    ///
+    /// - Roots are sampled, and any other span is sampled if its parent is.
+    /// - Ids are random.
+    /// - The clock is the system's.
+    /// - The limits are [`SpanLimits::default`].
     pub fn builder(
         rt: R,
     ) -> TracerProviderBuilder<ParentBased<Sampler>, RandomIdGenerator<R>, SystemClock<R>>
@@ -90,20 +93,20 @@ where
 }
 
 impl<S: ShouldSample, G: IdGenerator, C: Clock> SdkTracerProvider<S, G, C> {
-    /// Returns what the telemetry is about.
+    /// Returns the resource that the telemetry describes.
     pub fn resource(&self) -> &Resource
         ensures { result.now ≡ self.now.resource }
     {
         &self.inner.resource
     }
 
-    /// Shuts the provider down: from now on a span that its tracers start has no ids and doesn't
+    /// Shuts the provider down. From now on, a span that its tracers start has no ids and doesn't
     /// record. A second call does nothing.
     pub fn shutdown(&self) {
         self.inner.is_shut_down.set(true);
     }
 
-    /// Returns how many spans don't record because there were no new ids.
+    /// Returns the number of spans that don't record because no ids were generated.
     pub fn failed_ids(&self) -> u64 {
         self.inner.failed_ids.get()
     }
@@ -117,7 +120,7 @@ impl<S: ShouldSample, G: IdGenerator, C: Clock> TracerProvider for SdkTracerProv
 
     ghost may_give = { λ provider scope tracer. tracer ≡ spec.tracer_of provider scope };
 
-    /// Returns a tracer of that scope.
+    /// Returns a tracer with this scope.
     ///
     /// # Errors
     ///
@@ -134,7 +137,7 @@ impl<S: ShouldSample, G: IdGenerator, C: Clock> TracerProvider for SdkTracerProv
         Ok(SdkTracer { pipeline })
     }
 
-    // The same body as the trait's: the toolchain doesn't cover a default method for this type.
+    // The same body as the trait's: the toolchain doesn't support a default method for this type.
     fn tracer(
         &self,
         alloc: Global,
@@ -171,12 +174,12 @@ impl<S, G, C> Model for TracerProviderBuilder<S, G, C> {
 }
 
 impl<S: ShouldSample, G: IdGenerator, C: Clock> TracerProviderBuilder<S, G, C> {
-    /// Sets what the telemetry is about, in place of the default resource. A second one is merged
-    /// into the first.
+    /// Sets the resource that the telemetry describes, in place of the default one. If a resource
+    /// was already set, merges the new one into it.
     ///
     /// # Errors
     ///
-    /// Returns an error if memory runs out. The parts are dropped.
+    /// `AllocError` if out of memory. The builder and the resource are dropped.
     pub fn with_resource(self, resource: Resource) -> Result<Self, AllocError>
         ensures { IfOk result (λ b. b ≡ record self {
           resource = Some (option_map_or (λ old. merge old resource) self.resource resource);
@@ -241,7 +244,7 @@ impl<S: ShouldSample, G: IdGenerator, C: Clock> TracerProviderBuilder<S, G, C> {
         }
     }
 
-    /// Sets the clock, which reads the moments at which spans start.
+    /// Sets the clock, which gives the start times of spans.
     pub fn with_clock<T: Clock>(self, clock: T) -> TracerProviderBuilder<S, G, T>
         ensures { result ≡ self }
     {
@@ -254,7 +257,7 @@ impl<S: ShouldSample, G: IdGenerator, C: Clock> TracerProviderBuilder<S, G, C> {
         }
     }
 
-    /// Sets the greatest number of events of a span.
+    /// Sets the maximum number of events per span.
     pub fn with_max_events_per_span(self, limit: u32) -> Self
         ensures { result ≡ record self {
           limits = record self.limits { max_events_per_span = limit };
@@ -267,7 +270,7 @@ impl<S: ShouldSample, G: IdGenerator, C: Clock> TracerProviderBuilder<S, G, C> {
         TracerProviderBuilder { limits, ..self }
     }
 
-    /// Sets the greatest number of attributes of a span.
+    /// Sets the maximum number of attributes per span.
     pub fn with_max_attributes_per_span(self, limit: u32) -> Self
         ensures { result ≡ record self {
           limits = record self.limits { max_attributes_per_span = limit };
@@ -280,7 +283,7 @@ impl<S: ShouldSample, G: IdGenerator, C: Clock> TracerProviderBuilder<S, G, C> {
         TracerProviderBuilder { limits, ..self }
     }
 
-    /// Sets the greatest number of links of a span.
+    /// Sets the maximum number of links per span.
     pub fn with_max_links_per_span(self, limit: u32) -> Self
         ensures { result ≡ record self {
           limits = record self.limits { max_links_per_span = limit };
@@ -293,7 +296,7 @@ impl<S: ShouldSample, G: IdGenerator, C: Clock> TracerProviderBuilder<S, G, C> {
         TracerProviderBuilder { limits, ..self }
     }
 
-    /// Sets the greatest number of attributes of an event.
+    /// Sets the maximum number of attributes per event.
     pub fn with_max_attributes_per_event(self, limit: u32) -> Self
         ensures { result ≡ record self {
           limits = record self.limits { max_attributes_per_event = limit };
@@ -306,7 +309,7 @@ impl<S: ShouldSample, G: IdGenerator, C: Clock> TracerProviderBuilder<S, G, C> {
         TracerProviderBuilder { limits, ..self }
     }
 
-    /// Sets the greatest number of attributes of a link.
+    /// Sets the maximum number of attributes per link.
     pub fn with_max_attributes_per_link(self, limit: u32) -> Self
         ensures { result ≡ record self {
           limits = record self.limits { max_attributes_per_link = limit };
@@ -319,7 +322,7 @@ impl<S: ShouldSample, G: IdGenerator, C: Clock> TracerProviderBuilder<S, G, C> {
         TracerProviderBuilder { limits, ..self }
     }
 
-    /// Sets the greatest number of characters of a text in an attribute.
+    /// Sets the maximum length of a text in an attribute, in characters.
     pub fn with_max_attribute_length(self, limit: u32) -> Self
         ensures { result ≡ record self {
           limits = record self.limits { max_attribute_length = Some limit };
@@ -332,11 +335,11 @@ impl<S: ShouldSample, G: IdGenerator, C: Clock> TracerProviderBuilder<S, G, C> {
         TracerProviderBuilder { limits, ..self }
     }
 
-    /// Returns the provider of the given parts.
+    /// Builds the provider. Without a resource, it has the default one.
     ///
     /// # Errors
     ///
-    /// Returns an error if memory runs out. The parts are dropped.
+    /// `AllocError` if out of memory. The builder is dropped.
     pub fn build(self, alloc: Global) -> Result<SdkTracerProvider<S, G, C>, AllocError>
         ensures { IfOk result (λ p. p ≡ spec.provider_of self) }
     {

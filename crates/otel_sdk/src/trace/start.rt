@@ -1,4 +1,5 @@
-//! What a span starts with: its parent, its ids and flags, the answer of the sampler and the data.
+//! The state with which a span starts: its parent, its ids and flags, the sampler's answer and the
+//! data.
 ghost use Rattle.std.specs.Prelude.{◌≡◌, ◌≢◌, IfOk, map, option_copied};
 ghost use Rattle.std.specs.Option.{option_map};
 ghost use Rattle.std.specs.Rc.{rc_value};
@@ -28,7 +29,8 @@ pub(crate) struct Ids {
     pub span_id: SpanId,
 }
 
-/// Returns the span context of the parent, or `None` for a root: if one of its ids is 0.
+/// Returns the span context of the parent, or `None` if one of its ids is 0: the span is then a
+/// root.
 pub(crate) fn parent_of(context: &Context) -> Option<&SpanContext>
     ensures { option_copied result ≡ spec.parent_of context.now }
 {
@@ -40,22 +42,22 @@ pub(crate) fn parent_of(context: &Context) -> Option<&SpanContext>
     }
 }
 
-/// Returns whether the flag `random` is set.
+/// Returns `true` if the flag `random` is set.
 fn is_random(flags: TraceFlags) -> bool
     ensures { result ≡ spec.is_random flags }
 {
     flags.to_u8() / RANDOM % 2 == 1
 }
 
-/// Returns whether a span of that decision records.
+/// Returns `true` if a span with this decision records.
 pub(crate) fn records(decision: SamplingDecision) -> bool
     ensures { result ≡ spec.records decision }
 {
     decision != SamplingDecision::Drop
 }
 
-/// Returns the flags of a span: `sampled` if it is exported, and `random` if its parent has that
-/// flag, or for a root if its id is random.
+/// Returns the flags of a span. `sampled` is set if it is exported. `random` is set if the parent
+/// has that flag, or, for a root, if its trace id is random.
 fn flags_of(decision: SamplingDecision, parent: Option<&SpanContext>, random: bool) -> TraceFlags
     ensures { result ≡ spec.flags_of decision
         (spec.has_random_id (option_copied parent.entry) random) }
@@ -72,11 +74,11 @@ fn flags_of(decision: SamplingDecision, parent: Option<&SpanContext>, random: bo
     flags.with_sampled(decision == SamplingDecision::RecordAndSample)
 }
 
-/// Returns the parent's trace id, or for a root a new one, and a new span id.
+/// Returns the parent's trace id, or a new one for a root, and a new span id.
 ///
 /// # Errors
 ///
-/// Those of the generator.
+/// The errors of the generator.
 pub(crate) fn new_ids<G: IdGenerator>(
     id_generator: &G,
     parent: Option<&SpanContext>,
@@ -94,11 +96,11 @@ pub(crate) fn new_ids<G: IdGenerator>(
     })
 }
 
-/// Returns what the sampler answers for a span of that trace.
+/// Returns the sampler's answer for a span of this trace.
 ///
 /// # Errors
 ///
-/// Those of the sampler.
+/// The errors of the sampler.
 pub(crate) fn ask<S: ShouldSample>(
     alloc: Global,
     sampler: &S,
@@ -126,7 +128,7 @@ pub(crate) fn ask<S: ShouldSample>(
     )
 }
 
-/// Returns the span context of these ids: local, with the flags of the decision and that trace
+/// Returns the span context with these ids: local, with the flags of the decision and this trace
 /// state.
 pub(crate) fn span_context_of(
     ids: Ids,
@@ -142,7 +144,7 @@ pub(crate) fn span_context_of(
     SpanContext::new(ids.trace_id, ids.span_id, flags, false, trace_state)
 }
 
-/// Returns the attributes that are given, or none.
+/// Returns the given attributes, or an empty list.
 fn listed_attributes(alloc: Global, given: Option<Vec<KeyValue>>) -> Vec<KeyValue>
     ensures { map attribute_of result.items
         ≡ spec.listed (option_map (λ v. map attribute_of v.items) given) }
@@ -153,7 +155,7 @@ fn listed_attributes(alloc: Global, given: Option<Vec<KeyValue>>) -> Vec<KeyValu
     }
 }
 
-/// Returns the events that are given, or none.
+/// Returns the given events, or an empty list.
 fn listed_events(alloc: Global, given: Option<Vec<Event>>) -> Vec<Event>
     ensures { map event_of result.items
         ≡ spec.listed (option_map (λ v. map event_of v.items) given) }
@@ -164,7 +166,7 @@ fn listed_events(alloc: Global, given: Option<Vec<Event>>) -> Vec<Event>
     }
 }
 
-/// Returns the links that are given, or none.
+/// Returns the given links, or an empty list.
 fn listed_links(alloc: Global, given: Option<Vec<Link>>) -> Vec<Link>
     ensures { map link_of result.items
         ≡ spec.listed (option_map (λ v. map link_of v.items) given) }
@@ -175,12 +177,12 @@ fn listed_links(alloc: Global, given: Option<Vec<Link>>) -> Vec<Link>
     }
 }
 
-/// Returns what a span starts with at that moment: what its builder gives, the sampler's attributes
-/// after the builder's.
+/// Returns the data of a span that starts at `start_time`: the builder's parts, with the sampler's
+/// attributes after the builder's.
 ///
 /// # Errors
 ///
-/// Returns an error if memory runs out. All is dropped.
+/// `AllocError` if out of memory. All arguments are dropped.
 pub(crate) fn given_data(
     alloc: Global,
     scope: Rc<InstrumentationScope>,

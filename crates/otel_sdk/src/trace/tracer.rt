@@ -16,9 +16,9 @@ use std::alloc::{AllocError, Global};
 use std::marker::Model;
 use std::rc::Rc;
 
-/// What an [`SdkTracer`] starts its spans by. Not in the Rust crate.
+/// The configuration with which an [`SdkTracer`] starts spans. Not in the Rust crate.
 ///
-/// A pipeline names, by the ghost relation `may_start`, the spans that it may start.
+/// Implementors define the ghost relation `may_start`: the spans that the pipeline may start.
 ///
 /// See [`TracerPipeline`].
 pub trait Pipeline: Drop {
@@ -44,7 +44,7 @@ pub trait Pipeline: Drop {
 
 /// Starts the spans of one library or module (the Rust crate's `SdkTracer`).
 ///
-/// Contracts see its pipeline.
+/// Contracts see the pipeline.
 ///
 /// See [`crate::trace::SdkTracerProvider`].
 #[derive(Drop)]
@@ -78,13 +78,15 @@ impl<P: Pipeline> Tracer for SdkTracer<P> {
     }
 }
 
-/// The sampler, generator of ids and clock of a provider, and a scope: what its tracers start spans
-/// by. Not in the Rust crate.
+/// The configuration with which a provider's tracers start spans: the provider's sampler, generator
+/// of ids and clock, and a scope. Not in the Rust crate.
 ///
-/// A span has its parent's trace id, or a new one if it is a root, and a new span id. Its sampler
-/// decides whether it records. Under suppressed telemetry, or once its provider is shut down, a
-/// span has no ids and doesn't record. If the generator of ids fails, a span doesn't record and has
-/// the span context of its parent, and the provider counts it.
+/// A span has its parent's trace id, or a new one if it is a root, and a new span id. The sampler
+/// decides whether it records.
+///
+/// Under suppressed telemetry, or once the provider is shut down, a span has no ids and doesn't
+/// record. If the generator of ids fails, the span doesn't record and has the span context of its
+/// parent, and the provider counts it.
 ///
 /// See [`crate::trace::SdkTracerProvider`].
 #[derive(Drop)]
@@ -111,7 +113,7 @@ impl<S, G, C> Model for TracerPipeline<S, G, C> {
 ///
 /// # Errors
 ///
-/// `AllocError` if the count of those that share the trace state is at its limit.
+/// `AllocError` if the reference count of the trace state is at its limit.
 fn without_ids(parent: Option<&SpanContext>) -> Result<SdkSpan, AllocError>
     ensures { IfOk result (λ span. span ≡ spec.without_ids (option_copied parent.entry)) }
 {
@@ -122,7 +124,7 @@ fn without_ids(parent: Option<&SpanContext>) -> Result<SdkSpan, AllocError>
 }
 
 impl<S: ShouldSample, G: IdGenerator, C: Clock> TracerPipeline<S, G, C> {
-    /// Returns the given moment, or the clock's if there is none.
+    /// Returns the given time, or the clock's time if none is given.
     fn start_time(&self, given: Option<u64>) -> u64
         ensures { result ≡ unwrap_or given result }
     {
@@ -132,11 +134,11 @@ impl<S: ShouldSample, G: IdGenerator, C: Clock> TracerPipeline<S, G, C> {
         }
     }
 
-    /// Starts a span that records, with that span context and those attributes of the sampler.
+    /// Starts a span that records, with this span context and these attributes from the sampler.
     ///
     /// # Errors
     ///
-    /// Returns an error if memory runs out. All is dropped.
+    /// `AllocError` if out of memory. The builder, span context and attributes are dropped.
     fn record(
         &self,
         alloc: Global,
@@ -163,11 +165,11 @@ impl<S: ShouldSample, G: IdGenerator, C: Clock> TracerPipeline<S, G, C> {
         SdkSpan::new(alloc, data, self.provider.limits)
     }
 
-    /// Starts the span of these ids.
+    /// Starts the span with these ids.
     ///
     /// # Errors
     ///
-    /// Returns an error if memory runs out. The builder is dropped.
+    /// `AllocError` if out of memory. The builder is dropped.
     fn start_with_ids(
         &self,
         alloc: Global,

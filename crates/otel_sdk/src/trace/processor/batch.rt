@@ -1,4 +1,4 @@
-//! The processor that exports spans in batches.
+//! A processor that exports spans in batches.
 ghost use Rattle.std.specs.Prelude.{◌≡◌, false, length, Some, IfErr, OnOk, OnErr};
 ghost use Rattle.otel_sdk.specs.Processor as spec;
 ghost use Rattle.otel_sdk.specs.Processor.{IsHandedIn};
@@ -21,11 +21,13 @@ use std::rc::Rc;
 /// Queues sampled spans, and exports them in batches when it is flushed (the Rust crate's
 /// `BatchSpanProcessor`). The caller flushes it: a full batch isn't exported by itself.
 ///
-/// A span that meets a full queue is dropped and counted. A batch that the exporter refuses stays
-/// queued, in order.
+/// If the queue is full, a span that ends is dropped and counted. A batch that the exporter rejects
+/// stays queued, in order.
 ///
 /// ```
 /// let mut processor = BatchSpanProcessor::new(alloc, exporter, config);
+/// live.collect(&mut processor)?;
+/// processor.force_flush()?;
 /// ```
 #[derive(Drop)]
 pub struct BatchSpanProcessor<E> {
@@ -42,7 +44,7 @@ impl<E> Model for BatchSpanProcessor<E> {
 }
 
 impl<E: SpanExporter> BatchSpanProcessor<E> {
-    /// Returns a processor without spans. Takes no memory.
+    /// Returns a processor without spans. Doesn't allocate.
     pub fn new(alloc: Global, exporter: E, config: BatchConfig) -> BatchSpanProcessor<E>
         ensures { result ≡ queue_spec.new exporter config }
     {
@@ -58,15 +60,15 @@ impl<E: SpanExporter> BatchSpanProcessor<E> {
         self.queue.exporter()
     }
 
-    /// Returns how many sampled spans met a full queue and were dropped. Stops at the greatest
-    /// `u64`.
+    /// Returns the number of sampled spans that were dropped because the queue was full. Stops at
+    /// the greatest `u64`.
     pub fn dropped_spans(&self) -> u64
         ensures { result ≡ self.now.dropped }
     {
         self.queue.dropped()
     }
 
-    /// Returns the number of spans that are queued.
+    /// Returns the number of queued spans.
     pub fn queued_spans(&self) -> usize
         ensures { result ≡ length self.now.queue }
     {
@@ -85,13 +87,13 @@ impl<E: SpanExporter> SpanProcessor for BatchSpanProcessor<E> {
 
     ghost received = { received_of E.accepted };
 
-    /// Queues a sampled span, or drops and counts it if the queue is full. A span that isn't
-    /// sampled is dropped.
+    /// Queues a sampled span, or drops and counts it if the queue is full. Drops a span that isn't
+    /// sampled.
     ///
     /// # Errors
     ///
     /// `AlreadyShutdown` after [`SpanProcessor::shutdown`], otherwise `Memory` if out of memory.
-    /// Nothing changes, and the span comes back.
+    /// Nothing changes, and the error returns the span.
     fn on_end(&mut self, span: SpanData) -> Result<(), EndRefused>
         ensures ok { OnOk result (self.new ≡ spec.after_end span self.old) }
         ensures open { OnOk result (self.old.is_shut_down ≡ false) }
@@ -112,13 +114,14 @@ impl<E: SpanExporter> SpanProcessor for BatchSpanProcessor<E> {
         Ok(())
     }
 
-    /// Exports what is queued, in batches of at most `max_export_batch_size` spans in order, and
-    /// then flushes the exporter.
+    /// Exports the queued spans, in order, in batches of at most `max_export_batch_size` spans.
+    /// Then flushes the exporter.
     ///
     /// # Errors
     ///
-    /// `AlreadyShutdown` after [`SpanProcessor::shutdown`]: nothing changes. Otherwise the error of
-    /// the first refused batch, or of the exporter's flush. What was accepted has left the queue.
+    /// - `AlreadyShutdown` after [`SpanProcessor::shutdown`]. Nothing changes.
+    /// - Otherwise the error of the first rejected batch, or of the exporter's flush. The accepted
+    ///   spans are no longer queued.
     fn force_flush(&mut self) -> OTelSdkResult
         ensures { IsForceFlushed E.accepted result self.old self.new }
     {
@@ -131,7 +134,7 @@ impl<E: SpanExporter> SpanProcessor for BatchSpanProcessor<E> {
         self.queue.shutdown()
     }
 
-    /// Tells the exporter the resource of the spans to come.
+    /// Tells the exporter the resource of the following spans.
     fn set_resource(&mut self, resource: Rc<Resource>)
         ensures { OnlyExporterChanges E.accepted self.old self.new }
     {

@@ -1,4 +1,4 @@
-//! The processor that exports each span when it ends.
+//! A processor that exports each span when it ends.
 ghost use Rattle.std.specs.Prelude.{◌≡◌, [], false, length, IfErr, OnOk};
 ghost use Rattle.otel_sdk.specs.Processor as spec;
 ghost use Rattle.otel_sdk.specs.Processor.{IsHandedIn, IsHandedInOrReturned, IsFlushedOrReturned};
@@ -21,11 +21,12 @@ use std::rc::Rc;
 /// Exports each sampled span when it ends, in a batch of its own (the Rust crate's
 /// `SimpleSpanProcessor`).
 ///
-/// A span that the exporter refuses is queued, up to 2,048 of them, and is handed in again, before
-/// others, at the next end or flush.
+/// Spans that the exporter rejects stay queued, at most 2,048 of them. The next end or flush passes
+/// them to the exporter again, before other spans.
 ///
 /// ```
 /// let mut processor = SimpleSpanProcessor::new(alloc, exporter);
+/// processor.collect(&mut spans, &mut ended)?;
 /// ```
 #[derive(Drop)]
 pub struct SimpleSpanProcessor<E> {
@@ -41,7 +42,7 @@ impl<E> Model for SimpleSpanProcessor<E> {
 }
 
 impl<E: SpanExporter> SimpleSpanProcessor<E> {
-    /// Returns a processor without spans. Takes no memory.
+    /// Returns a processor without spans. Doesn't allocate.
     pub fn new(alloc: Global, exporter: E) -> SimpleSpanProcessor<E>
         ensures { result ≡ queue_spec.new exporter queue_spec.single_limits }
     {
@@ -60,15 +61,15 @@ impl<E: SpanExporter> SimpleSpanProcessor<E> {
         self.inner.exporter()
     }
 
-    /// Returns how many sampled spans met a full queue and were dropped. Stops at the greatest
-    /// `u64`.
+    /// Returns the number of sampled spans that were dropped because the queue was full. Stops at
+    /// the greatest `u64`.
     pub fn dropped_spans(&self) -> u64
         ensures { result ≡ self.now.dropped }
     {
         self.inner.dropped_spans()
     }
 
-    /// Returns the number of spans that are queued because the exporter refused them.
+    /// Returns the number of spans that are queued because the exporter rejected them.
     pub fn queued_spans(&self) -> usize
         ensures { result ≡ length self.now.queue }
     {
@@ -81,13 +82,14 @@ impl<E: SpanExporter> SpanProcessor for SimpleSpanProcessor<E> {
 
     ghost received = { received_of E.accepted };
 
-    /// Queues a sampled span, and flushes the processor. A span that isn't sampled is dropped.
+    /// Queues the span if it is sampled, and drops it otherwise. Then flushes the processor.
     ///
     /// # Errors
     ///
-    /// `AlreadyShutdown` after [`SpanProcessor::shutdown`], or `Memory` if out of memory: nothing
-    /// changes, and the span comes back. Otherwise the error of the flush, and no span comes back:
-    /// what the exporter didn't accept stays queued, in order.
+    /// - `AlreadyShutdown` after [`SpanProcessor::shutdown`], or `Memory` if out of memory. Nothing
+    ///   changes, and the error returns the span.
+    /// - Otherwise the error of the flush. The error returns no span. The spans that the exporter
+    ///   didn't accept stay queued, in order.
     fn on_end(&mut self, span: SpanData) -> Result<(), EndRefused>
         ensures ok { OnOk result (IsFlushed E.accepted (spec.after_end span self.old) self.new
             × (self.new.queue ≡ [])) }
@@ -118,7 +120,7 @@ impl<E: SpanExporter> SpanProcessor for SimpleSpanProcessor<E> {
         self.inner.shutdown()
     }
 
-    /// Tells the exporter the resource of the spans to come.
+    /// Tells the exporter the resource of the following spans.
     fn set_resource(&mut self, resource: Rc<Resource>)
         ensures { OnlyExporterChanges E.accepted self.old self.new }
     {

@@ -5,32 +5,32 @@ use opentelemetry::trace::SpanBuilder;
 use otel_sdk_base::error::OTelSdkError;
 
 /// One event of a run. The spans of a run are numbered from 0, in the order of their starts. A
-/// context is attached at the position above the newest, from 1 on.
+/// context is attached at the position after the newest one. The first position is 1.
 ///
 /// See [`run`](crate::trace::run).
 #[derive(Drop)]
 pub enum SpanEvent {
-    /// Start a span from the builder, under the parent context.
+    /// Starts a span from the builder, under the parent context.
     Start(SpanBuilder, Context),
-    /// Start a span from the builder, under the current context.
+    /// Starts a span from the builder, under the current context.
     StartCurrent(SpanBuilder),
-    /// Start a span from the builder, under the current context, and attach the current context
-    /// with the span as its active one.
+    /// Starts a span from the builder, under the current context, and attaches a copy of that
+    /// context in which the span is active.
     StartActive(SpanBuilder),
-    /// Attach the context.
+    /// Attaches the context.
     Attach(Context),
-    /// Detach what is attached at the position, if something is.
+    /// Detaches the context attached at this position, if there is one.
     Detach(u16),
-    /// Change the span with the number, if there is such a span and it hasn't ended.
+    /// Changes the span with this number, if there is one and it hasn't ended.
     Change(u64, SpanChange),
-    /// End the span with the number at the moment, in nanoseconds since 1970, if there is such a
-    /// span and it hasn't ended.
+    /// Ends the span with the number (first field) at the time (second field, in nanoseconds since
+    /// 1970), if there is such a span and it hasn't ended.
     End(u64, u64),
-    /// Hand the ended spans to the processor.
+    /// Passes the ended spans to the processor.
     Collect,
-    /// Hand the queued spans to the exporter, and flush it.
+    /// Passes the queued spans to the exporter, and flushes it.
     Flush,
-    /// Flush, and then shut the processor and its exporter down.
+    /// Flushes the processor, and then shuts it and its exporter down.
     Shutdown,
 }
 
@@ -41,11 +41,12 @@ pub enum SpanEvent {
 pub enum EventOutcome {
     /// The event took effect.
     Done,
-    /// The span wasn't started, because every number was given out. Nothing changed.
+    /// The span wasn't started, because every number is used up. Nothing changed.
     NumbersUsedUp,
-    /// The context wasn't attached, as the greatest position is live. A span that was to be active
-    /// was started all the same; then it may also be that memory ran out.
+    /// The context wasn't attached, because the greatest position is in use. For a
+    /// [`SpanEvent::StartActive`], the span was started nevertheless, and the reason may also be
+    /// that memory ran out.
     NotAttached,
-    /// What failed. A start, an attach and a change that failed changed nothing.
+    /// The event failed with this error. A start, attach or change that failed changed nothing.
     Failed(OTelSdkError),
 }

@@ -1,4 +1,4 @@
-//! The sampler that follows the parent.
+//! A sampler that follows the parent's decision.
 ghost use Rattle.std.specs.Prelude.{◌≡◌, ◌++◌, IfOk, OnOk, codes, string_bytes};
 ghost use Rattle.otel_sdk.specs.ParentBased.{IsParentBasedText, after_parent};
 

@@ -1,4 +1,4 @@
-//! Taking ended spans out of a table, by number.
+//! Removes ended spans from a table, by number, and queues them.
 ghost use Rattle.std.specs.Prelude.{◌≡◌, ◌≤◌, ◌==◌, false, [], length, take, fold, IfErr, OnOk, OnErr, IsTrue};
 ghost use Rattle.std.specs.List.{IsDistinct};
 ghost use Rattle.std.specs.Vec.{vec_capacity};
@@ -11,7 +11,7 @@ use opentelemetry::trace::Spans;
 use otel_sdk_base::error::{OTelSdkError, OTelSdkResult};
 use otel_sdk_span::{SdkSpan, SpanExporter};
 
-/// Returns whether the span is exported at its end: it recorded and is sampled.
+/// Returns `true` if the span is exported at its end: it has recorded data and is sampled.
 fn is_exported(span: &SdkSpan) -> bool
     ensures { result ≡ spec.is_exported span.now.recorded }
 {
@@ -22,7 +22,7 @@ fn is_exported(span: &SdkSpan) -> bool
 }
 
 impl<E: SpanExporter> BatchSpanProcessor<E> {
-    /// Takes the span with the number out of the table if it has ended, and queues it if it is
+    /// Removes the span with this number from the table if it has ended. Queues it if it is
     /// sampled, or drops and counts it if the queue is full. Does nothing if there is no such span
     /// or it hasn't ended.
     ///
@@ -54,14 +54,14 @@ impl<E: SpanExporter> BatchSpanProcessor<E> {
         Ok(())
     }
 
-    /// Takes the ended spans with these numbers, in order, as [`BatchSpanProcessor::on_end_of`]
-    /// does. Their numbers leave the list.
+    /// Collects the ended spans with these numbers, in order, as [`BatchSpanProcessor::on_end_of`]
+    /// does. Removes their numbers from the list.
     ///
     /// # Errors
     ///
-    /// `AlreadyShutdown` after [`SpanProcessor::shutdown`]: nothing changes. Otherwise `Memory` if
-    /// out of memory: the numbers of the span that wasn't taken, and of those after it, stay in the
-    /// list, and these spans in the table.
+    /// - `AlreadyShutdown` after [`SpanProcessor::shutdown`]. Nothing changes.
+    /// - Otherwise `Memory` if out of memory. The rejected span and the spans after it stay in the
+    ///   table, and their numbers in the list.
     ///
     /// [`SpanProcessor::shutdown`]: crate::trace::SpanProcessor::shutdown
     pub fn collect(&mut self, spans: &mut Spans<SdkSpan>, ended: &mut Vec<u64>) -> OTelSdkResult
@@ -87,7 +87,8 @@ impl<E: SpanExporter> BatchSpanProcessor<E> {
         outcome
     }
 
-    // Takes the spans with these numbers, until one is refused. Returns how many were taken.
+    // Collects the spans with these numbers, until one is rejected. Returns the number of collected
+    // spans.
     fn take_each(&mut self, spans: &mut Spans<SdkSpan>, numbers: &[u64]) -> (usize, OTelSdkResult)
         ensures within { result.0 ≤ length numbers.now }
         ensures handed_in { spec.of self.new spans.new ≡ fold spec.after_end_of

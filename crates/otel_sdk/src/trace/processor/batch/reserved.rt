@@ -1,4 +1,4 @@
-//! The end of a span in two steps, of which only the first can fail.
+//! Queues an ended span in two steps, of which only the first can fail.
 ghost use Rattle.std.specs.Prelude.{◌≡◌, ◌<◌, false, length, IfErr, IsTrue, OnOk};
 ghost use Rattle.otel_sdk.specs.Processor.{after_end, is_sampled as is_sampled_span};
 ghost use Rattle.otel_sdk_base.specs.Queue.{cause, has_space};
@@ -8,7 +8,7 @@ use otel_sdk_base::Queue;
 use otel_sdk_base::error::{OTelSdkError, OTelSdkResult};
 use otel_sdk_span::{SpanData, SpanExporter};
 
-/// Takes the memory for the span that ends next, if it is sampled and the queue isn't full.
+/// Reserves memory for the span that ends next, if it is sampled and the queue isn't full.
 ///
 /// # Errors
 ///
@@ -33,8 +33,8 @@ pub(super) fn reserve<E: SpanExporter>(
     Ok(())
 }
 
-/// Queues a span that is sampled, or drops and counts it if the queue is full. A span that isn't
-/// sampled is dropped. Takes no memory.
+/// Queues a sampled span, or drops and counts it if the queue is full. Drops a span that isn't
+/// sampled. Doesn't allocate.
 pub(super) fn add<E: SpanExporter>(queue: &mut Queue<SpanData, E>, span: SpanData)
     requires { IsTrue (is_sampled_span span) → IsTrue (has_space (state queue.old))
         → length (state queue.old).queue < capacity queue.old }

@@ -1,4 +1,4 @@
-//! Taking ended spans out of a table, by number, and exporting each.
+//! Removes ended spans from a table, by number, and exports each.
 ghost use Rattle.std.specs.Prelude.{◌≡◌, ◌≤◌, ◌==◌, false, [], length, take};
 ghost use Rattle.std.specs.Prelude.{IfErr, IsErrOf, IsTrue, OnOk};
 ghost use Rattle.std.specs.List.{IsDistinct};
@@ -16,8 +16,8 @@ use opentelemetry::trace::Spans;
 use otel_sdk_base::error::{OTelSdkError, OTelSdkResult};
 use otel_sdk_span::{SdkSpan, SpanExporter};
 
-/// Flushes the processor, and takes the spans with these numbers and flushes it after each, until
-/// one isn't taken or a flush fails. Returns how many were taken.
+/// Flushes the processor, and then collects the spans with these numbers in order, with a flush
+/// after each, until a span is rejected or a flush fails. Returns the number of collected spans.
 fn export_each<E: SpanExporter>(
     processor: &mut BatchSpanProcessor<E>,
     spans: &mut Spans<SdkSpan>,
@@ -41,14 +41,16 @@ fn export_each<E: SpanExporter>(
 }
 
 impl<E: SpanExporter> SimpleSpanProcessor<E> {
-    /// Takes the span with the number out of the table if it has ended, queues it if it is sampled,
-    /// and flushes the processor. Without such a span it only flushes.
+    /// Removes the span with this number from the table if it has ended, and queues it if it is
+    /// sampled. Then flushes the processor. Only flushes if there is no such span or it hasn't
+    /// ended.
     ///
     /// # Errors
     ///
-    /// `AlreadyShutdown` after [`SpanProcessor::shutdown`], else `Memory` if out of memory: nothing
-    /// changes, and the span stays in the table. Else that of the flush, and the span was taken:
-    /// what the exporter didn't accept stays queued, in order.
+    /// - `AlreadyShutdown` after [`SpanProcessor::shutdown`], otherwise `Memory` if out of memory.
+    ///   Nothing changes, and the span stays in the table.
+    /// - Otherwise the error of the flush. The span was removed from the table. The spans that the
+    ///   exporter didn't accept stay queued, in order.
     pub fn on_end_of(&mut self, spans: &mut Spans<SdkSpan>, number: u64) -> OTelSdkResult
         ensures ok { OnOk result (IsHandedOn E.accepted number
             (spec.of self.old spans.old) (spec.of self.new spans.new)) }
@@ -61,14 +63,14 @@ impl<E: SpanExporter> SimpleSpanProcessor<E> {
         self.inner.force_flush()
     }
 
-    /// Flushes the processor, and then takes the ended spans with these numbers, in order, as
-    /// [`SimpleSpanProcessor::on_end_of`] does. Their numbers leave the list.
+    /// Flushes the processor, and then collects the ended spans with these numbers, in order, as
+    /// [`SimpleSpanProcessor::on_end_of`] does. Removes their numbers from the list.
     ///
     /// # Errors
     ///
-    /// `AlreadyShutdown` after [`SpanProcessor::shutdown`]: nothing changes. Else `Memory` if out
-    /// of memory, or that of the first flush that fails. The numbers of the spans that weren't
-    /// taken stay in the list, and these spans in the table.
+    /// - `AlreadyShutdown` after [`SpanProcessor::shutdown`]. Nothing changes.
+    /// - Otherwise `Memory` if out of memory, or the error of the first flush that fails. The spans
+    ///   that weren't collected stay in the table, and their numbers in the list.
     pub fn collect(&mut self, spans: &mut Spans<SdkSpan>, ended: &mut Vec<u64>) -> OTelSdkResult
         ensures handed_on { AreHandedOn E.accepted ended.old.items ended.new.items
             (spec.of self.old spans.old) (spec.of self.new spans.new) }
