@@ -1,4 +1,4 @@
--- What the calls of a span do.
+-- The effects of the calls of a span.
 use Rattle.std.specs.Prelude.{ℕ, List, [], ◌∷◌, ◌++◌, length, Bool, true, false, ◌&&◌, not}
 use Rattle.std.specs.Prelude.{◌||◌, nat_eq, nat_lt, Option, Some, None, fold, is_some, if◌then◌else◌}
 use Rattle.std.specs.Option.{option_map}
@@ -13,8 +13,8 @@ use Rattle.otel_sdk_span.specs.SpanData.{SpanRecord}
 use Rattle.otel_sdk_span.specs.SpanLimits.{default_limits, limited_event, limited_link}
 use Rattle.otel_sdk_span.specs.declared.limits.SpanLimits.{SpanLimits}
 
--- ---- what a span has recorded, after a call
--- The attribute is cut and set if the limit allows it, otherwise counted.
+-- ---- the recorded data after a call
+-- The attribute is truncated, and set if the limit allows it or counted as dropped otherwise.
 abbrev pub with_attribute : SpanLimits → SpanRecord → Attribute → SpanRecord
 with_attribute limits d given =
     let a = cut limits.max_attribute_length given in
@@ -25,8 +25,8 @@ with_attribute limits d given =
           if keeps limit d.attributes a then d.dropped_attributes else up_by d.dropped_attributes 1;
     }
 
--- The event is appended, within its own limits, if there are fewer than the limit; otherwise it is
--- counted. So the first ones stay.
+-- The event is appended, within its own limits, if there are fewer events than the limit. Otherwise
+-- it is counted as dropped. So the first ones stay.
 abbrev pub with_event : SpanLimits → SpanRecord → EventRecord → SpanRecord
 with_event limits d e =
     let has_room = nat_lt (length d.events) limits.max_events_per_span in
@@ -56,15 +56,15 @@ with_kept_link limits d l =
 abbrev pub with_link : SpanLimits → SpanRecord → LinkRecord → SpanRecord
 with_link limits d l = if says_nothing l then d else with_kept_link limits d l
 
--- The status rises: it is the new one if that is greater, otherwise the old one [the Rust crate's
+-- The status only increases: it is the greater of the new one and the old one [the Rust crate's
 -- `set_status`].
 abbrev pub with_status : SpanRecord → Status → SpanRecord
 with_status d status = record d {
   status = if is_gt (cmp status d.status) then status else d.status;
 }
 
--- The data with its attributes, then its events and then its links set and added in turn, as later
--- calls do.
+-- The data within the limits: its attributes are set in turn, then its events and then its links
+-- are added in turn, as by later calls.
 abbrev pub within : SpanLimits → SpanRecord → SpanRecord
 within limits d =
     let empty = record d { attributes = []; events = []; links = [] } in
@@ -73,7 +73,7 @@ within limits d =
     fold (with_link limits) with_events d.links
 
 -- ---- spans
--- A span: its span context, what it has recorded if it records at all, its limits, and whether it
+-- A span: its span context, its recorded data if it has ever recorded, its limits, and whether it
 -- has ended.
 pub record SpanState : Type 0 where
   pub context : SpanContextRecord
@@ -99,12 +99,12 @@ unrecorded context = record {
   has_ended = false;
 }
 
--- whether it records: it has something to record in, and hasn't ended
+-- whether the span records: it has recorded data, and hasn't ended
 abbrev pub is_recording : SpanState → Bool
 is_recording s = is_some s.recorded && not s.has_ended
 
--- The span with its data changed so, if it records; after its end nothing changes [OpenTelemetry
--- trace API, "End"].
+-- The span with the change applied to its data, if it records. After its end, nothing changes
+-- [OpenTelemetry trace API, "End"].
 abbrev pub recording : SpanState → (SpanRecord → SpanRecord) → SpanState
 recording s change = record s {
   recorded = if s.has_ended then s.recorded else option_map change s.recorded;
@@ -134,6 +134,6 @@ after_status s status = recording s (λ d. with_status d status)
 abbrev pub after_name : SpanState → List ℕ → SpanState
 after_name s name = recording s (λ d. record d { name = name })
 
--- The moment is kept as it is given, also before the start; a second end changes nothing.
+-- The time is kept as given, even if it is before the start. A second end changes nothing.
 abbrev pub after_end : SpanState → ℕ → SpanState
 after_end s time = record (recording s (λ d. record d { end_time = time })) { has_ended = true }

@@ -1,4 +1,4 @@
--- What a span has recorded.
+-- The recorded data of a span.
 use Rattle.std.specs.Prelude.{ℕ, List, Bool}
 use Rattle.otel_base.specs.InstrumentationScope.{Scope}
 use Rattle.otel_base.specs.KeyValue.{Attribute}
@@ -9,7 +9,7 @@ use Rattle.opentelemetry.specs.Event.{EventRecord, LinkRecord}
 
 -- The span context; the parent's span id, 0 for a root, and whether the parent is remote; the kind
 -- and the name; the start and the end in nanoseconds since 1970; the attributes, events and links
--- in order, each with how many were dropped; the status, and the scope of the tracer [OpenTelemetry
+-- in order, each with the number of dropped ones; the status, and the tracer's scope [OpenTelemetry
 -- trace SDK, "Additional span interfaces"; the Rust crate's `SpanData`]
 pub record SpanRecord : Type 0 where
   pub span_context : SpanContextRecord

@@ -1,4 +1,4 @@
--- Worked rows of what the calls of a span do.
+-- Worked rows of the effects of the calls of a span.
 use Rattle.std.specs.Prelude.{◌≡◌, ℕ, List, [], ◌∷◌, codes, true, false, Some, None, refl}
 use Rattle.std.specs.Prelude.{fold}
 use Rattle.otel_base.specs.KeyValue.{Attribute}
@@ -59,7 +59,7 @@ three_keys =
     fold (span.with_attribute two) nothing
     (key (codes "a") ∷ key (codes "b") ∷ key (codes "c") ∷ [])
 
--- of three keys the first two stay
+-- with a limit of two, the first two of three keys stay
 first_attributes_example : three_keys.attributes ≡ key (codes "a") ∷ key (codes "b") ∷ []
 first_attributes_example = refl
 
@@ -94,7 +94,7 @@ attribute_said_example :
 attribute_said_example = refl
 
 -- ---- statuses
--- an error a, success, an error b and none in turn leave success
+-- the statuses error a, ok, error b and unset, set in turn, leave ok
 success_stays_example :
     (fold span.with_status nothing
     (Status.Error (codes "a") ∷ Status.Ok ∷ Status.Error (codes "b") ∷ Status.Unset ∷ [])).status

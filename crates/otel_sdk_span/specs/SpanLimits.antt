@@ -1,4 +1,4 @@
--- What a span keeps of what its calls give it.
+-- The limits on the data of a span.
 use Rattle.std.specs.Prelude.{◌≡◌, ℕ, ◌+◌, List, [], map, nat_lt, refl}
 use Rattle.std.specs.Prelude.{None, if◌then◌else◌}
 use Rattle.otel_base.specs.KeyValue.{Attribute}
@@ -17,12 +17,12 @@ default_limits = record {
   max_attribute_length = None;
 }
 
--- the attributes with their values cut
+-- the attributes with their values truncated
 abbrev pub cut_all : SpanLimits → List Attribute → List Attribute
 cut_all limits xs = map (cut limits.max_attribute_length) xs
 
--- the event with its attributes cut and then set in turn up to the limit, and with those that were
--- dropped counted
+-- the event with its attributes truncated and then set in turn up to the limit; the dropped ones
+-- are counted
 abbrev pub limited_event : SpanLimits → EventRecord → EventRecord
 limited_event limits e =
     let given = cut_all limits e.attributes in
@@ -32,8 +32,8 @@ limited_event limits e =
           up_by e.dropped_attributes_count (dropped limits.max_attributes_per_event [] given);
     }
 
--- the link with its attributes cut and then set in turn up to the limit, and with those that were
--- dropped counted
+-- the link with its attributes truncated and then set in turn up to the limit; the dropped ones
+-- are counted
 abbrev pub limited_link : SpanLimits → LinkRecord → LinkRecord
 limited_link limits l =
     let given = cut_all limits l.attributes in

@@ -12,7 +12,7 @@ use std::alloc::AllocError;
 use std::clone::Clone;
 use std::rc::Rc;
 
-// Each attribute of the copy means the same as the original's.
+// Returns a copy whose attributes have the same meaning as the originals.
 fn copy_attributes(attributes: &Vec<KeyValue>) -> Result<Vec<KeyValue>, AllocError>
     ensures { IfOk result (λ copy.
         map attribute_of copy.items ≡ map attribute_of attributes.now.items) }
@@ -53,7 +53,7 @@ fn copy_lists(span: &SpanData) -> Result<Lists, AllocError>
     })
 }
 
-/// Copies of what else a span shares or owns.
+/// Copies of the other parts that a span shares or owns.
 #[derive(Drop)]
 struct Parts {
     span_context: SpanContext,
@@ -79,7 +79,7 @@ fn copy_parts(span: &SpanData) -> Result<Parts, AllocError>
 impl Clone for SpanData {
     ghost is_clone = { λ d copy. copy ≡ d };
 
-    /// Returns a copy, which shares the scope.
+    /// Returns a copy that shares the scope.
     ///
     /// # Errors
     ///

@@ -1,4 +1,4 @@
-//! What a span has recorded.
+//! The recorded data of a span.
 ghost use Rattle.std.specs.Prelude.{◌≡◌, IfOk, OnOk, OnErr, fold, map};
 ghost use Rattle.otel_base.specs.View.{attribute_of};
 ghost use Rattle.opentelemetry.specs.View.{event_of, link_of};
@@ -15,54 +15,54 @@ use std::marker::Model;
 use std::mem;
 use std::rc::Rc;
 
-/// What a span has recorded, as processors and exporters get it (the Rust crate's `SpanData`).
+/// The recorded data of a span, for processors and exporters (the Rust crate's `SpanData`).
 ///
-/// Contracts see the record of its parts, the lists with their counts side by side.
+/// Contracts see the record of its parts, with each list next to its count.
 #[derive(Debug, Drop)]
 pub struct SpanData {
-    /// What identifies the span.
+    /// The span context, which identifies the span.
     pub span_context: SpanContext,
-    /// The span id of the parent, [`SpanId::INVALID`] for a root.
+    /// The span id of the parent, or [`SpanId::INVALID`] for a root.
     pub parent_span_id: SpanId,
     /// Whether the parent came from another process.
     pub parent_span_is_remote: bool,
-    /// Which side of a call the span describes.
+    /// The side of a call that the span describes.
     pub span_kind: SpanKind,
     /// The name of the span.
     pub name: StringValue,
-    /// When it started, in nanoseconds since 1970-01-01T00:00:00Z.
+    /// The time of the start, in nanoseconds since 1970-01-01T00:00:00Z.
     pub start_time: u64,
-    /// When it ended, in nanoseconds since 1970-01-01T00:00:00Z. It may be before the start.
+    /// The time of the end, in nanoseconds since 1970-01-01T00:00:00Z. It may be before the start.
     pub end_time: u64,
-    /// Its attributes in order.
+    /// The attributes, in order.
     pub attributes: Vec<KeyValue>,
-    /// How many attributes were dropped because of a limit.
+    /// The number of attributes that were dropped because of a limit.
     pub dropped_attributes_count: u32,
-    /// Its events.
+    /// The events.
     pub events: SpanEvents,
-    /// Its links to other spans.
+    /// The links to other spans.
     pub links: SpanLinks,
-    /// Its status.
+    /// The status.
     pub status: Status,
-    /// The library or module whose tracer started it, shared by the spans of that tracer.
+    /// The library or module whose tracer started the span. The spans of a tracer share it.
     pub instrumentation_scope: Rc<InstrumentationScope>,
 }
 
 /// The events of a span (the Rust crate's `SpanEvents`).
 #[derive(Debug, Drop)]
 pub struct SpanEvents {
-    /// The events in order.
+    /// The events, in order.
     pub events: Vec<Event>,
-    /// How many events were dropped because of a limit.
+    /// The number of events that were dropped because of a limit.
     pub dropped_count: u32,
 }
 
 /// The links of a span (the Rust crate's `SpanLinks`).
 #[derive(Debug, Drop)]
 pub struct SpanLinks {
-    /// The links in order.
+    /// The links, in order.
     pub links: Vec<Link>,
-    /// How many links were dropped because of a limit.
+    /// The number of links that were dropped because of a limit.
     pub dropped_count: u32,
 }
 
@@ -94,8 +94,8 @@ impl Model for SpanData {
     } };
 }
 
-/// Returns whether the link has a span context that isn't valid, and neither attributes nor a trace
-/// state.
+/// Returns `true` if the link is empty: its span context isn't valid, and it has neither attributes
+/// nor a trace state.
 fn says_nothing(link: &Link) -> bool
     ensures { result ≡ spec.says_nothing (link_of link.now) }
 {
@@ -105,11 +105,11 @@ fn says_nothing(link: &Link) -> bool
 }
 
 impl SpanData {
-    /// Sets the attribute, cut, if the limit allows it; otherwise counts it.
+    /// Truncates the attribute and sets it if the limit allows it. Otherwise counts it as dropped.
     ///
     /// # Errors
     ///
-    /// Returns an error if memory runs out. Nothing changes then.
+    /// `AllocError` if out of memory. Nothing changes.
     pub(crate) fn set_attribute(
         &mut self,
         alloc: Global,
@@ -131,11 +131,12 @@ impl SpanData {
         Ok(())
     }
 
-    /// Adds the event, within its own limits, if the limit allows it; otherwise counts it.
+    /// Adds the event, within its own limits, if the limit allows it. Otherwise counts it as
+    /// dropped.
     ///
     /// # Errors
     ///
-    /// Returns an error if memory runs out. Nothing changes then.
+    /// `AllocError` if out of memory. Nothing changes.
     pub(crate) fn add_event(
         &mut self,
         alloc: Global,
@@ -155,12 +156,12 @@ impl SpanData {
         Ok(())
     }
 
-    /// Adds the link, within its own limits, if the limit allows it; otherwise counts it. An empty
-    /// link changes nothing.
+    /// Adds the link, within its own limits, if the limit allows it. Otherwise counts it as
+    /// dropped. An empty link changes nothing.
     ///
     /// # Errors
     ///
-    /// Returns an error if memory runs out. Nothing changes then.
+    /// `AllocError` if out of memory. Nothing changes.
     pub(crate) fn add_link(
         &mut self,
         alloc: Global,
@@ -240,11 +241,12 @@ impl SpanData {
         Ok(())
     }
 
-    /// Returns the data with its attributes, events and links set and added in turn.
+    /// Returns the data within the limits: its attributes are set in turn, and then its events and
+    /// links are added in turn.
     ///
     /// # Errors
     ///
-    /// Returns an error if memory runs out. The data is dropped.
+    /// `AllocError` if out of memory. The data is dropped.
     pub(crate) fn within(
         mut self,
         alloc: Global,

@@ -1,11 +1,11 @@
-//! Exporters, which take ended spans out of the program.
+//! Exporters, which send ended spans out of the program.
 use crate::data::SpanData;
 use otel_sdk_base::Exporter;
 
-/// Takes ended spans out of the program, in batches (the Rust crate's `SpanExporter`): any
+/// Sends ended spans out of the program, in batches (the Rust crate's `SpanExporter`): any
 /// [`Exporter`] of spans.
 ///
-/// `otel_sdk` has `InMemorySpanExporter`.
+/// For tests, `otel_sdk` has `InMemorySpanExporter`.
 pub trait SpanExporter: Exporter<SpanData> {}
 
 impl<E: Exporter<SpanData>> SpanExporter for E {}

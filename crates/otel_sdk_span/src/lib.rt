@@ -1,4 +1,4 @@
-//! Spans that record within limits, what they have recorded, and the exporters that take ended spans.
+//! Spans that record within limits, their recorded data, and exporters of ended spans.
 //! `otel_sdk` re-exports all of it.
 #![tactic(auto)]
 

@@ -1,4 +1,4 @@
-//! Limits of what a span keeps.
+//! Limits on the data of a span.
 ghost use Rattle.std.specs.Prelude.{◌≡◌, IfOk};
 ghost use Rattle.opentelemetry.specs.View.{event_of, link_of};
 ghost use Rattle.otel_sdk_span.specs.SpanLimits as spec;
@@ -7,8 +7,8 @@ use opentelemetry::trace::{Event, Link};
 use otel_sdk_base::attributes::limited;
 use std::alloc::{AllocError, Global};
 
-/// How much a span keeps of what its calls give it (the Rust crate's `SpanLimits`). What exceeds a
-/// limit is dropped and counted, so the first ones stay.
+/// Limits on the data that a span records (the Rust crate's `SpanLimits`). Items beyond a limit are
+/// dropped and counted, so the first ones stay.
 ///
 /// ```
 /// let limits = SpanLimits {
@@ -20,25 +20,25 @@ use std::alloc::{AllocError, Global};
 /// Counts stop at the greatest `u32`. See OpenTelemetry trace SDK, "Span Limits".
 #[derive(Clone, Copy, Debug)]
 pub struct SpanLimits {
-    /// The greatest number of events of a span.
+    /// The maximum number of events per span.
     pub max_events_per_span: u32,
-    /// The greatest number of attributes of a span.
+    /// The maximum number of attributes per span.
     pub max_attributes_per_span: u32,
-    /// The greatest number of links of a span.
+    /// The maximum number of links per span.
     pub max_links_per_span: u32,
-    /// The greatest number of attributes of an event.
+    /// The maximum number of attributes per event.
     pub max_attributes_per_event: u32,
-    /// The greatest number of attributes of a link.
+    /// The maximum number of attributes per link.
     pub max_attributes_per_link: u32,
-    /// The greatest number of characters of a text in an attribute or in an array. A longer text is
-    /// cut, and that isn't counted. The Rust crate has no such limit.
+    /// The maximum length of a text in an attribute or in an array, in characters. Longer texts are
+    /// truncated, and not counted. The Rust crate has no such limit.
     pub max_attribute_length: Option<u32>,
 }
 
 impl Default for SpanLimits {
     ghost is_default = { λ l. l ≡ spec.default_limits };
 
-    /// Returns 128 for each number, and no limit on the length of texts.
+    /// Returns 128 for each maximum number, and no limit on the length of texts.
     fn default() -> SpanLimits {
         SpanLimits {
             max_events_per_span: 128,
@@ -51,11 +51,11 @@ impl Default for SpanLimits {
     }
 }
 
-/// Returns the event with its attributes cut and up to the limit.
+/// Returns the event with its attributes truncated, and dropped and counted beyond the limit.
 ///
 /// # Errors
 ///
-/// Returns an error if memory runs out. The event is dropped.
+/// `AllocError` if out of memory. The event is dropped.
 pub(crate) fn limited_event(
     alloc: Global,
     limits: SpanLimits,
@@ -78,11 +78,11 @@ pub(crate) fn limited_event(
     ))
 }
 
-/// Returns the link with its attributes cut and up to the limit.
+/// Returns the link with its attributes truncated, and dropped and counted beyond the limit.
 ///
 /// # Errors
 ///
-/// Returns an error if memory runs out. The link is dropped.
+/// `AllocError` if out of memory. The link is dropped.
 pub(crate) fn limited_link(
     alloc: Global,
     limits: SpanLimits,

@@ -11,18 +11,18 @@ use opentelemetry::{KeyValue, StringValue};
 use std::alloc::{AllocError, Global};
 use std::marker::Model;
 
-// What a span keeps: the data that it records in, or only its span context.
+// The content of a span: its recorded data, or only its span context.
 #[derive(Debug, Drop)]
 enum Kept {
     Recorded(SpanData),
     Context(SpanContext),
 }
 
-/// A span that records up to limits, until it ends (the Rust crate's `Span`).
+/// A span that records within limits, until it ends (the Rust crate's `Span`).
 ///
-/// What exceeds a limit is dropped and counted, and the first ones stay. After the end nothing
-/// changes, and a second end does nothing. A span that doesn't record keeps its span context and
-/// whether it has ended; its calls take no memory.
+/// Items beyond a limit are dropped and counted, so the first ones stay. After the end, nothing
+/// changes, and a second end does nothing. A span that doesn't record keeps only its span context
+/// and whether it has ended. Its calls don't allocate.
 ///
 /// ```
 /// let mut span = SdkSpan::new(alloc, given, SpanLimits::default())?;
@@ -52,12 +52,13 @@ impl Model for SdkSpan {
 }
 
 impl SdkSpan {
-    /// Returns a span that starts with the given data and records on, up to the limits. The given
-    /// attributes, events and links are set and added in turn, as later calls do.
+    /// Returns a span that starts with the given data and continues to record, within the limits.
+    /// The given attributes are set in turn, and the given events and links are added in turn, as
+    /// by later calls.
     ///
     /// # Errors
     ///
-    /// Returns an error if memory runs out. The data is dropped.
+    /// `AllocError` if out of memory. The data is dropped.
     pub fn new(alloc: Global, given: SpanData, limits: SpanLimits) -> Result<SdkSpan, AllocError>
         ensures { IfOk result (λ span. span ≡ spec.started limits given) }
     {
@@ -68,7 +69,7 @@ impl SdkSpan {
         })
     }
 
-    /// Returns a span that doesn't record. It keeps its span context only, and takes no memory.
+    /// Returns a span that doesn't record. It keeps only its span context. Doesn't allocate.
     pub fn without_data(span_context: SpanContext) -> SdkSpan
         ensures { result ≡ spec.unrecorded span_context }
     {
@@ -86,7 +87,7 @@ impl SdkSpan {
         self.has_ended
     }
 
-    /// Returns what the span has recorded, or `None` if it has never recorded.
+    /// Returns the recorded data, or `None` if the span has never recorded.
     pub fn data(&self) -> Option<&SpanData>
         ensures { option_copied result ≡ self.now.recorded }
     {
@@ -96,7 +97,7 @@ impl SdkSpan {
         }
     }
 
-    /// Returns what the span has recorded, or `None` if it has never recorded. Takes no memory.
+    /// Returns the recorded data, or `None` if the span has never recorded. Doesn't allocate.
     pub fn into_data(self) -> Option<SpanData>
         ensures { result ≡ self.recorded }
     {
@@ -127,12 +128,13 @@ impl Span for SdkSpan {
 
     ghost after_end = { after_end };
 
-    /// Adds the event, with its attributes cut and up to the limit, if the span has fewer events
-    /// than the limit; otherwise counts it. Does nothing if the span doesn't record.
+    /// Adds an event at the given time, in nanoseconds since 1970, if the span has fewer events
+    /// than the limit. Otherwise counts it as dropped. The attributes of the event are truncated,
+    /// and dropped and counted beyond their own limit. Does nothing if the span doesn't record.
     ///
     /// # Errors
     ///
-    /// Returns an error if memory runs out. The span is then unchanged.
+    /// `AllocError` if out of memory. The span is unchanged.
     fn add_event_with_timestamp(
         &mut self,
         alloc: Global,
@@ -155,12 +157,12 @@ impl Span for SdkSpan {
         }
     }
 
-    /// Sets the attribute, cut, if its key is present or the span has fewer attributes than the
-    /// limit; otherwise counts it. Does nothing if the span doesn't record.
+    /// Truncates the attribute, and sets it if its key is present or the span has fewer attributes
+    /// than the limit. Otherwise counts it as dropped. Does nothing if the span doesn't record.
     ///
     /// # Errors
     ///
-    /// Returns an error if memory runs out. The span is then unchanged.
+    /// `AllocError` if out of memory. The span is unchanged.
     fn set_attribute(&mut self, alloc: Global, attribute: KeyValue) -> Result<(), AllocError>
         ensures ok { OnOk result (self.new ≡ after_attribute self.old (attribute_of attribute)) }
         ensures err { OnErr result (self.new ≡ self.old) }
@@ -175,13 +177,16 @@ impl Span for SdkSpan {
         }
     }
 
-    /// Adds the link, with its attributes cut and up to the limit, if the span has fewer links than
-    /// the limit; otherwise counts it. Does nothing if the span context is not valid and there are
-    /// neither attributes nor a trace state, or if the span doesn't record.
+    /// Adds a link to the span context if the span has fewer links than the limit. Otherwise counts
+    /// it as dropped. The attributes of the link are truncated, and dropped and counted beyond
+    /// their own limit.
+    ///
+    /// Does nothing if the span doesn't record, or if the link is empty: the span context isn't
+    /// valid, and there are neither attributes nor a trace state.
     ///
     /// # Errors
     ///
-    /// Returns an error if memory runs out. The span is then unchanged.
+    /// `AllocError` if out of memory. The span is unchanged.
     fn add_link(
         &mut self,
         alloc: Global,
@@ -232,8 +237,8 @@ impl Span for SdkSpan {
         }
     }
 
-    /// Ends the span. The moment is kept as given, even if it is before the start. Does nothing if
-    /// the span has ended.
+    /// Ends the span at the given time, in nanoseconds since 1970. The time is kept as given, even
+    /// if it is before the start. Does nothing if the span has ended.
     fn end_with_timestamp(&mut self, timestamp: u64)
         ensures effect { self.new ≡ after_end self.old timestamp }
         ensures stopped { is_recording self.new ≡ false }
