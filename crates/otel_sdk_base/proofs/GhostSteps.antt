@@ -1,4 +1,4 @@
--- Steps that the walks of `src/accepted.rt` share. Assumes `Logic`.
+-- Steps that the proofs for `src/accepted.rt` share. Assumes `Logic`.
 use Rattle.std.proofs.Common.{List, [], ◌∷◌, refl}
 use seplogic.Ra.Ura.{Ura}
 use mir.Val.{Val, vstruct, vcons, vnil}
@@ -8,7 +8,7 @@ use denote.RattleType.{RattleType, Valss}
 use denote.Steps.{nothing}
 use denote.Struct.Struct.{Struct, within}
 
--- a struct by its fields alone: what it owns does not read its name
+-- a struct determined by its fields only: its ownership doesn't depend on its name
 abbrev pub plainly : List RattleType → RattleType
 plainly Rs = Struct (record { name = []; args = []; types = []; fields = Rs })
 

@@ -14,7 +14,7 @@ prefix_len_map : {X Y : Type 0} (p : Y → Bool) (f : X → Y) (xs : List X) →
 prefix_len_map p f [] = refl
 prefix_len_map p f (x ∷ xs) = ap (λ n. cond (p (f x)) (1 + n) 0) (prefix_len_map p f xs)
 
--- the first place that passes is that of the first element whose image passes
+-- the first place that passes is the place of the first element whose image passes
 pub position_map : {X Y : Type 0} (p : Y → Bool) (f : X → Y) (xs : List X) → position p (map f xs) ≡ position (λ x. p (f x)) xs
 position_map p f xs =
     rw (length-map xs f) (ap (λ n. cond (nat_lt n (length xs)) (Some n) None) (prefix_len_map (λ y. not (p y)) f xs))
@@ -26,7 +26,7 @@ put_at xs a i h =
     map-set attribute_of xs i a
     ∙ ap (λ r. option_map_or (λ j. slice_set (map attribute_of xs) j (attribute_of a)) r (map attribute_of xs ++ attribute_of a ∷ [])) (sym h)
 
--- the first image that passes is that of the first element whose image passes
+-- the first image that passes is the image of the first element whose image passes
 pub find_map : {X Y : Type 0} (p : Y → Bool) (f : X → Y) (xs : List X) → find p (map f xs) ≡ option_map f (find (λ x. p (f x)) xs)
 find_map p f [] = refl
 find_map p f (x ∷ xs) = elim (cases_Bool (p (f x))) [ inl t ↦ rw t refl | inr h ↦ rw h (find_map p f xs) ]

@@ -11,14 +11,14 @@ use Rattle.otel_base.specs.KeyValue.{Attribute}
 use Rattle.otel_sdk_base.specs.Attributes.{put, put_all}
 use Rattle.otel_sdk_base.specs.ResourceTexts.{is_fault, attribute_in}
 
--- so many pieces came: those left complete the first fault and the attributes
+-- after some number of pieces, the pieces left complete the first fault and the attributes
 abbrev pub FaultIs : List (List ℕ) → ℕ → Option ℕ → Type 0
 FaultIs ps n first = position_from is_fault n (drop n ps) ≡ first
 
 abbrev pub AttributesAre : List (List ℕ) → ℕ → List Attribute → List Attribute → Type 0
 AttributesAre ps n xs total = put_all xs (filter_map attribute_in (drop n ps)) ≡ total
 
--- a piece that the loop meets is the one at the number that it meets it with
+-- the piece that the loop reads with a number is the piece at that number
 pub piece_at : (ps : List (List ℕ)) (n number : ℕ) (piece : List ℕ) → (n < length (enumerate_from 0 ps)) × ((number, piece) ≡ get_or (enumerate_from 0 ps) n (number, piece))
     → (number ≡ n) × ((n < length ps) × (piece ≡ get_or ps n piece))
 piece_at ps n number piece turn =
@@ -26,7 +26,7 @@ piece_at ps n number piece turn =
     let there : ◌≡◌ {A = ℕ × List ℕ} (number, piece) (0 + n, get_or ps n piece) = turn.1 ∙ get_or-enumerate_from 0 ps n (number, piece) within in
     (omega (arith, ap (λ (p : ℕ × List ℕ). p.0) there), (within, ap (λ (p : ℕ × List ℕ). p.1) there))
 
--- no piece came yet
+-- no piece was read yet
 pub starts : (ps : List (List ℕ)) → FaultIs ps 0 (position is_fault ps)
 starts ps = sym (position_from-zero is_fault ps)
 

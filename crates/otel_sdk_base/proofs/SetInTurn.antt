@@ -1,4 +1,4 @@
--- Attributes that are set in turn, one after those before.
+-- Attributes that are set in turn.
 use Rattle.std.proofs.Common.{add-zero, ◌≡◌, ℕ, ◌+◌, Bool, true, false, List, [], ◌∷◌, ◌++◌, map, Option, refl, sym, ap, ◌∙◌, arith}
 use Rattle.std.specs.Prelude.{nat_lt, if◌then◌else◌}
 use Rattle.std.proofs.lemmas.List.{map-append}
@@ -33,7 +33,7 @@ module _ (limit : ℕ) (len : Option ℕ) (ys : List KeyValue) (y : KeyValue) wh
   abbrev cut_next : Attribute
   cut_next = spec.cut len (attribute_of y)
 
-  -- what is given up to y, cut
+  -- the given attributes up to y, truncated
   cut_all-more : map (spec.cut len) (map attribute_of (ys ++ y ∷ []))
       ≡ map (spec.cut len) (map attribute_of ys) ++ spec.cut len (attribute_of y) ∷ []
   cut_all-more =

@@ -1,5 +1,4 @@
--- What setting an attribute does to a list of attributes with unique keys and a limit, and how long
--- texts are cut.
+-- How an attribute is set in a list with unique keys and a limit, and how long texts are truncated.
 use Rattle.std.specs.Prelude.{◌≡◌, ℕ, ◌+◌, List, [], ◌∷◌, ◌++◌, length, map, Bool, true, false}
 use Rattle.std.specs.Prelude.{◌||◌, nat_lt, fold, Option, Some, None, is_some, codes, refl}
 use Rattle.std.specs.Prelude.{if◌then◌else◌, position, slice_set}
@@ -58,13 +57,14 @@ abbrev pub HasUniqueKeys : List Attribute → Type 0
 HasUniqueKeys xs = IsDistinct bytes_eq (keys xs)
 
 -- ---- counting
--- a count that rises by some, and stops at the greatest `u32`
+-- a count plus a number, saturating at the greatest `u32`
 abbrev pub up_by : ℕ → ℕ → ℕ
 up_by count more = if nat_lt (count + more) 4294967296 then count + more else 4294967295
 
 -- ---- cutting
--- the value with each text cut to its first n characters, those of an array too (OpenTelemetry
--- specification, "Attribute Limits"): of n = 1, two characters of four bytes are cut to one
+-- the value with each text truncated to its first n characters, also the texts of an array
+-- (OpenTelemetry specification, "Attribute Limits"): if n = 1, two characters of four bytes are
+-- truncated to one
 abbrev pub cut_array : ℕ → ArrayValue → ArrayValue
 cut_array n (texts ts) = texts (map (take_chars n) ts)
 cut_array n (booleans bs) = booleans bs
@@ -90,7 +90,7 @@ abbrev pub left_out : ℕ → Option ℕ → List Attribute → ℕ
 left_out limit length given = dropped limit [] (map (cut length) given)
 
 -- ---- the lists of the program
--- what a list of the program means
+-- the view of a list in the program
 abbrev pub attributes_of : Vec KeyValue Global → List Attribute
 attributes_of list = map attribute_of list.items
 

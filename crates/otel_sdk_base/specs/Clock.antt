@@ -1,8 +1,7 @@
--- What a clock reads.
+-- The time that a clock reads.
 use Rattle.std.specs.Prelude.{◌≡◌, ℕ, min, refl}
 
--- a moment in 64 bits: the nanoseconds since 1970, of which there are at most 2 ^ 64 - 1, a moment
--- in the year 2554
+-- a time in 64 bits: the nanoseconds since 1970, at most 2 ^ 64 - 1, which is in the year 2554
 abbrev pub within_u64 : ℕ → ℕ
 within_u64 nanos = min nanos 18446744073709551615
 

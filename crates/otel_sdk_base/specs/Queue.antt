@@ -1,4 +1,4 @@
--- The queue of a processor: its limits, what it keeps, and what its calls do.
+-- The queue of a processor: its limits, its items, and the effects of its calls.
 use Rattle.std.specs.Prelude.{◌≡◌, ◌⊎◌, ℕ, ◌+◌, ◌-◌, ◌^◌, Bool, true, false, List, [], ◌∷◌, ◌++◌}
 use Rattle.std.specs.Prelude.{length, Result, IsErr, IsErrOf, IsTrue, OnOk, not, nat_lt, min, max}
 use Rattle.std.specs.Prelude.{if◌then◌else◌, alloc_error, refl}
@@ -7,8 +7,8 @@ use Rattle.otel_sdk_base.specs.declared.error.OTelSdkError.{OTelSdkError}
 use Rattle.otel_sdk_base.specs.declared.error.OTelSdkError.TheVariants.{AlreadyShutdown, Memory}
 
 -- ---- what a processor received
--- The items that a processor received and keeps, in order: those that its exporter accepted,
--- followed by those that are queued; and how many it dropped.
+-- The items that a processor received and keeps, in order: the items that its exporter accepted,
+-- followed by the queued items. Also how many items it dropped.
 pub record Received (X : Type 0) : Type 0 where
   pub items : List X
   pub dropped : ℕ
@@ -31,13 +31,13 @@ module _ {X : Type 0} where
   IsKeptOrDropped item old new = (new ≡ with_last item old) ⊎ (new ≡ with_dropped old)
 
 -- ---- limits
--- How many items are queued at most, and how many a batch has at most (OpenTelemetry trace SDK and
--- logs SDK, "Batching processor")
+-- The maximum numbers of queued items and of items in a batch (OpenTelemetry trace SDK and logs
+-- SDK, "Batching processor")
 pub record Limits : Type 0 where
   pub max_queue_size : ℕ
   pub max_export_batch_size : ℕ
 
--- what the limits count as: 0 as 1, and a batch has at most what a queue has (own)
+-- the effective limits: 0 is treated as 1, and a batch's limit is at most the queue's (own)
 abbrev pub effective : Limits → Limits
 effective given = record {
   max_queue_size = max given.max_queue_size 1;
@@ -73,7 +73,7 @@ module _ {X E : Type 0} where
     is_shut_down = false;
   }
 
-  -- what it received: the accepted items, followed by the queued ones
+  -- the items that it received: the accepted ones, followed by the queued ones
   abbrev pub received_of : (E → List (List X)) → QueueState X E → Received X
   received_of accepted q = record {
     items = items_of (accepted q.exporter) ++ q.queue;
@@ -92,7 +92,7 @@ module _ {X E : Type 0} where
   abbrev pub has_space : QueueState X E → Bool
   has_space q = nat_lt (length q.queue) q.config.max_queue_size
 
-  -- after an item comes: it is queued last, or dropped and counted if the queue is full
+  -- after an item is added: it is queued last, or dropped and counted if the queue is full
   -- (OpenTelemetry trace SDK and logs SDK, "Batching processor")
   abbrev pub after_add : X → QueueState X E → QueueState X E
   after_add item q = if has_space q then queued item q else counted q
@@ -101,8 +101,8 @@ module _ {X E : Type 0} where
   abbrev pub cause : QueueState X E → OTelSdkError
   cause q = if q.is_shut_down then AlreadyShutdown else Memory alloc_error
 
-  -- The first batches of the queue were accepted, and the queue keeps the rest. Nothing else
-  -- changes but the exporter.
+  -- The first batches of the queue were accepted, and the queue keeps the rest. Besides the queue,
+  -- only the exporter changes.
   pub record IsFlushed (accepted : E → List (List X)) (old new : QueueState X E) : Type 0 where
     pub exported : AreExported old.config.max_export_batch_size old.queue
         (accepted old.exporter) (accepted new.exporter) new.queue
@@ -135,21 +135,22 @@ module _ {X E : Type 0} where
   FlushedIfClosed accepted shuts_down old new =
       IsTrue (not old.is_shut_down) → IsTrue new.is_shut_down → IsClosed accepted shuts_down old new
 
-  -- A flush hands on the first batches, all of them if it succeeds. What was received stays.
+  -- A flush exports the first batches, or all of them if it succeeds. The received items stay the
+  -- same.
   abbrev pub IsForceFlushed : (E → List (List X)) → Result (Unit {0}) OTelSdkError
       → QueueState X E → QueueState X E → Type 0
   IsForceFlushed accepted answer old new =
       IsFlushed accepted old new × (received_of accepted new ≡ received_of accepted old)
       × OnOk answer (new.queue ≡ []) × IsRefusedIfClosed answer old new
 
-  -- A shutdown that finds the queue open flushes it, and closes it if that succeeded.
+  -- A shutdown of an open queue flushes it, and closes it if the flush succeeded.
   abbrev pub IsShutDown : (E → List (List X)) → (E → E → Type 0) → Result (Unit {0}) OTelSdkError
       → QueueState X E → QueueState X E → Type 0
   IsShutDown accepted shuts_down answer old new =
       IsRefusedIfClosed answer old new × FailedIfOpen accepted answer old new
       × FlushedIfClosed accepted shuts_down old new
 
-  -- Only the exporter changes, and not what it accepted.
+  -- Only the exporter changes, and the items that it accepted stay the same.
   abbrev pub OnlyExporterChanges : (E → List (List X)) → QueueState X E → QueueState X E → Type 0
   OnlyExporterChanges accepted old new =
       (accepted new.exporter ≡ accepted old.exporter)

@@ -1,4 +1,4 @@
--- What clauses see of a queue.
+-- The view of a queue in clauses.
 use Rattle.std.specs.Prelude.{ℕ}
 use Rattle.std.specs.Vec.{vec_capacity}
 use Rattle.otel_sdk_base.specs.declared.queue.Queue.{Queue}
@@ -15,6 +15,6 @@ module _ {X E : Type 0} where
     is_shut_down = q.is_shut_down;
   }
 
-  -- how many items it can hold without taking memory
+  -- how many items it can hold without allocating
   abbrev pub capacity : Queue X E → ℕ
   capacity q = vec_capacity q.items

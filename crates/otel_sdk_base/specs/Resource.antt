@@ -1,4 +1,4 @@
--- What a resource is, and what its calls make of it.
+-- The parts of a resource, and the effects of its calls.
 use Rattle.std.specs.Prelude.{◌≡◌, ℕ, List, [], ◌∷◌, Option, Some, None, option_map}
 use Rattle.std.specs.Prelude.{find, codes, refl, if◌then◌else◌}
 use Rattle.std.specs.Str.{bytes_eq}
@@ -19,8 +19,8 @@ empty = record { attributes = []; schema_url = None }
 abbrev pub named : List ℕ → List ℕ → Attribute
 named key value = (key, text value)
 
--- the attributes that each resource has unless it names others (OpenTelemetry specification,
--- "Telemetry SDK"; the service's name is own)
+-- the attributes that each resource has by default (OpenTelemetry specification, "Telemetry SDK";
+-- the service's name is own)
 abbrev pub defaults : List Attribute
 defaults =
     named (codes "service.name") (codes "unknown_service")
@@ -56,8 +56,8 @@ given None = None
 given (Some []) = None
 given (Some (b ∷ bs)) = Some (b ∷ bs)
 
--- the URL that only one has, or that both have; none if they differ (OpenTelemetry specification,
--- "Merge"; the Rust crate's `merge`)
+-- the URL if only one is given or both are equal, or none if they differ (OpenTelemetry
+-- specification, "Merge"; the Rust crate's `merge`)
 abbrev pub merged_url : Option (List ℕ) → Option (List ℕ) → Option (List ℕ)
 merged_url None new = new
 merged_url (Some old) None = Some old

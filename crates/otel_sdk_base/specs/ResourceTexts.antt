@@ -30,8 +30,8 @@ begins_with_byte (high ∷ low ∷ rest) = is_ascii_hexdigit high && is_ascii_he
 abbrev pub has_whole_escapes : List ℕ → Bool
 has_whole_escapes t = list_all begins_with_byte (drop 1 (slice_split (λ b. b == percent_sign) t))
 
--- The text with each escape replaced by its byte (RFC 3986, section 2.1), or None if an escape
--- isn't whole or the bytes aren't UTF-8: `b%2C` is `b,`, and `%f` and `%ff` are none.
+-- The text with each escape replaced by its byte (RFC 3986, section 2.1), or None if an escape is
+-- incomplete or the bytes aren't UTF-8: `b%2C` is `b,`, and `%f` and `%ff` are None.
 abbrev pub decoded : List ℕ → Option (List ℕ)
 decoded t =
     if has_whole_escapes t && is_utf8 (percent_decode t) then Some (percent_decode t) else None
@@ -56,14 +56,14 @@ AreParts piece result = MatchOption result (list_any is_equals piece ≡ false) 
     × (parts.0.now ≡ written_key piece)
     × (parts.1.now ≡ written_value piece))
 
--- the attribute of that key and value, if both are there and the key isn't empty
+-- the attribute of that key and value, if both exist and the key isn't empty
 abbrev pub pair_of : Option (List ℕ) → Option (List ℕ) → Option Attribute
 pair_of (Some (b ∷ key)) (Some value) = Some (named (b ∷ key) value)
 pair_of (Some (b ∷ key)) None = None
 pair_of (Some []) value = None
 pair_of None value = None
 
--- the attribute that a piece stands for, if any
+-- the attribute that a piece denotes, if any
 abbrev pub attribute_in : List ℕ → Option Attribute
 attribute_in piece =
     if list_any is_equals piece
@@ -82,7 +82,7 @@ fault t = position is_fault (pieces t)
 abbrev pub reported_piece : Option ResourceTextError → Option ℕ
 reported_piece error = option_map (λ e. e.piece) error
 
--- the attributes that the pieces stand for, set in turn
+-- the attributes that the pieces denote, set in turn
 abbrev pub attributes_in : List ℕ → List Attribute
 attributes_in t = put_all [] (filter_map attribute_in (pieces t))
 
@@ -93,18 +93,18 @@ IsReadAs t (Ok attributes) =
 IsReadAs t (Err error) = fault t ≡ Some error.piece
 
 -- ---- both texts
--- the attributes with this name of the service, unless it is blank
+-- the attributes with this service name, unless it is blank
 abbrev pub with_service_name : List ℕ → List Attribute → List Attribute
 with_service_name name xs =
     if length (cut_blanks name) == 0 then xs
     else put xs (named (codes "service.name") (cut_blanks name))
 
--- `new` is `old` with this name of the service, unless it is blank
+-- `new` is `old` with this service name, unless it is blank
 abbrev pub NamesService : List ℕ → Vec KeyValue Global → Vec KeyValue Global → Type 0
 NamesService name old new = attributes_of new ≡ with_service_name name (attributes_of old)
 
--- The resource of a text of attributes and a name of the service (the variables
--- `OTEL_RESOURCE_ATTRIBUTES` and `OTEL_SERVICE_NAME`). A text with a fault gives no attributes.
+-- The resource of an attribute text and a service name (the variables `OTEL_RESOURCE_ATTRIBUTES`
+-- and `OTEL_SERVICE_NAME`). A text with a fault gives no attributes.
 abbrev pub from_texts : List ℕ → List ℕ → Parts
 from_texts t name = record {
   attributes = with_service_name name (if is_some (fault t) then [] else attributes_in t);

@@ -7,8 +7,8 @@ use std::fmt;
 use std::marker::{Model, PhantomData};
 use std::mem::size_of;
 
-/// The batches of items that an exporter has accepted. It is of size zero: they exist only in
-/// contracts. Only [`Accepted::and`] makes a longer list. Not in the Rust crates.
+/// The batches of items that an exporter has accepted. The type has size zero, since the batches
+/// exist only in contracts. Only [`Accepted::and`] makes a longer list. Not in the Rust crates.
 #[derive(Drop)]
 pub struct Accepted<T> {
     of: PhantomData<T>,
@@ -21,7 +21,7 @@ impl<T> Model for Accepted<T> {
     ghost also_owns = { λ _. ftrue };
 }
 
-/// Only the name: the batches exist only in contracts.
+/// Prints only the name, since the batches exist only in contracts.
 impl<T> fmt::Debug for Accepted<T> {
     fn fmt<W: fmt::Write>(&self, f: &mut fmt::Formatter<W>) -> fmt::Result {
         f.debug_struct("Accepted").finish()
@@ -29,14 +29,14 @@ impl<T> fmt::Debug for Accepted<T> {
 }
 
 impl<T> Accepted<T> {
-    /// Returns no batches.
+    /// Creates an empty list of batches.
     pub fn new() -> Accepted<T>
         ensures { result.batches ≡ [] }
     {
         Accepted { of: PhantomData }
     }
 
-    /// Returns these batches, with one more at the end.
+    /// Returns the list with one more batch at the end.
     pub fn and(&self, _batch: &[T]) -> Accepted<T>
         ensures { result.batches ≡ self.now.batches ++ _batch.now ∷ [] }
     {

@@ -1,4 +1,4 @@
-//! Lists of attributes with unique keys, under a limit.
+//! Lists of attributes with unique keys and a limit.
 ghost use Rattle.std.specs.Prelude.{◌≡◌, map, IfOk, OnOk, OnErr};
 ghost use Rattle.otel_base.specs.View.{attribute_of};
 ghost use Rattle.otel_sdk_base.specs.Attributes as spec;
@@ -7,25 +7,25 @@ use crate::cutting::cut;
 use otel_base::{Key, KeyValue};
 use std::alloc::{AllocError, Global};
 
-/// Returns the count plus `more`, or the greatest `u32` if that is less.
+/// Returns the count plus `more`, saturating at `u32::MAX`.
 pub fn up_by(count: u32, more: u32) -> u32
     ensures { result ≡ spec.up_by count more }
 {
     count.saturating_add(more)
 }
 
-// The place of the attribute with the key, if there is one.
+// Returns the position of the attribute with the key, if there is one.
 fn place(attributes: &[KeyValue], key: &Key) -> Option<usize>
     ensures { result ≡ spec.place key.now (map attribute_of attributes.now) }
 {
     attributes.iter().position(|held| held.key == *key)
 }
 
-/// Puts the attribute in the place of the one with its key, or last if there is none.
+/// Replaces the attribute with the same key, or appends the attribute if its key is new.
 ///
 /// # Errors
 ///
-/// Returns an error if memory runs out. The list is then unchanged, and the attribute is dropped.
+/// `AllocError` if out of memory. The list is then unchanged, and the attribute is dropped.
 pub fn put(attributes: &mut Vec<KeyValue>, attribute: KeyValue) -> Result<(), AllocError>
     ensures ok { OnOk result (spec.Puts attribute attributes.old attributes.new) }
     ensures err { OnErr result (attributes.new.items ≡ attributes.old.items) }
@@ -37,12 +37,12 @@ pub fn put(attributes: &mut Vec<KeyValue>, attribute: KeyValue) -> Result<(), Al
     Ok(())
 }
 
-/// Sets the attribute, and returns whether it was kept. It is dropped if its key is new and the
-/// list has as many attributes as the limit.
+/// Sets the attribute, and returns whether it was kept. An attribute with a new key is dropped if
+/// the list has reached the limit.
 ///
 /// # Errors
 ///
-/// Returns an error if memory runs out. The list is then unchanged, and the attribute is dropped.
+/// `AllocError` if out of memory. The list is then unchanged, and the attribute is dropped.
 pub fn set(
     attributes: &mut Vec<KeyValue>,
     limit: u32,
@@ -64,7 +64,8 @@ pub fn set(
 ///
 /// # Errors
 ///
-/// Returns an error if memory runs out. Those before are then put, and the others are dropped.
+/// `AllocError` if out of memory. The attributes before the failure have been put, and the others
+/// are dropped.
 pub fn put_all(attributes: &mut Vec<KeyValue>, given: Vec<KeyValue>) -> Result<(), AllocError>
     ensures { OnOk result (spec.PutsAll given attributes.old attributes.new) }
 {
@@ -74,12 +75,12 @@ pub fn put_all(attributes: &mut Vec<KeyValue>, given: Vec<KeyValue>) -> Result<(
     Ok(())
 }
 
-/// Cuts each of the given attributes and sets it in turn in a new list, up to the limit. Returns
-/// the list, and the count plus how many were dropped.
+/// Truncates each of the given attributes and sets it in turn in a new list, up to the limit.
+/// Returns the list, and the count plus the number of dropped attributes.
 ///
 /// # Errors
 ///
-/// Returns an error if memory runs out. The attributes are dropped.
+/// `AllocError` if out of memory. The attributes are dropped.
 pub fn limited(
     alloc: Global,
     limit: u32,

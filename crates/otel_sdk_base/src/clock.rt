@@ -1,4 +1,4 @@
-//! Clocks, which read the moments at which spans start.
+//! Clocks, which supply the start times of spans.
 ghost use Rattle.std.specs.Prelude.{◌≡◌};
 ghost use Rattle.std.specs.Time.{system_time_nanos};
 ghost use Rattle.otel_sdk_base.specs.Clock.{within_u64};
@@ -6,13 +6,13 @@ ghost use Rattle.otel_sdk_base.specs.Clock.{within_u64};
 use std::cell::Cell;
 use std::time::{SystemTime, UNIX_EPOCH};
 
-/// Reads the moment at which a span starts if its builder gives none. Not in the Rust crate, whose
-/// spans read the system's clock.
+/// Supplies a span's start time if its builder gives none. Not in the Rust crate, where spans read
+/// the system's clock.
 ///
 /// See [`SystemClock`] and [`ManualClock`].
 pub trait Clock: Drop {
-    /// Returns the moment, in nanoseconds since 1970-01-01T00:00:00Z. It may be before an earlier
-    /// one.
+    /// Returns the current time, in nanoseconds since 1970-01-01T00:00:00Z. A later call may return
+    /// an earlier time.
     fn now(&self) -> u64;
 }
 
@@ -25,13 +25,13 @@ pub struct SystemClock<R> {
 }
 
 impl<R: std::time::Clock + Drop> SystemClock<R> {
-    /// Returns the clock of that source.
+    /// Creates a clock that reads the given source.
     pub fn new(source: R) -> SystemClock<R> {
         SystemClock { source }
     }
 }
 
-/// Returns the nanoseconds since 1970, and the greatest `u64` from the year 2554 on.
+/// Returns the nanoseconds since 1970, or `u64::MAX` from the year 2554 on.
 fn nanos_of(time: SystemTime) -> u64
     ensures { result ≡ within_u64 (system_time_nanos time) }
 {
@@ -42,7 +42,7 @@ fn nanos_of(time: SystemTime) -> u64
 }
 
 impl<R: std::time::Clock + Drop> Clock for SystemClock<R> {
-    /// Returns the moment that the source reads, or 0 if it can't be read.
+    /// Returns the source's time, or 0 if the source can't be read.
     fn now(&self) -> u64 {
         match SystemTime::now(&self.source) {
             Ok(time) => nanos_of(time),
@@ -51,7 +51,7 @@ impl<R: std::time::Clock + Drop> Clock for SystemClock<R> {
     }
 }
 
-/// A clock that stands still until it is set, for tests.
+/// A clock that changes only when it is set, for tests.
 ///
 /// ```
 /// let clock = ManualClock::new(5);
@@ -63,21 +63,22 @@ pub struct ManualClock {
 }
 
 impl ManualClock {
-    /// Returns a clock that shows the moment, in nanoseconds since 1970-01-01T00:00:00Z.
+    /// Creates a clock that shows the given time, in nanoseconds since 1970-01-01T00:00:00Z.
     pub fn new(moment: u64) -> ManualClock {
         ManualClock {
             moment: Cell::new(moment),
         }
     }
 
-    /// Sets the moment, in nanoseconds since 1970-01-01T00:00:00Z. It may be before the old one.
+    /// Sets the time, in nanoseconds since 1970-01-01T00:00:00Z. The new time may be before the old
+    /// one.
     pub fn set(&self, moment: u64) {
         self.moment.set(moment);
     }
 }
 
 impl Clock for ManualClock {
-    /// Returns the moment that was set last.
+    /// Returns the time that was set last.
     fn now(&self) -> u64 {
         self.moment.get()
     }

@@ -1,4 +1,4 @@
-//! Texts in attributes cut to a number of characters.
+//! Truncates the texts in attributes to a number of characters.
 ghost use Rattle.std.specs.Prelude.{◌≡◌, IfOk, map, take};
 ghost use Rattle.std.specs.Fmt.{is_char_start, take_chars};
 ghost use Rattle.std.specs.String.Boundary.{IsSplitPoint};
@@ -15,7 +15,7 @@ fn is_char_start(byte: u8) -> bool
     byte < 0x80 || byte >= 0xc0
 }
 
-/// Returns where the first `length` characters of the text end, in bytes.
+/// Returns the byte position at which the first `length` characters of the text end.
 fn end_of_chars(text: &str, length: u32) -> usize
     ensures characters { take result text.now ≡ take_chars length text.now }
     ensures boundary { IsSplitPoint text.now result }
@@ -33,11 +33,11 @@ fn end_of_chars(text: &str, length: u32) -> usize
     bytes.len()
 }
 
-/// Returns the first `length` characters of the text. A text that isn't longer takes no memory.
+/// Returns the first `length` characters of the text. Doesn't allocate if the text isn't longer.
 ///
 /// # Errors
 ///
-/// Returns an error if memory runs out. The text is dropped.
+/// `AllocError` if out of memory. The text is dropped.
 fn cut_text(alloc: Global, length: u32, text: StringValue) -> Result<StringValue, AllocError>
     ensures { IfOk result (λ cut. cut ≡ take_chars length text) }
 {
@@ -76,12 +76,12 @@ fn cut_value(alloc: Global, length: u32, value: Value) -> Result<Value, AllocErr
     }
 }
 
-/// Returns the attribute with each text of its value cut to that many characters, if there is a
-/// limit.
+/// Returns the attribute with each text of its value truncated to `length` characters, or unchanged
+/// if there is no `length`.
 ///
 /// # Errors
 ///
-/// Returns an error if memory runs out. The attribute is dropped.
+/// `AllocError` if out of memory. The attribute is dropped.
 pub fn cut(alloc: Global, length: Option<u32>, attribute: KeyValue) -> Result<KeyValue, AllocError>
     ensures { IfOk result (λ cut. attribute_of cut ≡ spec.cut length (attribute_of attribute)) }
 {

@@ -5,18 +5,18 @@ ghost use Rattle.otel_sdk_base.specs.declared.error.OTelSdkError.TheVariants.{Me
 use std::alloc::{AllocError, AllocFailed};
 use thiserror::Error;
 
-/// Why a processor or an exporter failed (the Rust crate's `OTelSdkError`, without `Timeout`, as
-/// nothing waits here).
+/// The error of a processor or an exporter (the Rust crate's `OTelSdkError`, without `Timeout`,
+/// since nothing waits here).
 ///
 /// ```
 /// assert!(rt; matches!(answer, Err(OTelSdkError::AlreadyShutdown)));
 /// ```
 #[derive(Debug, Drop, Error)]
 pub enum OTelSdkError {
-    /// It was shut down before.
+    /// The processor or exporter was already shut down.
     #[error("Shutdown already invoked")]
     AlreadyShutdown,
-    /// Its own failure, in words.
+    /// The processor or exporter failed. The text says why.
     #[error("Operation failed: {0}")]
     InternalFailure(String),
     /// Out of memory. Not in the Rust crate, which aborts.
@@ -24,7 +24,7 @@ pub enum OTelSdkError {
     Memory(AllocError),
 }
 
-/// What calls of processors and exporters return (the Rust crate's `OTelSdkResult`).
+/// The result of calls to processors and exporters (the Rust crate's `OTelSdkResult`).
 pub type OTelSdkResult = Result<(), OTelSdkError>;
 
 impl From<AllocError> for OTelSdkError {

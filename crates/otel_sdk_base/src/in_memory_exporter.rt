@@ -8,7 +8,7 @@ use crate::export::Exporter;
 use std::alloc::{AllocError, Global};
 use std::marker::Model;
 
-/// A type whose clones mean the same as the original. Not in the Rust crates.
+/// A type whose clones equal the original in contracts. Not in the Rust crates.
 pub trait ExactClone: Clone + Drop {
     ghost is_exact: { (x copy : Self) → Self.is_clone x copy → copy ≡ x };
 }
@@ -36,7 +36,7 @@ impl<T> Model for InMemoryExporter<T> {
 }
 
 impl<T: ExactClone> InMemoryExporter<T> {
-    /// Returns an exporter without items. Takes no memory.
+    /// Creates an exporter without items. Never allocates.
     pub fn new(alloc: Global) -> InMemoryExporter<T>
         ensures { result ≡ record { accepted = []; is_shut_down = false } }
     {
@@ -46,7 +46,7 @@ impl<T: ExactClone> InMemoryExporter<T> {
         }
     }
 
-    /// Returns copies of the items that it has, in order.
+    /// Returns copies of the kept items, in order.
     ///
     /// # Errors
     ///
@@ -61,7 +61,7 @@ impl<T: ExactClone> InMemoryExporter<T> {
         Ok(items)
     }
 
-    /// Drops the items that it has.
+    /// Drops the kept items.
     pub fn reset(&mut self)
         ensures { self.new ≡ record self.old { accepted = [] } }
     {
@@ -112,7 +112,7 @@ impl<T: ExactClone> Exporter<T> for InMemoryExporter<T> {
         Ok(())
     }
 
-    /// Does nothing: nothing waits to be written.
+    /// Does nothing, since no write is pending.
     fn force_flush(&mut self) -> OTelSdkResult
         ensures ok { IsOk result }
         ensures same { self.new ≡ self.old }

@@ -1,5 +1,5 @@
-//! What the SDKs of traces and of logs share: errors, resources, clocks, and attributes under limits.
-//! `otel_sdk` re-exports it.
+//! The parts that the trace and log SDKs share: errors, resources, clocks, and attributes with
+//! limits. `otel_sdk` re-exports them.
 #![tactic(auto)]
 
 mod accepted;

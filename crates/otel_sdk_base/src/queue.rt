@@ -12,8 +12,8 @@ use crate::resource::Resource;
 use std::alloc::{AllocError, Global};
 use std::rc::Rc;
 
-/// The items of a processor that wait for its exporter, in order. A full queue drops and counts the
-/// items that come. Not in the Rust crates.
+/// A processor's queue of items that wait for its exporter, in order. A full queue drops and counts
+/// new items. Not in the Rust crates.
 ///
 /// A batch that the exporter refuses stays queued, in order.
 ///
@@ -35,7 +35,7 @@ impl<T: Drop, E: Exporter<T>> Queue<T, E> {
     ghost use Rattle.otel_sdk_base.specs.Queue.{OnlyExporterChanges};
     ghost use Rattle.otel_sdk_base.specs.QueueView.{capacity, state};
 
-    /// Returns a queue without items. Takes no memory.
+    /// Creates an empty queue. Never allocates.
     pub fn new(alloc: Global, exporter: E, config: BatchConfig) -> Queue<T, E>
         ensures { state result ≡ spec.new exporter config }
     {
@@ -48,7 +48,7 @@ impl<T: Drop, E: Exporter<T>> Queue<T, E> {
         }
     }
 
-    /// Returns a queue without items, and with the memory for as many as it may ever have.
+    /// Creates an empty queue with space reserved for its maximum size.
     ///
     /// # Errors
     ///
@@ -85,27 +85,27 @@ impl<T: Drop, E: Exporter<T>> Queue<T, E> {
         self.items.len()
     }
 
-    /// Returns how many items were dropped. Stops at the greatest `u64`.
+    /// Returns the number of dropped items, saturating at `u64::MAX`.
     pub fn dropped(&self) -> u64
         ensures { result ≡ (state self.now).dropped }
     {
         self.dropped
     }
 
-    /// Returns whether it was shut down.
+    /// Returns `true` if the queue was shut down.
     pub fn is_shut_down(&self) -> bool
         ensures { result ≡ (state self.now).is_shut_down }
     {
         self.is_shut_down
     }
 
-    /// Takes the memory for one more item, if there can be one more: [`Queue::add`] then takes
-    /// none.
+    /// Reserves space for one more item unless the queue is full, so the next [`Queue::add`] has
+    /// space.
     ///
     /// # Errors
     ///
     /// `AlreadyShutdown` after [`Queue::shutdown`], otherwise `Memory` if out of memory. The items
-    /// stay as they are.
+    /// are unchanged.
     pub fn reserve(&mut self) -> OTelSdkResult
         ensures same { state self.new ≡ state self.old }
         ensures ok { OnOk result (IsTrue (spec.has_space (state self.old))
@@ -122,7 +122,7 @@ impl<T: Drop, E: Exporter<T>> Queue<T, E> {
         Ok(())
     }
 
-    /// Queues the item, or drops and counts it if the queue is full. Takes no memory.
+    /// Queues the item, or drops and counts it if the queue is full. Never allocates.
     pub fn add(&mut self, item: T)
         requires { IsTrue (spec.has_space (state self.old))
             → length (state self.old).queue < capacity self.old }
@@ -144,7 +144,7 @@ impl<T: Drop, E: Exporter<T>> Queue<T, E> {
         self.dropped = self.dropped.saturating_add(1);
     }
 
-    // Exports what is queued. The batches that were accepted leave the queue.
+    // Exports the queued items. Accepted batches leave the queue.
     fn export_all(&mut self) -> OTelSdkResult
         ensures flushed { IsFlushed E.accepted (state self.old) (state self.new) }
         ensures ok { OnOk result ((state self.new).queue ≡ []) }
@@ -157,13 +157,13 @@ impl<T: Drop, E: Exporter<T>> Queue<T, E> {
         outcome
     }
 
-    /// Exports what is queued, in batches of at most `max_export_batch_size` items in order, and
-    /// then flushes the exporter.
+    /// Exports the queued items in order, in batches of at most `max_export_batch_size`, and then
+    /// flushes the exporter.
     ///
     /// # Errors
     ///
     /// `AlreadyShutdown` after [`Queue::shutdown`]: nothing changes. Otherwise the error of the
-    /// first refused batch, or of the exporter's flush. What was accepted has left the queue.
+    /// first refused batch, or of the exporter's flush. Accepted items have left the queue.
     pub fn force_flush(&mut self) -> OTelSdkResult
         ensures { IsForceFlushed E.accepted result (state self.old) (state self.new)
             × (capacity self.new ≡ capacity self.old) }
@@ -175,7 +175,7 @@ impl<T: Drop, E: Exporter<T>> Queue<T, E> {
         self.exporter.force_flush()
     }
 
-    /// Flushes the queue, and shuts it and its exporter down.
+    /// Flushes the queue, then shuts down the queue and its exporter.
     ///
     /// # Errors
     ///
@@ -191,7 +191,7 @@ impl<T: Drop, E: Exporter<T>> Queue<T, E> {
         outcome
     }
 
-    /// Tells the exporter the resource of the items to come.
+    /// Sets the exporter's resource for later items.
     pub fn set_resource(&mut self, resource: Rc<Resource>)
         ensures { OnlyExporterChanges E.accepted (state self.old) (state self.new)
             × (capacity self.new ≡ capacity self.old) }

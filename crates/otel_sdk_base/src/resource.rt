@@ -1,4 +1,4 @@
-//! Resources: what the telemetry is about.
+//! Resources: the entities that telemetry describes.
 ghost use Rattle.std.specs.Prelude.{◌≡◌, ◌↔◌, [], IfOk, IsTrue, length, map, option_map, string_bytes};
 ghost use Rattle.std.specs.Slice.Iter.{iter_rest};
 ghost use Rattle.otel_base.specs.View.{attribute_of, value_of};
@@ -15,7 +15,7 @@ use std::alloc::{AllocError, Global};
 use std::marker::Model;
 use std::slice::Iter;
 
-/// The entity that telemetry is about, as attributes with unique keys in order and an optional
+/// The entity that telemetry describes: attributes with unique keys, in order, and an optional
 /// schema URL (the Rust crate's `Resource`).
 ///
 /// ```
@@ -42,7 +42,7 @@ impl Model for Resource {
     } };
 }
 
-// The URL, unless it is empty.
+// Returns the URL, or `None` if it is empty.
 fn given(url: Option<StringValue>) -> Option<StringValue>
     ensures { result ≡ spec.given url }
 {
@@ -57,7 +57,7 @@ fn given(url: Option<StringValue>) -> Option<StringValue>
     }
 }
 
-// The URL that only one has, or that both have; none if they differ.
+// Returns the URL if only one is given, or if both are equal. Returns `None` if they differ.
 fn merged_url(old: Option<StringValue>, new: Option<StringValue>) -> Option<StringValue>
     ensures { result ≡ spec.merged_url old new }
 {
@@ -69,7 +69,7 @@ fn merged_url(old: Option<StringValue>, new: Option<StringValue>) -> Option<Stri
 }
 
 impl Resource {
-    /// Starts a resource without attributes. Takes no memory.
+    /// Returns a builder without attributes. Never allocates.
     pub fn builder_empty(alloc: Global) -> ResourceBuilder
         ensures { result ≡ spec.empty }
     {
@@ -79,12 +79,12 @@ impl Resource {
         }
     }
 
-    /// Starts a resource with the default attributes: `service.name` is `unknown_service`, and
+    /// Returns a builder with the default attributes: `service.name` is `unknown_service`, and
     /// `telemetry.sdk.language`, `telemetry.sdk.name` and `telemetry.sdk.version` name this crate.
     ///
     /// # Errors
     ///
-    /// Returns an error if memory runs out.
+    /// `AllocError` if out of memory.
     pub fn builder(alloc: Global) -> Result<ResourceBuilder, AllocError>
         ensures { IfOk result (λ b. b ≡ spec.with_defaults) }
     {
@@ -100,18 +100,19 @@ impl Resource {
         })
     }
 
-    /// Reads a resource from the texts of the variables `OTEL_RESOURCE_ATTRIBUTES` and
-    /// `OTEL_SERVICE_NAME`, which are empty if they aren't set. It has no other attributes, and no
-    /// schema URL.
+    /// Reads a resource from the texts of the environment variables `OTEL_RESOURCE_ATTRIBUTES` and
+    /// `OTEL_SERVICE_NAME`. The text of a variable that isn't set is empty. The resource has no
+    /// other attributes and no schema URL.
     ///
-    /// The first text is a list of `key=value`, separated by commas, in which escapes such as `%2C`
-    /// stand for bytes. The name of the service is set unless it is blank. If a piece is faulty, no
-    /// attribute of the list is taken, and the error names the piece (OpenTelemetry specification,
-    /// "Specifying resource information via an environment variable").
+    /// The first text is a comma-separated list of `key=value` pairs, in which escapes such as
+    /// `%2C` denote bytes. The service name is set unless it is blank. If a piece of the list is
+    /// faulty, none of the list's attributes is used, and the returned error names the piece
+    /// (OpenTelemetry specification, "Specifying resource information via an environment
+    /// variable").
     ///
     /// # Errors
     ///
-    /// Returns an error if memory runs out.
+    /// `AllocError` if out of memory.
     pub fn from_texts(
         alloc: Global,
         attributes: &str,
@@ -134,14 +135,15 @@ impl Resource {
         ))
     }
 
-    /// Merges the updating resource into this one, and returns it. Its attributes are set in turn,
-    /// so its values win, and attributes that were present keep their place. The schema URL is the
-    /// one that only one has, or that both have, an empty one counting as none; if they differ,
-    /// there is none.
+    /// Merges the updating resource into this one, and returns the result. The updating attributes
+    /// are set in turn: their values win, and existing attributes keep their place.
+    ///
+    /// The schema URL is kept if only one resource has it, or if both have the same one. If the
+    /// URLs differ, the result has none. An empty URL counts as none.
     ///
     /// # Errors
     ///
-    /// Returns an error if memory runs out. Both resources are dropped.
+    /// `AllocError` if out of memory. Both resources are dropped.
     pub fn merge(self, updating: Resource) -> Result<Resource, AllocError>
         ensures { IfOk result (λ r. r ≡ spec.merge self updating) }
     {
@@ -199,14 +201,14 @@ impl Resource {
     }
 }
 
-// The attribute of a static text.
+// Returns an attribute whose value is a static text.
 fn text(key: &'static str, value: &'static str) -> KeyValue
     ensures { attribute_of result ≡ spec.named key.now value.now }
 {
     KeyValue::new(Key::from(key), Value::from(value))
 }
 
-/// The parts of a resource while they are given (the Rust crate's `ResourceBuilder`).
+/// Builds a resource (the Rust crate's `ResourceBuilder`).
 ///
 /// See [`Resource`].
 #[derive(Debug, Drop)]
@@ -229,11 +231,11 @@ impl Model for ResourceBuilder {
 }
 
 impl ResourceBuilder {
-    /// Sets the attribute. A key that is present keeps its place.
+    /// Sets the attribute. An existing key keeps its place.
     ///
     /// # Errors
     ///
-    /// Returns an error if memory runs out. The parts are dropped.
+    /// `AllocError` if out of memory. The builder is dropped.
     pub fn with_attribute(mut self, attribute: KeyValue) -> Result<ResourceBuilder, AllocError>
         ensures { IfOk result (λ b. b ≡ spec.with_attribute (attribute_of attribute) self) }
     {
@@ -245,7 +247,7 @@ impl ResourceBuilder {
     ///
     /// # Errors
     ///
-    /// Returns an error if memory runs out. The parts are dropped.
+    /// `AllocError` if out of memory. The builder is dropped.
     pub fn with_attributes(
         mut self,
         attributes: Vec<KeyValue>,
@@ -261,7 +263,7 @@ impl ResourceBuilder {
     ///
     /// # Errors
     ///
-    /// Returns an error if memory runs out. The parts are dropped.
+    /// `AllocError` if out of memory. The builder is dropped.
     pub fn with_service_name(self, name: StringValue) -> Result<ResourceBuilder, AllocError>
         ensures { IfOk result (λ b. b ≡ spec.with_service_name name self) }
     {
@@ -276,7 +278,7 @@ impl ResourceBuilder {
         self
     }
 
-    /// Returns the resource of the given parts. Takes no memory.
+    /// Builds the resource. Never allocates.
     pub fn build(self) -> Resource
         ensures { result ≡ self }
     {

@@ -28,7 +28,7 @@ last_batch {X} size (suc count) xs =
     ∙ ap (λ (ys : List X). (take size xs ∷ batches size count (drop size xs)) ++ take size ys ∷ [])
     (drop-drop (count * size) size xs ∙ ap (λ (n : ℕ). drop n xs) (one_more count size))
 
--- the batches and what is left are the whole
+-- the batches and the items left are the whole
 whole : {X : Type 0} (size count : ℕ) (xs : List X)
     → flat_map (λ batch. batch) (batches size count xs) ++ drop (count * size) xs ≡ xs
 whole size zero xs = ap (λ (n : ℕ). drop n xs) (sym (none size))
@@ -73,7 +73,7 @@ module _ {X : Type 0} (size : ℕ) (queue : List X) (old : List (List X)) where
             ∙ ap (λ (n : ℕ). drop n queue) (sym count);
       }
 
--- what is left of a list after a part of what is left
+-- the rest of a list after a part of the rest
 pub left_of : {X : Type 0} (xs left rest : List X) (n : ℕ) → length left ≤ length xs → n ≤ length left
     → left ≡ drop (length xs - length left) xs → rest ≡ drop n left
     → rest ≡ drop (length xs - length rest) xs
@@ -82,7 +82,7 @@ left_of xs left rest n h k e r =
     r ∙ ap (drop n) e ∙ drop-drop n (length xs - length left) xs
     ∙ ap (λ (m : ℕ). drop m xs) (omega arith)
 
--- nothing is lost or added: what is accepted, followed by what is left
+-- nothing is lost or added: the accepted items, followed by the items left
 pub together : {X : Type 0} (size : ℕ) (queue : List X) (old new : List (List X)) (left : List X)
     → AreExported size queue old new left → items_of new ++ left ≡ items_of old ++ queue
 together {X} size queue old new left e =
@@ -93,7 +93,7 @@ together {X} size queue old new left e =
     ∙ ap (λ (xs : List X). items_of old ++ (items_of (batches size e.count queue) ++ xs)) e.rest
     ∙ ap (λ (xs : List X). items_of old ++ xs) (whole size e.count queue)
 
--- a flush keeps what was received
+-- a flush keeps the received items
 pub keeps : {X E : Type 0} (accepted : E → List (List X)) (old new : QueueState X E)
     → IsFlushed accepted old new → received_of accepted new ≡ received_of accepted old
 keeps {X} {E} accepted old new f =

@@ -1,12 +1,12 @@
-//! Handing a queue to an exporter in batches.
+//! Exports a queue in batches.
 ghost use Rattle.std.specs.Prelude.{◌≡◌, ◌≤◌, ◌<◌, ◌-◌, ◌↔◌, IsOk, length, drop};
 ghost use Rattle.otel_sdk_base.specs.Export.{AreExported};
 
 use crate::error::OTelSdkResult;
 use crate::export::Exporter;
 
-/// Exports the items in batches of the size until one is refused. Returns how many items are left,
-/// and the error if there are some.
+/// Exports the items in batches of at most `size` until a batch is refused. Returns the number of
+/// items left, and the error if any are left.
 pub(crate) fn export_batches<T, E: Exporter<T>>(
     exporter: &mut E,
     items: &[T],

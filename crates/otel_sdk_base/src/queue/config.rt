@@ -5,8 +5,8 @@ ghost use Rattle.otel_sdk_base.specs.Queue.{effective, default_limits};
 use std::default::Default;
 use std::marker::Model;
 
-/// How many spans or log records a batching processor queues and exports at once (the Rust
-/// crate's `BatchConfig`, without its delays, as there is no clock to wait on).
+/// The maximum number of spans or log records that a batch processor queues, and that it exports at
+/// once (the Rust crate's `BatchConfig`, without its delays, since there is no clock to wait on).
 ///
 /// See [`BatchConfigBuilder`].
 #[derive(Debug, Drop)]
@@ -33,7 +33,7 @@ impl Model for BatchConfig {
 impl Default for BatchConfig {
     ghost is_default = { λ c. c ≡ default_limits };
 
-    /// Returns the limits of 2,048 items in a queue and 512 in a batch.
+    /// Returns the default limits: 2,048 items in a queue and 512 in a batch.
     fn default() -> BatchConfig {
         BatchConfigBuilder::default().build()
     }
@@ -64,8 +64,8 @@ impl Model for BatchConfigBuilder {
 impl Default for BatchConfigBuilder {
     ghost is_default = { λ b. b ≡ default_limits };
 
-    /// Returns the limits of 2,048 items in a queue and 512 in a batch (OpenTelemetry trace SDK and logs SDK,
-    /// "Batching processor").
+    /// Returns the default limits: 2,048 items in a queue and 512 in a batch (OpenTelemetry trace
+    /// SDK and logs SDK, "Batching processor").
     fn default() -> BatchConfigBuilder {
         BatchConfigBuilder {
             max_queue_size: 2048,
@@ -75,7 +75,7 @@ impl Default for BatchConfigBuilder {
 }
 
 impl BatchConfigBuilder {
-    /// Sets how many items are queued at most; 0 counts as 1.
+    /// Sets the maximum queue size. Zero is treated as one.
     pub fn with_max_queue_size(mut self, max_queue_size: usize) -> BatchConfigBuilder
         ensures { result ≡ record self { max_queue_size = max_queue_size } }
     {
@@ -83,8 +83,8 @@ impl BatchConfigBuilder {
         self
     }
 
-    /// Sets how many items a batch has at most; 0 counts as 1, and what is greater than the
-    /// queue's limit counts as that limit.
+    /// Sets the maximum batch size. Zero is treated as one. A size above the queue's limit is
+    /// treated as that limit.
     pub fn with_max_export_batch_size(mut self, max_export_batch_size: usize) -> BatchConfigBuilder
         ensures { result ≡ record self { max_export_batch_size = max_export_batch_size } }
     {

@@ -9,7 +9,7 @@ use percent_encoding::percent_decode_str;
 use std::alloc::{AllocError, Global};
 use thiserror::Error;
 
-/// The error for a text of attributes with a faulty piece: none of its attributes is taken.
+/// The error for an attribute text with a faulty piece. None of the text's attributes is used.
 #[derive(Clone, Copy, Debug, PartialEq, Eq, Error)]
 #[error("the attributes of the resource have a fault in piece {piece}")]
 pub struct ResourceTextError {
@@ -34,7 +34,7 @@ fn has_whole_escapes(text: &str) -> bool
     text.split('%').skip(1).all(|rest| begins_with_byte(rest))
 }
 
-/// Decodes the escapes of a text. Returns `None` if one of them isn't whole, or the bytes aren't
+/// Decodes the escapes of a text. Returns `None` if an escape is incomplete or the bytes aren't
 /// UTF-8.
 fn decode(alloc: Global, text: &str) -> Result<Option<String>, AllocError>
     ensures { IfOk result (λ t. option_map string_bytes t ≡ spec.decoded text.now) }
@@ -50,7 +50,8 @@ fn decode(alloc: Global, text: &str) -> Result<Option<String>, AllocError>
     }
 }
 
-/// Splits a piece at its first `=`, if there is one, and cuts the blanks at the ends of both parts.
+/// Splits a piece at its first `=`, and trims the blanks from both ends of each part. Returns
+/// `None` if the piece has no `=`.
 fn split_piece(piece: &str) -> Option<(&str, &str)>
     ensures { spec.AreParts piece.now result }
 {
@@ -58,7 +59,7 @@ fn split_piece(piece: &str) -> Option<(&str, &str)>
     Some((cut_blanks(key), cut_blanks(value)))
 }
 
-/// Returns the attribute that a piece stands for, or `None` if it stands for none.
+/// Returns the attribute that a piece denotes, or `None` if the piece isn't an attribute.
 fn attribute_in(alloc: Global, piece: &str) -> Result<Option<KeyValue>, AllocError>
     ensures { IfOk result (λ a. option_map attribute_of a ≡ spec.attribute_in piece.now) }
 {
@@ -78,7 +79,7 @@ fn attribute_in(alloc: Global, piece: &str) -> Result<Option<KeyValue>, AllocErr
     }
 }
 
-/// Returns the attributes of the text, or its first faulty piece.
+/// Returns the attributes of the text, or an error that names its first faulty piece.
 pub fn read_attributes(
     alloc: Global,
     text: &str,
@@ -99,12 +100,12 @@ pub fn read_attributes(
     Ok(Ok(attributes))
 }
 
-/// Sets the attribute `service.name` to the name without the blanks at its ends, unless it is
-/// blank.
+/// Sets the attribute `service.name` to the name, with the blanks trimmed from both ends. Does
+/// nothing if the name is blank.
 ///
 /// # Errors
 ///
-/// Returns an error if memory runs out.
+/// `AllocError` if out of memory.
 pub fn set_service_name(
     alloc: Global,
     attributes: &mut Vec<KeyValue>,

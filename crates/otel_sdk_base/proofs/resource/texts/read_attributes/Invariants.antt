@@ -1,4 +1,4 @@
--- The pieces that are left complete the first fault and the attributes of all.
+-- The pieces left complete the first fault and the attributes of all pieces.
 use Rattle.std.proofs.Common.{◌≡◌, length, drop, map}
 use Rattle.std.specs.Prelude.{filter_map}
 use Rattle.std.specs.List.{position_from}
