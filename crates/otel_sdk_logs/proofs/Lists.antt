@@ -13,7 +13,7 @@ prefix_len_map : {X Y : Type 0} (p : Y → Bool) (f : X → Y) (xs : List X) →
 prefix_len_map p f [] = refl
 prefix_len_map p f (x ∷ xs) = ap (λ n. cond (p (f x)) (1 + n) 0) (prefix_len_map p f xs)
 
--- the first place that passes is that of the first element whose image passes
+-- the first place that passes is the place of the first element whose image passes
 pub position_map : {X Y : Type 0} (p : Y → Bool) (f : X → Y) (xs : List X) → position p (map f xs) ≡ position (λ x. p (f x)) xs
 position_map p f xs =
     rw (length-map xs f) (ap (λ n. cond (nat_lt n (length xs)) (Some n) None) (prefix_len_map (λ y. not (p y)) f xs))
@@ -25,7 +25,7 @@ put_at xs key v i h =
     map-set (λ e. (e.0, tree e.1)) xs i (key, v)
     ∙ ap (λ r. option_map_or (λ j. slice_set (pairs_view xs) j (key, tree v)) r (pairs_view xs ++ (key, tree v) ∷ [])) h
 
--- the same where the list and the key go by other names
+-- the same, if the list and the key have other names
 pub put_found : (xs ys : List (List ℕ × AnyValue)) (key k : List ℕ) (v : AnyValue) (i : ℕ) → ys ≡ xs → k ≡ key
     → Some i ≡ spec.place k (pairs_view ys)
     → pairs_view (slice_set xs i (key, v)) ≡ spec.put (pairs_view xs) (key, tree v)

@@ -1,4 +1,4 @@
--- What setting an attribute does to the attributes of a log record.
+-- How an attribute is set in a log record.
 use Rattle.std.specs.Prelude.{◌≡◌, ℕ, ◌+◌, List, [], ◌∷◌, ◌++◌, length, Bool, true, false}
 use Rattle.std.specs.Prelude.{◌||◌, nat_lt, fold, Option, is_some, codes, refl}
 use Rattle.std.specs.Prelude.{if◌then◌else◌, position, slice_set, min}
@@ -10,7 +10,7 @@ use Rattle.otel_base.specs.AnyValue.{Tree, boolean}
 abbrev pub Attribute : Type 0
 Attribute = List ℕ × Tree
 
--- the attributes, and how many were dropped
+-- the attributes, and the number of dropped attributes
 pub record Held : Type 0 where
   pub attributes : List Attribute
   pub dropped : ℕ
@@ -23,8 +23,8 @@ held attributes dropped = record { attributes = attributes; dropped = dropped }
 abbrev pub place : List ℕ → List Attribute → Option ℕ
 place key held = position (λ a. bytes_eq a.0 key) held
 
--- the list with the attribute in the place of its key, or last if the key is new (OpenTelemetry
--- specification, "Attribute Collections"; the order is own)
+-- the list with the attribute at the place of its key, or at the end if the key is new
+-- (OpenTelemetry specification, "Attribute Collections"; the order is own)
 abbrev pub put : List Attribute → Attribute → List Attribute
 put held a = option_map_or (λ i. slice_set held i a) (place a.0 held) (held ++ a ∷ [])
 

@@ -1,4 +1,4 @@
--- What processors with a queue show.
+-- The view of processors with a queue.
 use Rattle.std.specs.Prelude.{Bool, not}
 use Rattle.otel_sdk_base.specs.Queue.{QueueState}
 use Rattle.otel_sdk_base.specs.QueueView as queue
@@ -10,7 +10,7 @@ use Rattle.otel_sdk_logs.specs.LogRecord.{LogEntry}
 abbrev pub state : {E : Type 0} → BatchLogProcessor E → QueueState LogEntry E
 state p = queue.state p.queue
 
--- what a processor that exports each record by itself shows
+-- the view of a processor that exports each record by itself
 abbrev pub simple_state : {E : Type 0} → SimpleLogProcessor E → QueueState LogEntry E
 simple_state p = state p.inner
 

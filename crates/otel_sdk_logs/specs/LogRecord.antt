@@ -1,4 +1,4 @@
--- What a log record of the SDK holds, and what a call changes.
+-- The parts of a log record of the SDK, and the effects of calls.
 use Rattle.std.specs.Prelude.{◌≡◌, ℕ, List, [], Option, Some, None, refl}
 use Rattle.std.specs.Option.{unwrap_or}
 use Rattle.std.specs.Coded.{Coded, code_by, coded×, coded_ℕ, coded_list, coded_option}
@@ -9,8 +9,8 @@ use Rattle.otel_sdk_logs.specs.Attributes.{Held, with_one, with_all}
 use Rattle.otel_sdk_logs.specs.declared.record.TraceContext.{TraceContext}
 
 -- A log record: the event's name, the target, the times at which the event happened and was
--- observed, the severity as a text and as a number, the body, the attributes in order with how many
--- were dropped, and the span that was active (OpenTelemetry logs data model).
+-- observed, the severity as a text and as a number, the body, the attributes in order, the number
+-- of dropped attributes, and the span that was active (OpenTelemetry logs data model).
 pub record LogState : Type 0 where
   pub event_name : Option (List ℕ)
   pub target : Option (List ℕ)
@@ -43,7 +43,7 @@ empty = record {
   trace_context = None;
 }
 
--- the attributes of the record, with how many were dropped
+-- the attributes of the record, with the number of dropped attributes
 abbrev pub held_by : LogState → Held
 held_by log = record { attributes = log.attributes; dropped = log.dropped_attributes }
 
@@ -70,17 +70,17 @@ with_trace_context log trace_id span_id trace_flags = record log {
   });
 }
 
--- the same record, observed at that moment unless it was observed before
+-- the same record with that observed time, unless it already has one
 abbrev pub observed : ℕ → LogState → LogState
 observed now log = record log {
   observed_timestamp = Some (unwrap_or log.observed_timestamp now);
 }
 
--- Some moment that the clock may show makes this entry of the record and the scope.
+-- The entry is made from the record and the scope with some time that the clock may show.
 abbrev pub IsEmitted : LogState → Scope → LogEntry → Type 0
 IsEmitted log scope entry = (now : ℕ) × (entry ≡ record { log = observed now log; scope = scope })
 
--- ---- an encoding of records, by which proofs tell them apart
+-- ---- an encoding of records, with which proofs tell them apart
 abbrev texts_code : Coded (Option (List ℕ))
 texts_code = coded_option (coded_list coded_ℕ)
 

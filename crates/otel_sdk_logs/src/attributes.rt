@@ -1,4 +1,4 @@
-//! Attributes with unique keys, under a limit.
+//! Attributes with unique keys and a limit.
 ghost use Rattle.std.specs.Prelude.{◌≡◌, ◌<◌, ◌≤◌, ◌+◌, IfOk, OnOk, OnErr, length, vec_len, vec_capacity};
 ghost use Rattle.otel_base.specs.View.{tree, pairs_view};
 ghost use Rattle.otel_sdk_logs.specs.Attributes as spec;
@@ -7,19 +7,19 @@ use opentelemetry::Key;
 use opentelemetry::logs::AnyValue;
 use std::alloc::AllocError;
 
-// How many attributes a record has at most (OpenTelemetry specification, "Attribute Limits").
+// The maximum number of attributes of a record (OpenTelemetry specification, "Attribute Limits").
 const MAX_ATTRIBUTES: usize = 128;
 
 type Pairs = Vec<(Key, AnyValue)>;
 
-// The place of the attribute with the key, if there is one.
+// Returns the position of the attribute with the key, if there is one.
 fn place(held: &[(Key, AnyValue)], key: &str) -> Option<usize>
     ensures { result ≡ spec.place key.now (pairs_view held.now) }
 {
     held.iter().position(|pair| pair.0.as_str() == key)
 }
 
-// Puts the attribute in the place of the one with its key, or last if there is none.
+// Replaces the attribute with the same key, or appends the attribute if its key is new.
 fn put(held: &mut Pairs, key: Key, value: AnyValue)
     requires { vec_len held.old < vec_capacity held.old }
     ensures put { pairs_view held.new.items
@@ -95,7 +95,7 @@ pub(crate) fn set_one(
     Ok(())
 }
 
-/// Sets each of the attributes in turn, and counts those that aren't kept.
+/// Sets each of the attributes in turn, and counts the attributes that aren't kept.
 ///
 /// # Errors
 ///

@@ -1,4 +1,4 @@
-//! Exporters, which take log records out of the program.
+//! Exporters, which send log records out of the program.
 ghost use Rattle.std.specs.Prelude.{◌≡◌};
 
 use crate::record::SdkLogRecord;
@@ -18,7 +18,7 @@ use std::rc::Rc;
 pub struct LogData {
     /// The record.
     pub record: SdkLogRecord,
-    /// The library or module whose logger emitted it, shared by the records of that logger.
+    /// The library or module whose logger emitted the record. All records of that logger share it.
     pub instrumentation_scope: Rc<InstrumentationScope>,
 }
 
@@ -40,7 +40,7 @@ impl Model for LogData {
 impl Clone for LogData {
     ghost is_clone = { λ d copy. copy ≡ d };
 
-    /// Returns a copy, which shares the scope.
+    /// Returns a copy that shares the scope.
     ///
     /// # Errors
     ///
@@ -57,8 +57,8 @@ impl ExactClone for LogData {
     ghost is_exact = { λ _ _ same. same };
 }
 
-/// Takes log records out of the program, in batches (the Rust crate's `LogExporter`): any
-/// [`Exporter`] of log records.
+/// Sends log records out of the program in batches (the Rust crate's `LogExporter`). Every
+/// [`Exporter`] of log records is a `LogExporter`.
 ///
 /// See [`crate::InMemoryLogExporter`].
 pub trait LogExporter: Exporter<LogData> {}

@@ -16,14 +16,14 @@ pub type InMemoryLogExporter = InMemoryExporter<LogData>;
 
 /// The method `get_emitted_logs` of an [`InMemoryLogExporter`].
 ///
-/// The ghost member `emitted` names the batches that it has.
+/// The ghost member `emitted` gives the batches that the exporter keeps.
 pub trait EmittedLogs {
     ghost use Rattle.std.specs.Prelude.{List};
     ghost use Rattle.otel_sdk_logs.specs.LogRecord.{LogEntry};
 
     ghost emitted: { Self → List (List LogEntry) };
 
-    /// Returns copies of the records that it has, in order.
+    /// Returns copies of the kept records, in order.
     ///
     /// # Errors
     ///

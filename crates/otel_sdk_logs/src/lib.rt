@@ -1,6 +1,6 @@
-//! A log SDK for the API of the crate `opentelemetry`, after the Rust crate `opentelemetry_sdk`:
-//! providers whose loggers emit records that keep to a limit, and the records' way to an exporter.
-//! `otel_sdk` exports it again as `logs`.
+//! A log SDK for the API of the crate `opentelemetry`, modeled on the Rust crate
+//! `opentelemetry_sdk`: providers whose loggers emit records with limited attributes, and
+//! processors that hand the records to an exporter. `otel_sdk` re-exports it as `logs`.
 #![tactic(auto)]
 
 mod attributes;

@@ -35,7 +35,7 @@ impl<P, C> Model for SdkLogger<P, C> {
 }
 
 impl<P, C: Clock> SdkLogger<P, C> {
-    /// Returns the given moment, or else the clock's.
+    /// Returns the given time, or the clock's time if none is given.
     fn observed_time(&self, given: Option<u64>) -> u64
         ensures { result ≡ unwrap_or given result }
     {
@@ -45,11 +45,12 @@ impl<P, C: Clock> SdkLogger<P, C> {
         }
     }
 
-    /// Returns the record with the logger's scope, observed now unless it was observed before.
+    /// Returns the record with the logger's scope. Sets the observed time to now, unless it is
+    /// already set.
     ///
     /// # Errors
     ///
-    /// `AllocError` if the count of those that share the scope is at its limit.
+    /// `AllocError` if the scope's reference count is at its limit.
     fn data_of(&self, mut emitted: SdkLogRecord) -> Result<LogData, AllocError>
         ensures { IfOk result (IsEmitted emitted self.now) }
     {
@@ -72,12 +73,13 @@ impl<P: LogProcessor, C: Clock> Logger for SdkLogger<P, C> {
 
     ghost may_enable = { λ _ _ _ _ _. Unit {0} };
 
-    /// Returns a record with nothing set. Takes no memory.
+    /// Creates a record with nothing set. Never allocates.
     fn create_log_record(&self, alloc: Global) -> Result<SdkLogRecord, AllocError> {
         Ok(SdkLogRecord::new(alloc))
     }
 
-    /// Hands the record to the provider's processor, observed now unless it was observed before.
+    /// Hands the record to the provider's processor. Sets the observed time to now, unless it is
+    /// already set.
     fn emit(&self, emitted: SdkLogRecord) {
         match self.data_of(emitted) {
             Ok(given) => self.provider.hand_in(given),

@@ -10,11 +10,11 @@ use otel_sdk_base::error::OTelSdkResult;
 use otel_sdk_base::resource::Resource;
 use std::rc::Rc;
 
-/// Takes log records, and hands them to an exporter (the Rust crate's `LogProcessor`). There are no
-/// threads: records are exported in the calls only.
+/// Receives log records, and hands them to an exporter (the Rust crate's `LogProcessor`). There are
+/// no threads: records are exported only during calls.
 ///
-/// A processor names, by ghost members, the records that it received and keeps, in order, with how
-/// many it dropped, `received`, and whether it is open, `receives`.
+/// The ghost member `received` gives the records that the processor received and keeps, in order,
+/// and how many it dropped. The ghost member `receives` says whether it is open.
 ///
 /// See [`crate::BatchLogProcessor`].
 pub trait LogProcessor: Drop {
@@ -26,22 +26,22 @@ pub trait LogProcessor: Drop {
 
     ghost receives: { Self → Bool };
 
-    /// Takes a record, or drops and counts it.
+    /// Receives a record. The record is kept, or dropped and counted.
     fn on_emit(&mut self, given: LogData)
         ensures handed_in { IsKeptOrDropped given (received self.old) (received self.new) }
         ensures closed { receives self.old ≡ false
             → received self.new ≡ with_dropped (received self.old) };
 
-    /// Hands the records that are queued to the exporter, and flushes it.
+    /// Hands the queued records to the exporter, and flushes the exporter.
     ///
     /// # Errors
     ///
-    /// `AlreadyShutdown` after [`LogProcessor::shutdown`], or the exporter's error. What it didn't
-    /// accept stays queued, in order.
+    /// `AlreadyShutdown` after [`LogProcessor::shutdown`], or the exporter's error. Records that it
+    /// didn't accept stay queued, in order.
     fn force_flush(&mut self) -> OTelSdkResult
         ensures { received self.new ≡ received self.old };
 
-    /// Flushes the processor, and shuts it and its exporter down. From then on each record is
+    /// Flushes the processor, then shuts down the processor and its exporter. Later records are
     /// dropped and counted.
     ///
     /// # Errors
@@ -50,15 +50,16 @@ pub trait LogProcessor: Drop {
     /// processor stays open for another try.
     fn shutdown(&mut self) -> OTelSdkResult;
 
-    /// Returns whether it is open: it keeps records, unless its queue is full.
+    /// Returns `true` if the processor is open. An open processor keeps records unless its queue is
+    /// full.
     fn is_open(&self) -> bool
         ensures { result ≡ receives self.now };
 
-    /// Returns how many records were dropped.
+    /// Returns the number of dropped records.
     fn dropped_records(&self) -> u64
         ensures { result ≡ (received self.now).dropped };
 
-    /// Tells the exporter the resource of the records to come. Does nothing by default.
+    /// Sets the exporter's resource for later records. Does nothing by default.
     fn set_resource(&mut self, _resource: Rc<Resource>)
         ensures { received self.new ≡ received self.old }
     {}

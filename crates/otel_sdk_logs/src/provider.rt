@@ -1,4 +1,4 @@
-//! What makes the loggers of the SDK.
+//! The provider of the SDK's loggers.
 ghost use Rattle.std.specs.Prelude.{◌≡◌, IfOk, Some, None};
 ghost use Rattle.std.specs.Option.{option_map_or, unwrap_or};
 ghost use Rattle.otel_sdk_base.specs.Resource.{merge, with_defaults};
@@ -16,7 +16,7 @@ use std::cell::{BorrowError, Cell, Ref, RefCell};
 use std::marker::Model;
 use std::rc::Rc;
 
-/// What the loggers of a provider share.
+/// The state that the loggers of a provider share.
 #[derive(Drop)]
 pub(crate) struct LoggerProviderInner<P, C> {
     pub alloc: Global,
@@ -43,7 +43,7 @@ impl<P: LogProcessor, C> LoggerProviderInner<P, C> {
         }
     }
 
-    /// Returns whether the processor takes records, and isn't at work.
+    /// Returns `true` if the processor is open and isn't at work.
     pub(crate) fn is_open(&self) -> bool {
         match self.processor.try_borrow() {
             Ok(processor) => processor.is_open(),
@@ -51,7 +51,7 @@ impl<P: LogProcessor, C> LoggerProviderInner<P, C> {
         }
     }
 
-    /// Returns how many records were dropped, here and by the processor.
+    /// Returns the number of records dropped here and by the processor.
     fn dropped_records(&self) -> u64 {
         let dropped = self.dropped_records.get();
         match self.processor.try_borrow() {
@@ -72,8 +72,8 @@ impl<P: LogProcessor, C> LoggerProviderInner<P, C> {
 /// Makes the loggers of the SDK, which share its processor and clock (the Rust crate's
 /// `SdkLoggerProvider`).
 ///
-/// A record that is emitted while the processor is at work, as from within its exporter, is dropped
-/// and counted.
+/// A record that is emitted while the processor is at work, for example from within its exporter,
+/// is dropped and counted.
 ///
 /// Contracts see its resource.
 ///
@@ -98,8 +98,8 @@ impl<P, C> Model for SdkLoggerProvider<P, C> {
 }
 
 impl<R: std::time::Clock + Copy + Drop> SdkLoggerProvider<(), SystemClock<R>> {
-    /// Starts a provider with the defaults: the clock is the system's. It needs a processor. Takes
-    /// no memory.
+    /// Returns a builder with the defaults: the clock is the system's. A processor must be set.
+    /// Never allocates.
     pub fn builder(rt: R) -> LoggerProviderBuilder<(), SystemClock<R>>
         ensures { result.resource ≡ None }
     {
@@ -112,25 +112,25 @@ impl<R: std::time::Clock + Copy + Drop> SdkLoggerProvider<(), SystemClock<R>> {
 }
 
 impl<P: LogProcessor, C: Clock> SdkLoggerProvider<P, C> {
-    /// Returns what the telemetry is about.
+    /// Returns the resource, the entity that the telemetry describes.
     pub fn resource(&self) -> &Resource
         ensures { result.now ≡ self.now }
     {
         &self.inner.resource
     }
 
-    /// Returns the processor, to look at. A record that is emitted meanwhile is dropped and
-    /// counted.
+    /// Borrows the processor, for inspection. Records that are emitted while it is borrowed are
+    /// dropped and counted.
     ///
     /// # Errors
     ///
-    /// `BorrowError` from within the processor's own work.
+    /// `BorrowError` if called from within the processor's own work.
     pub fn processor(&self) -> Result<Ref<'_, P>, BorrowError> {
         self.inner.processor.try_borrow()
     }
 
-    /// Returns how many records were dropped: those of the processor, and those that didn't reach
-    /// it. From within the processor's own work only the latter.
+    /// Returns the number of records that the processor dropped or that didn't reach it. If called
+    /// from within the processor's own work, counts only records that didn't reach it.
     pub fn dropped_records(&self) -> u64 {
         self.inner.dropped_records()
     }
@@ -139,8 +139,8 @@ impl<P: LogProcessor, C: Clock> SdkLoggerProvider<P, C> {
     ///
     /// # Errors
     ///
-    /// Those of [`LogProcessor::force_flush`], and `InternalFailure` from within the processor's
-    /// own work.
+    /// The errors of [`LogProcessor::force_flush`], or `InternalFailure` if called from within the
+    /// processor's own work.
     pub fn force_flush(&self) -> OTelSdkResult {
         match self.inner.processor.try_borrow_mut() {
             Ok(mut processor) => processor.force_flush(),
@@ -148,13 +148,13 @@ impl<P: LogProcessor, C: Clock> SdkLoggerProvider<P, C> {
         }
     }
 
-    /// Shuts the processor down: from now on its loggers enable no event, and each record is
+    /// Shuts down the processor. The provider's loggers then enable no event, and later records are
     /// dropped and counted.
     ///
     /// # Errors
     ///
-    /// Those of [`LogProcessor::shutdown`], and `InternalFailure` from within the processor's own
-    /// work. If the flush failed, the provider stays open for another try.
+    /// The errors of [`LogProcessor::shutdown`], or `InternalFailure` if called from within the
+    /// processor's own work. If the flush failed, the provider stays open for another try.
     pub fn shutdown(&self) -> OTelSdkResult {
         match self.inner.processor.try_borrow_mut() {
             Ok(mut processor) => processor.shutdown(),
@@ -170,7 +170,7 @@ impl<P: LogProcessor, C: Clock> LoggerProvider for SdkLoggerProvider<P, C> {
 
     ghost may_give = { λ _ scope logger. logger ≡ scope };
 
-    /// Returns a logger of that scope.
+    /// Returns a logger with the given scope.
     ///
     /// # Errors
     ///
@@ -186,15 +186,14 @@ impl<P: LogProcessor, C: Clock> LoggerProvider for SdkLoggerProvider<P, C> {
         })
     }
 
-    // As the trait has it: the toolchain doesn't cover a default method for this type.
+    // Same as the trait's default method, which the toolchain doesn't cover for this type.
     fn logger(&self, alloc: Global, name: StringValue) -> Result<SdkLogger<P, C>, AllocError> {
         let scope = InstrumentationScope::builder(name).build(alloc)?;
         self.logger_with_scope(alloc, scope)
     }
 }
 
-/// The parts of a provider while they are given (the Rust crate's `LoggerProviderBuilder`, with one
-/// processor).
+/// Builds a logger provider (the Rust crate's `LoggerProviderBuilder`, with one processor).
 ///
 /// Contracts see its processor, and its resource if one is given.
 ///
@@ -218,7 +217,7 @@ impl<P, C> Model for LoggerProviderBuilder<P, C> {
 }
 
 impl<C: Clock> LoggerProviderBuilder<(), C> {
-    /// Sets what takes the records, and hands them to an exporter.
+    /// Sets the processor, which receives the records and hands them to an exporter.
     pub fn with_log_processor<P: LogProcessor>(self, processor: P) -> LoggerProviderBuilder<P, C>
         ensures { result ≡ record { processor = processor; resource = self.resource } }
     {
@@ -231,12 +230,11 @@ impl<C: Clock> LoggerProviderBuilder<(), C> {
 }
 
 impl<P: Drop, C: Clock> LoggerProviderBuilder<P, C> {
-    /// Sets what the telemetry is about, in place of the default resource. A second one is merged
-    /// into the first.
+    /// Sets the resource, in place of the default one. A second resource is merged into the first.
     ///
     /// # Errors
     ///
-    /// `AllocError` if out of memory. The parts are dropped.
+    /// `AllocError` if out of memory. The builder is dropped.
     pub fn with_resource(self, resource: Resource) -> Result<Self, AllocError>
         ensures { IfOk result (λ b. b ≡ record self {
           resource = Some (option_map_or (λ old. merge old resource) self.resource resource);
@@ -258,7 +256,7 @@ impl<P: Drop, C: Clock> LoggerProviderBuilder<P, C> {
         })
     }
 
-    /// Sets what reads the moments at which records are observed.
+    /// Sets the clock that supplies the observed times of records.
     pub fn with_clock<T: Clock>(self, clock: T) -> LoggerProviderBuilder<P, T>
         ensures { result ≡ self }
     {
@@ -271,11 +269,11 @@ impl<P: Drop, C: Clock> LoggerProviderBuilder<P, C> {
 }
 
 impl<P: LogProcessor, C: Clock> LoggerProviderBuilder<P, C> {
-    /// Returns the provider of the given parts. The processor is told the resource.
+    /// Builds the provider, and passes the resource to the processor.
     ///
     /// # Errors
     ///
-    /// `AllocError` if out of memory. The parts are dropped.
+    /// `AllocError` if out of memory. The builder is dropped.
     pub fn build(self, alloc: Global) -> Result<SdkLoggerProvider<P, C>, AllocError>
         ensures { IfOk result (λ p. p ≡ unwrap_or self.resource with_defaults) }
     {

@@ -26,8 +26,8 @@ pub struct TraceContext {
 
 /// A log record, as processors and exporters get it (the Rust crate's `SdkLogRecord`).
 ///
-/// Its attributes have unique keys: an attribute whose key is present replaces the value in its
-/// place, and one whose key is new is dropped and counted if there are 128.
+/// Its attributes have unique keys. Setting an existing key replaces the value in place. An
+/// attribute with a new key is dropped and counted if the record already has 128 attributes.
 ///
 /// ```
 /// let mut record = SdkLogRecord::new(alloc);
@@ -36,21 +36,21 @@ pub struct TraceContext {
 pub struct SdkLogRecord {
     /// The name of the event, if it describes one.
     pub event_name: Option<StringValue>,
-    /// The part of the program that it comes from.
+    /// The part of the program that the record comes from.
     pub target: Option<StringValue>,
     /// When the event happened, in nanoseconds since 1970-01-01T00:00:00Z.
     pub timestamp: Option<u64>,
     /// When the event was observed, in nanoseconds since 1970-01-01T00:00:00Z.
     pub observed_timestamp: Option<u64>,
-    /// The severity in the words of the record's source.
+    /// The severity as named by the record's source.
     pub severity_text: Option<StringValue>,
     /// The severity.
     pub severity_number: Option<Severity>,
-    /// What the record says.
+    /// The content of the record.
     pub body: Option<AnyValue>,
-    /// Its attributes in order.
+    /// The attributes, in order.
     pub attributes: Vec<(Key, AnyValue)>,
-    /// How many attributes were dropped because of the limit.
+    /// The number of attributes that were dropped because of the limit.
     pub dropped_attributes_count: u32,
     /// The span that was active.
     pub trace_context: Option<TraceContext>,
@@ -81,7 +81,7 @@ impl Model for SdkLogRecord {
 }
 
 impl SdkLogRecord {
-    /// Returns a record with nothing set. Takes no memory.
+    /// Creates a record with nothing set. Never allocates.
     pub fn new(alloc: Global) -> SdkLogRecord
         ensures { result ≡ spec.empty }
     {
@@ -100,7 +100,7 @@ impl SdkLogRecord {
     }
 }
 
-// The body is a copy if its tree is.
+// Returns a copy of the body. A copy has the same tree.
 fn copy_body(body: &Option<AnyValue>) -> Result<Option<AnyValue>, AllocError>
     ensures { IfOk result (λ copy. option_map tree copy ≡ option_map tree body.now) }
 {
@@ -194,7 +194,8 @@ impl LogRecord for SdkLogRecord {
         self.body = Some(body);
     }
 
-    /// Sets each attribute in turn, in the place of the one with its key, or last, up to 128.
+    /// Sets each attribute in turn. An existing key keeps its place, and a new one goes last, up to
+    /// 128 attributes.
     ///
     /// # Errors
     ///
@@ -208,7 +209,8 @@ impl LogRecord for SdkLogRecord {
         set_all(&mut self.attributes, dropped, attributes)
     }
 
-    /// Sets the attribute in the place of the one with its key, or last, up to 128.
+    /// Sets the attribute. An existing key keeps its place, and a new one goes last, up to 128
+    /// attributes.
     ///
     /// # Errors
     ///

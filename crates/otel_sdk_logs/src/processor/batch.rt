@@ -13,9 +13,9 @@ use std::rc::Rc;
 /// Queues log records, and exports them in batches when it is flushed (the Rust crate's
 /// `BatchLogProcessor`). The caller flushes it: a full batch isn't exported by itself.
 ///
-/// The memory of the whole queue is taken when it is made, so that a record takes none. A record
-/// that meets a full queue or a closed processor is dropped and counted. A batch that the exporter
-/// refuses stays queued, in order.
+/// Space for the whole queue is reserved at creation, so queueing a record never allocates. A
+/// record is dropped and counted if the queue is full or the processor is closed. A batch that the
+/// exporter refuses stays queued, in order.
 ///
 /// ```
 /// let mut processor = BatchLogProcessor::new(alloc, exporter, config)?;
@@ -30,7 +30,7 @@ impl<E: LogExporter> BatchLogProcessor<E> {
     ghost use Rattle.otel_sdk_base.specs.Queue as spec;
     ghost use Rattle.otel_sdk_logs.specs.Batch.{state};
 
-    /// Returns a processor without records, with memory for those of its whole queue.
+    /// Creates a processor without records, with space reserved for its whole queue.
     ///
     /// # Errors
     ///
@@ -89,13 +89,13 @@ impl<E: LogExporter> LogProcessor for BatchLogProcessor<E> {
         }
     }
 
-    /// Exports what is queued, in batches of at most `max_export_batch_size` records in order, and
-    /// then flushes the exporter.
+    /// Exports the queued records in order, in batches of at most `max_export_batch_size`, and then
+    /// flushes the exporter.
     ///
     /// # Errors
     ///
     /// `AlreadyShutdown` after [`LogProcessor::shutdown`]: nothing changes. Otherwise the error of
-    /// the first refused batch, or of the exporter's flush. What was accepted has left the queue.
+    /// the first refused batch, or of the exporter's flush. Accepted records have left the queue.
     fn force_flush(&mut self) -> OTelSdkResult
         ensures { IsForceFlushed E.accepted result (state self.old) (state self.new) }
     {
@@ -115,14 +115,14 @@ impl<E: LogExporter> LogProcessor for BatchLogProcessor<E> {
         !self.queue.is_shut_down()
     }
 
-    /// Returns how many records were dropped. Stops at the greatest `u64`.
+    /// Returns the number of dropped records, saturating at `u64::MAX`.
     fn dropped_records(&self) -> u64
         ensures { result ≡ (state self.now).dropped }
     {
         self.queue.dropped()
     }
 
-    /// Tells the exporter the resource of the records to come.
+    /// Sets the exporter's resource for later records.
     fn set_resource(&mut self, resource: Rc<Resource>)
         ensures { OnlyExporterChanges E.accepted (state self.old) (state self.new) }
     {

@@ -18,8 +18,8 @@ use std::rc::Rc;
 /// Exports each log record when it is emitted, in a batch of its own (the Rust crate's
 /// `SimpleLogProcessor`).
 ///
-/// A record that the exporter refuses is queued, up to 2,048 of them, and is handed in again,
-/// before others, at the next record or flush.
+/// Up to 2,048 records that the exporter refuses are queued. They are exported again, before other
+/// records, at the next record or flush.
 ///
 /// ```
 /// let mut processor = SimpleLogProcessor::new(alloc, exporter)?;
@@ -30,7 +30,7 @@ pub struct SimpleLogProcessor<E> {
 }
 
 impl<E: LogExporter> SimpleLogProcessor<E> {
-    /// Returns a processor without records, with memory for those that are refused.
+    /// Creates a processor without records, with space reserved for refused records.
     ///
     /// # Errors
     ///
@@ -71,7 +71,7 @@ impl<E: LogExporter> LogProcessor for SimpleLogProcessor<E> {
     ghost receives = { λ p. not (simple_state p).is_shut_down };
 
     /// Queues the record, or drops and counts it if the processor is closed or the queue is full.
-    /// Then flushes the processor; what the exporter didn't accept stays queued, in order.
+    /// Then flushes the processor. Records that the exporter didn't accept stay queued, in order.
     fn on_emit(&mut self, given: LogData)
         ensures flushed { IsFlushed E.accepted (after_emit given (simple_state self.old))
             (simple_state self.new) }
@@ -105,14 +105,14 @@ impl<E: LogExporter> LogProcessor for SimpleLogProcessor<E> {
         self.inner.is_open()
     }
 
-    /// Returns how many records were dropped. Stops at the greatest `u64`.
+    /// Returns the number of dropped records, saturating at `u64::MAX`.
     fn dropped_records(&self) -> u64
         ensures { result ≡ (simple_state self.now).dropped }
     {
         self.inner.dropped_records()
     }
 
-    /// Tells the exporter the resource of the records to come.
+    /// Sets the exporter's resource for later records.
     fn set_resource(&mut self, resource: Rc<Resource>)
         ensures { OnlyExporterChanges E.accepted (simple_state self.old) (simple_state self.new) }
     {
