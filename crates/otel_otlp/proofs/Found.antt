@@ -1,4 +1,4 @@
--- What stands under a name in an object, by the members that were put.
+-- The value under a name in an object, from the members that were put.
 use Rattle.std.proofs.Common.{◌≡◌, List, [], ◌∷◌, ◌++◌, ℕ, length, Option, Some, None, Bool, true, false, ◌==◌, if◌then◌else◌, refl, sym, ap, ◌∙◌}
 use Rattle.std.proofs.lemmas.Bool.{false≢true}
 use Rattle.std.proofs.lemmas.Slice.Eq.{bytes_eq-Decides}
@@ -9,7 +9,7 @@ use Rattle.serde_json.specs.Find.{get_member, get}
 use Rattle.serde_json.proofs.Views.{get_member-put, get_member-put_other}
 use Rattle.otel_otlp.specs.Json.{Member, put_all, object_of, list_unless_empty, number_unless_zero, text_unless_empty}
 
--- the first that there is
+-- the first that exists
 abbrev pub or_else : Option Data → Option Data → Option Data
 or_else None y = y
 or_else (Some x) y = Some x
@@ -37,7 +37,7 @@ get_put true q k d ms e =
     ap (λ n. get_member n (put k d ms)) same ∙ get_member-put k d ms
 get_put false q k d ms e = get_member-put_other q k d ms (λ same. absurd (false≢true (sym e ∙ (bytes_eq-Decides q k).1 same)))
 
--- what is found in an object is what was put last under the name
+-- the value found in an object is the last one put under the name
 pub get_all : (q : List ℕ) (ms : Members) (xs : List Member) → get_member q (put_all ms xs) ≡ or_else (found q xs) (get_member q ms)
 get_all q ms [] = refl
 get_all q ms (x ∷ more) =
@@ -56,7 +56,7 @@ found-append q (x ∷ xs) ys =
     ap (λ o. or_else o (if_so (bytes_eq q x.0) x.1)) (found-append q xs ys)
     ∙ sym (or_else-assoc (found q ys) (found q xs) (if_so (bytes_eq q x.0) x.1))
 
--- behind members that haven't the name
+-- after members that don't have the name
 pub found-before : (q : List ℕ) (xs ys : List Member) → found q ys ≡ None → found q (xs ++ ys) ≡ found q xs
 found-before q xs ys none = found-append q xs ys ∙ ap (λ o. or_else o (found q xs)) none
 
@@ -73,7 +73,7 @@ no_number q n k e = if_none (k == 0) q _ (ap (λ b. if_so b (number (unsigned k)
 pub no_text : (q n : List ℕ) (t : List ℕ) → bytes_eq q n ≡ false → found q (text_unless_empty n t) ≡ None
 no_text q n t e = if_none (length t == 0) q _ (ap (λ b. if_so b (string t)) e)
 
--- the text, and the number, of what is found
+-- the text and the number of the value that is found
 abbrev pub text_in : Option Data → List ℕ
 text_in (Some (string s)) = s
 text_in other = []

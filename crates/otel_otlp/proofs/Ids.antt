@@ -1,4 +1,4 @@
--- The digits of an id tell its number.
+-- The digits of an id determine its number.
 use Rattle.std.proofs.Common.{◌≡◌, ℕ, zero, suc, ◌<◌, ◌^◌, List, [], Result, Ok, Err, ap, ◌∙◌, sym, arith}
 use Rattle.std.proofs.lemmas.Nat.{from_be_bytes-to_be_bytes_8}
 use Rattle.std.specs.Int.{byte_at, bytes_high_first, w64, w128, to_be_bytes, from_be_bytes}

@@ -1,4 +1,5 @@
--- Members that may be left out tell what they are left out for, and flags tell their parts.
+-- Members that may be left out determine the value for which they are left out, and flags determine
+-- their parts.
 use Rattle.std.proofs.Common.{length, [], ◌∷◌, if◌then◌else◌, ◌≡◌, ℕ, ◌<◌, ◌==◌, List, Bool, true, false, refl, sym, ap, arith}
 use Rattle.std.proofs.lemmas.Grind.{common_steps}
 use Rattle.std.specs.Str.{bytes_eq}

@@ -1,4 +1,4 @@
--- What a writer took, with the newline that is pending.
+-- The bytes that a writer accepted, with the pending newline.
 use Rattle.std.proofs.Common.{Result, Ok, Err, OnErr, OnOk, ◌≡◌, ℕ, inr, nat_eq, true≢false, ◌<◌, ◌≤◌, List, [], ◌∷◌, ◌++◌, length, take, Option, Bool, true, false, refl, sym, ap, ◌∙◌, append_assoc, subst, arith}
 use Rattle.std.proofs.lemmas.Grind.{common_steps}
 use Rattle.std.proofs.lemmas.List.{append-nil}
@@ -31,7 +31,7 @@ pub written_before : (a b c : Option (List ℕ)) (o p q : Bool) (xs : List ℕ) 
 written_before a b c o p q xs first then =
     subst (λ ys. LinesWritten a c o q ys) (append-nil xs) (more_written a b c o p q xs [] first then)
 
--- the first bytes of a text, fewer than it has, where no newline was pending; one is from then on
+-- a proper prefix of a text, if no newline was pending; one is pending afterwards
 pub cut_written : (a b : Option (List ℕ)) (text : List ℕ) (count : ℕ) (was is : Bool) → was ≡ false → is ≡ true → count < length text → Appends a b (take count text)
     → (line : List ℕ) × IsCutOff text line × LinesWritten a b was is line
 cut_written a b text count was is w e h p = (
@@ -53,12 +53,12 @@ pub line_of : {R : Type 0} (form : BatchForm R) (of : Parts) (batch : List R) (t
 line_of form of [] text h is = absurd (true≢false (sym h))
 line_of form of (r ∷ more) text h is = (text, is, refl)
 
--- what holds anyhow holds after an error
+-- a fact that always holds also holds after an error
 pub on_err : {X E : Type 0} (P : Type 0) (r : Result X E) → P → OnErr r P
 on_err P (Ok x) p = tt
 on_err P (Err e) p = p
 
--- what follows from what holds after success, or after an error
+-- the consequence of facts that hold after success or after an error
 pub map_ok : {X E : Type 0} (P Q : Type 0) (r : Result X E) → (P → Q) → OnOk r P → OnOk r Q
 map_ok P Q (Ok x) f p = f p
 map_ok P Q (Err e) f p = tt

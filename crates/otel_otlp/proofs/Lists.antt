@@ -43,7 +43,7 @@ each_equal [] (y ∷ ys) h = absurd h
 each_equal (x ∷ xs) [] h = absurd h
 each_equal (x ∷ xs) (y ∷ ys) h = ap (λ z. z ∷ xs) h.0 ∙ ap (λ zs. y ∷ zs) (each_equal xs ys h.1)
 
--- no value of one list is one of the other: both are empty
+-- no value of one list is in the other: both are empty
 pub apart : {A B : Type 0} (f : A → Data) (g : B → Data) (never : (x : A) (y : B) → f x ≡ g y → ⊥) (xs : List A) (ys : List B) → map f xs ≡ map g ys → (xs ≡ []) × (ys ≡ [])
 apart f g never [] [] e = (refl, refl)
 apart f g never [] (y ∷ ys) e = absurd (true≢false (ap is_empty e))
@@ -58,7 +58,7 @@ list_again : (ds : List Data) → list_of (items_of ds) ≡ ds
 list_again [] = refl
 list_again (d ∷ ds) = ap (λ l. d ∷ l) (list_again ds)
 
--- the items of what is found
+-- the items of the value that is found
 abbrev pub items_in : Option Data → List Data
 items_in (Some (array items)) = list_of items
 items_in other = []

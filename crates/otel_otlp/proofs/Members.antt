@@ -7,7 +7,7 @@ use Rattle.serde_json.specs.View.{members_view}
 use Rattle.otel_otlp.specs.Json.{Member, put_all}
 use Rattle.otel_otlp.specs.View.{Adds, Map}
 
--- what is put after xs is put into what xs left
+-- members put after xs are put into the result of xs
 pub put_all-append : (members : Members) (xs ys : List Member) → put_all members (xs ++ ys) ≡ put_all (put_all members xs) ys
 put_all-append members [] ys = refl
 put_all-append members (x ∷ xs) ys = put_all-append (put x.0 x.1 members) xs ys

@@ -55,7 +55,7 @@ integer_no_list z ds e = let n : 8 ≡ 10 = ap (λ d. length (name_of d)) e in o
 text_no_list : (s : List ℕ) (ds : List Data) → text_value s ≡ list_value ds → ⊥
 text_no_list s ds e = let n : 11 ≡ 10 = ap (λ d. length (name_of d)) e in omega (arith, n)
 
--- of an array without items the type is not told
+-- the type of an array without items isn't shown
 booleans_told : (bs : List Bool) → bs ≡ [] → told_array (booleans bs) ≡ texts []
 booleans_told bs e = ap (λ l. told_array (booleans l)) e
 

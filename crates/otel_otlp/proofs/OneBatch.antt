@@ -30,7 +30,7 @@ scope_attributes_in s =
     ∙ or_else-none (found q (attributes_member (unique s.attributes))))
     ∙ unless_empty_again q (map key_value (unique s.attributes)) refl
 
--- what is put among attributes in range leaves them so
+-- attributes in range stay so after an attribute is put
 put_in_range : (xs : List Attribute) (a : Attribute) (at : Option ℕ) → AreInRange xs → IsValueInRange a.1 → AreInRange (option_map_or (λ i. slice_set xs i a) at (xs ++ a ∷ []))
 put_in_range xs a None h g = All-append (λ b. IsValueInRange b.1) xs (a ∷ []) h (All-cons (λ b. IsValueInRange b.1) a [] g (All-nil (λ b. IsValueInRange b.1)))
 put_in_range xs a (Some i) h g = All-set (λ b. IsValueInRange b.1) xs i a g h

@@ -1,4 +1,4 @@
--- What stands under the names of a scope in the value of a group of spans.
+-- The values under the names of a scope in the value of a group of spans.
 use Rattle.std.proofs.Common.{◌≡◌, List, ◌∷◌, ◌++◌, ℕ, Option, Some, None, true, false, refl, sym, ap, ◌∙◌, codes, map, filter}
 use Rattle.std.specs.Str.{bytes_eq}
 use Rattle.otel_base.specs.InstrumentationScope.{Scope}
@@ -15,7 +15,7 @@ pub no_given : (q n : List ℕ) (t : Option (List ℕ)) → bytes_eq q n ≡ fal
 no_given q n None e = refl
 no_given q n (Some t) e = ap (λ b. if_so b (string t)) e
 
--- the text of what is found, if there is one
+-- the text of the value that is found, if there is one
 abbrev pub given_in : Option Data → Option (List ℕ)
 given_in (Some (string s)) = Some s
 given_in other = None

@@ -18,7 +18,7 @@ use Rattle.otel_otlp.proofs.Lists.{each, items_in, unless_empty_again}
 use Rattle.otel_otlp.proofs.LeftOut.{text_again, number_again, same_flags}
 use Rattle.otel_otlp.proofs.OneAttribute.{same_attributes}
 
--- ---- members with attributes, and how many were dropped, behind them
+-- ---- members with attributes and the number of dropped attributes after them
 abbrev lost : ℕ → List Member
 lost n = number_unless_zero (codes "droppedAttributesCount") n
 
@@ -93,7 +93,7 @@ link_members l = with_attributes (link_front l) l.attributes l.dropped_attribute
 in_link : (q : List ℕ) (l : LinkRecord) → bytes_eq q (codes "attributes") ≡ false → bytes_eq q (codes "droppedAttributesCount") ≡ false → found q (link_members l) ≡ found q (link_front l)
 in_link q l = in_front q (link_front l) l.attributes l.dropped_attributes_count
 
--- behind the ids come the trace state, which may be left out, and the flags
+-- after the ids come the trace state, which may be left out, and the flags
 in_ids : (q : List ℕ) (l : LinkRecord) → found q (link_flags l) ≡ None → bytes_eq q (codes "traceState") ≡ false → found q (link_front l) ≡ found q (ids l.span_context)
 in_ids q l f t =
     found-before q (context_members l.span_context) (link_flags l) f

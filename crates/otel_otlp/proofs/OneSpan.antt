@@ -1,4 +1,4 @@
--- What stands under each name in the value of a span.
+-- The value under each name in the value of a span.
 use Rattle.std.proofs.Common.{length, [], if◌then◌else◌, Option, true≢false, ◌≡◌, ℕ, ◌<◌, ◌^◌, ◌==◌, List, ◌++◌, map, Some, None, Bool, true, false, refl, sym, ap, ◌∙◌, codes, decimal, arith}
 use Rattle.std.proofs.lemmas.Fmt.{decimal_injective}
 use Rattle.std.specs.Str.{bytes_eq}
@@ -23,7 +23,7 @@ use Rattle.otel_otlp.proofs.Found.{or_else, or_else-none, if_so, found, same_fou
 abbrev members : SpanRecord → List Member
 members s = identity s ++ work s ++ records s ++ losses s
 
--- the members of its work but the status
+-- the members of its work except the status
 abbrev four : SpanRecord → List Member
 four s =
     text_member (codes "name") s.name ++ number_member (codes "kind") (kind_number s.span_kind)
@@ -46,7 +46,7 @@ no_status q status.Unset e = refl
 no_status q status.Ok e = ap (λ b. if_so b success) e
 no_status q (status.Error d) e = ap (λ b. if_so b (failure d)) e
 
--- none of the names that may be left out behind the first four
+-- none of the names that may be left out after the first four
 record IsPlain (q : List ℕ) : Type 0 where
   a : bytes_eq q (codes "attributes") ≡ false
   e : bytes_eq q (codes "events") ≡ false
@@ -83,7 +83,7 @@ flags_of s =
     in_span (codes "flags") s (record { a = refl; e = refl; l = refl; da = refl; de = refl; dl = refl; st = refl })
     ∙ found-append (codes "flags") (context_members s.span_context ++ parent_member s.parent_span_id) (flags_member s)
 
--- the ids stand before the members that may be left out
+-- the ids come before the members that may be left out
 in_identity : (q : List ℕ) (s : SpanRecord) → found q (flags_member s) ≡ None → bytes_eq q (codes "parentSpanId") ≡ false → bytes_eq q (codes "traceState") ≡ false
     → found q (identity s) ≡ found q (text_member (codes "traceId") (trace_id_text s.span_context.trace_id) ++ text_member (codes "spanId") (span_id_text s.span_context.span_id))
 in_identity q s f p t =

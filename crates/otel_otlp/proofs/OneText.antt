@@ -1,4 +1,4 @@
--- A text that is of two batches.
+-- A text that belongs to two batches.
 use Rattle.std.proofs.Common.{◌≤◌, List, sym, ap, ◌∙◌, arith}
 use Rattle.otel_sdk_base.specs.Resource.{Parts}
 use Rattle.otel_sdk_span.specs.SpanData.{SpanRecord}

@@ -21,7 +21,7 @@ pub entry_values-view : (es : List Entry) → entry_values (entries_view es) ≡
 entry_values-view [] = refl
 entry_values-view (e ∷ es) = ap (λ ds. entry_value e ∷ ds) (entry_values-view es)
 
--- a test of what is made of the items
+-- a test of the results for the items
 pub list_any-map : {X Y : Type 0} (p : Y → Bool) (f : X → Y) (xs : List X) → list_any (λ x. p (f x)) xs ≡ list_any p (map f xs)
 list_any-map p f [] = refl
 list_any-map p f (x ∷ xs) = rw (list_any-map p f xs)

@@ -41,7 +41,7 @@ list_value values =
 abbrev pub bytes_value : List ℕ → Data
 bytes_value bs = object_of (text_member (codes "bytesValue") (encode_of standard bs))
 
--- a map from keys to values, by its pairs
+-- a map from keys to values, given as its pairs
 abbrev pub map_value : List Data → Data
 map_value pairs =
     object_of (object_member (codes "kvlistValue") (list_member (codes "values") pairs))
@@ -81,7 +81,7 @@ abbrev mutual
   tree_value (any.list ts) = list_value (tree_values ts)
   tree_value (any.map es) = map_value (entry_values es)
 
-  -- those of a list, in order
+  -- the values of a list, in order
   pub tree_values : Trees → List Data
   tree_values no_trees = []
   tree_values (more_trees t ts) = tree_value t ∷ tree_values ts
@@ -96,7 +96,7 @@ abbrev pub resource : Parts → Data
 resource r = object_of (attributes_member r.attributes)
 
 -- ---- InstrumentationScope
--- each key once, with its last value in its first place
+-- each key once, with its last value at its first place
 abbrev pub unique : List Attribute → List Attribute
 unique xs = attributes.put_all [] xs
 

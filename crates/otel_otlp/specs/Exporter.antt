@@ -1,4 +1,4 @@
--- What contracts see of an exporter that writes lines of JSON, and what its writer gets
+-- The view of an exporter that writes lines of JSON, and the bytes that its writer gets
 -- [OpenTelemetry protocol file exporter, "JSON Lines file"].
 use Rattle.std.specs.Prelude.{◌≡◌, ◌⊎◌, ◌<◌, ℕ, Bool, true, false, List, [], ◌∷◌, ◌++◌, length}
 use Rattle.std.specs.Prelude.{take, Option, Result, ⊤, IsTrue, OnOk, IsErrOf, if◌then◌else◌}
@@ -12,14 +12,14 @@ use Rattle.otel_otlp.specs.Json.{IsTextOf}
 use Rattle.otel_otlp.specs.declared.lines.Lines.{Lines}
 
 -- the batches that it has accepted, its writer with whether a newline is pending there, the
--- resource of the items to come, and whether it was shut down
+-- resource of later items, and whether it was shut down
 pub record Exporting (W R : Type 0) : Type 0 where
   pub accepted : List (List R)
   pub lines : Lines W
   pub resource : Parts
   pub is_shut_down : Bool
 
--- a new exporter to the writer
+-- a new exporter that writes to the writer
 abbrev pub initial : {W R : Type 0} → W → Exporting W R
 initial writer = record {
   accepted = [];
@@ -33,9 +33,9 @@ initial writer = record {
 abbrev pub pending : Bool → List ℕ
 pending is_pending = if is_pending then 10 ∷ [] else []
 
--- These lines were written: what the writer took, with the newline that is pending afterwards, is
--- the newline that was pending before, and then the lines. Of a writer that isn't known to hold
--- bytes it says nothing.
+-- These lines were written: the bytes that the writer accepted, with the newline that is pending
+-- afterwards, are the newline that was pending before, and then the lines. It says nothing about a
+-- writer that isn't known to hold bytes.
 pub record LinesWritten (old new : Option (List ℕ)) (was is : Bool) (lines : List ℕ) : Type 0 where
   pub taken : List ℕ
   pub appended : Appends old new taken
@@ -48,8 +48,7 @@ Writes contents old new lines =
     LinesWritten (contents old.writer) (contents new.writer)
     old.newline_is_pending new.newline_is_pending lines
 
--- a line that was cut off: the first bytes of the text, fewer than it has, and a newline; or
--- nothing
+-- a truncated line: a proper prefix of the text's bytes, and a newline; or nothing
 abbrev pub IsCutOff : List ℕ → List ℕ → Type 0
 IsCutOff text line =
     (line ≡ []) ⊎ ((n : ℕ) × (n < length text) × (line ≡ take n text ++ 10 ∷ []))
@@ -62,29 +61,29 @@ IsLineOf form resource (r ∷ more) line =
     (text : List ℕ) × IsTextOf text (batch_value form resource (r ∷ more))
     × (line ≡ text ++ 10 ∷ [])
 
--- the line of the batch, cut off, or nothing
+-- the truncated line of the batch, or nothing
 abbrev pub IsCutOffLineOf : {R : Type 0} → BatchForm R → Parts → List R → List ℕ → Type 0
 IsCutOffLineOf form resource batch line =
     (line ≡ [])
     ⊎ ((text : List ℕ) × IsTextOf text (batch_value form resource batch) × IsCutOff text line)
 
 -- ---- calls
--- an exporter that was shut down returns this error and stays as it is, and no other returns it
+-- an exporter that was shut down returns this error and is unchanged, and no other returns it
 pub record RefusesIfShutDown {W R : Type 0} (result : Result ⊤ OTelSdkError)
     (old new : Exporting W R) : Type 0 where
   pub refused : IsTrue old.is_shut_down → IsErrOf result error.AlreadyShutdown
   pub only_then : IsErrOf result error.AlreadyShutdown → IsTrue old.is_shut_down
   pub unchanged : IsTrue old.is_shut_down → new ≡ old
 
--- nothing but the newline that was pending is written, and on `Ok` it is; the call never says that
--- the exporter was shut down
+-- only the pending newline is written, and on `Ok` it is written; the call never returns that the
+-- exporter was shut down
 pub record Flushes {W : Type 0} (contents : W → Option (List ℕ)) (result : Result ⊤ OTelSdkError)
     (old new : Lines W) : Type 0 where
   pub written : OnOk result (new.newline_is_pending ≡ false)
   pub writes : Writes contents old new []
   pub goes_on : IsErrOf result error.AlreadyShutdown → ⊥
 
--- nothing but the newline that was pending is written, and on `Ok` it is; nothing else changes
+-- only the pending newline is written, and on `Ok` it is written; nothing else changes
 pub record ForceFlushes {W R : Type 0} (contents : W → Option (List ℕ))
     (result : Result ⊤ OTelSdkError) (old new : Exporting W R) : Type 0 where
   pub refuses : RefusesIfShutDown result old new

@@ -1,5 +1,5 @@
--- Items under their scopes, and these under a resource: what batches of spans and of log records
--- share [opentelemetry/proto/trace/v1/trace.proto, logs/v1/logs.proto].
+-- Items grouped by scope, and scopes under a resource, for batches of spans and of log records
+-- [opentelemetry/proto/trace/v1/trace.proto, logs/v1/logs.proto].
 use Rattle.std.specs.Prelude.{List, [], ◌∷◌, ◌++◌, map, ℕ, Bool, codes, if◌then◌else◌, filter}
 use Rattle.std.specs.List.{list_any}
 use Rattle.otel_base.specs.InstrumentationScope as scope
@@ -11,17 +11,17 @@ use Rattle.otel_otlp.specs.Json.{object_of, list_member, text_if_given}
 
 -- ---- scopes; `scope_of` gives the scope of a record
 module _ {R : Type 0} (scope_of : R → Scope) where
-  -- whether the record is of the scope
+  -- whether the record belongs to the scope
   abbrev pub is_of : Scope → R → Bool
   is_of wanted r = scope.eq (scope_of r) wanted
 
-  -- the scope of a record, unless a record before it is of that scope
+  -- the scope of a record, unless an earlier record belongs to that scope
   abbrev pub new_scope : List R → R → List Scope
   new_scope before r =
       if list_any (is_of (scope_of r)) before then [] else scope_of r ∷ []
 
   -- the scopes of these records, in the order in which they first appear; `before` are the records
-  -- that stand before them
+  -- before them
   abbrev pub first_scopes : List R → List R → List Scope
   first_scopes before [] = []
   first_scopes before (r ∷ more) = new_scope before r ++ first_scopes (before ++ r ∷ []) more
@@ -34,7 +34,7 @@ module _ {R : Type 0} (scope_of : R → Scope) where
       ∷ list_member name (map value_of (filter (is_of of) records))
       ++ text_if_given (codes "schemaUrl") of.schema_url)
 
-  -- this group of the scope of a record, unless a record before it is of that scope
+  -- this group of the scope of a record, unless an earlier record belongs to that scope
   abbrev pub new_group : (R → Data) → List ℕ → List R → List R → R → List Data
   new_group value_of name records before r =
       map (scope_group value_of name records) (new_scope before r)

@@ -1,5 +1,5 @@
--- Objects of JSON by their members, and the forms that OTLP gives to numbers and ids
--- [OpenTelemetry protocol, "JSON Protobuf Encoding"].
+-- JSON objects built from members, and the OTLP forms of numbers and ids [OpenTelemetry protocol,
+-- "JSON Protobuf Encoding"].
 use Rattle.std.specs.Prelude.{◌≡◌, ℕ, ◌==◌, ◌≤◌, false, List, [], ◌∷◌, length, Option, Some, None}
 use Rattle.std.specs.Prelude.{if◌then◌else◌, decimal}
 use Rattle.std.specs.Int.{w64, w128, to_be_bytes}
@@ -20,7 +20,7 @@ abbrev pub put_all : Members → List Member → Members
 put_all members [] = members
 put_all members (m ∷ more) = put_all (put m.0 m.1 members) more
 
--- the object of these members; they stand in the rising order of their names' bytes
+-- the object of these members, sorted by the bytes of their names
 abbrev pub object_of : List Member → Data
 object_of members = object (put_all no_members members)
 
@@ -68,14 +68,13 @@ decimal_if_given name (Some n) = decimal_member name n
 abbrev pub trace_id_text : ℕ → List ℕ
 trace_id_text id = encode_lower (to_be_bytes w128 id)
 
--- 16 of them
+-- 16 lower-case hexadecimal digits
 abbrev pub span_id_text : ℕ → List ℕ
 span_id_text id = encode_lower (to_be_bytes w64 id)
 
 -- ---- texts
--- the text is the compact one of the value, as JSON is written without spaces: it has the value's
--- items and members once each and in order, and reads back as the value unless it nests deeper than
--- a reader goes
+-- the text is the compact JSON of the value, without spaces: it has the value's items and members
+-- once each and in order, and reads back as the value unless it nests deeper than a reader accepts
 pub record IsTextOf (text : List ℕ) (value : Data) : Type 0 where
   pub compact : has_float value ≡ false → text ≡ compact_text value
   pub in_order : IsInOrder text value

@@ -20,7 +20,7 @@ use Rattle.otel_otlp.specs.Json.{number_unless_zero, list_unless_empty}
 use Rattle.otel_otlp.specs.Json.{trace_id_text, span_id_text}
 
 -- ---- LogRecord
--- when the event happened, and when it was observed
+-- the times at which the event happened and was observed
 abbrev pub times : LogState → List Member
 times l =
     decimal_if_given (codes "timeUnixNano") l.timestamp
@@ -31,7 +31,7 @@ abbrev pub body_member : Option Tree → List Member
 body_member None = []
 body_member (Some body) = (codes "body", tree_value body) ∷ []
 
--- what it says; a severity is its number, from 1 for `TRACE` to 24 for `FATAL4`
+-- the content of the record; a severity is its number, from 1 for `TRACE` to 24 for `FATAL4`
 abbrev pub content : LogState → List Member
 content l =
     number_if_given (codes "severityNumber") l.severity_number
@@ -53,11 +53,11 @@ target_attribute held None = []
 target_attribute held (Some target) =
     if list_any is_target held then [] else (codes "log.target", any.text target) ∷ []
 
--- the attributes, the target as the last one
+-- the attributes, with the target last
 abbrev pub attributes : LogState → List Attribute
 attributes l = l.attributes ++ target_attribute l.attributes l.target
 
--- the attributes, and how many were dropped because of the limit
+-- the attributes, and the number of attributes that were dropped because of the limit
 abbrev pub details : LogState → List Member
 details l =
     list_unless_empty (codes "attributes") (map attribute (attributes l))
@@ -92,18 +92,18 @@ form = record {
 }
 
 -- a batch of log records of one resource, as one object: the scopes in the order in which they
--- first appear, under each its records in order
+-- first appear, each with its records in order
 abbrev pub logs_data : Parts → List LogEntry → Data
 logs_data = groups.batch_value form
 
 -- ---- worked rows
--- a record of which only the time of its observation is known
+-- a record with only an observed time
 observed_example :
     log_record (record empty { observed_timestamp = Some 5 })
     ≡ object_of (decimal_member (codes "observedTimeUnixNano") 5)
 observed_example = refl
 
--- a target goes last, unless its key is there
+-- a target goes last, unless its key is present
 target_example : attributes (record empty { target = Some (codes "t") })
     ≡ (codes "log.target", any.text (codes "t")) ∷ []
 target_example = refl

@@ -1,4 +1,5 @@
--- What the value of a span tells of it, and that of a batch of its groups.
+-- The facts about a span that its value determines, and the facts about groups that a batch's value
+-- determines.
 use Rattle.std.specs.Prelude.{◌≡◌, ℕ, ℤ, ◌<◌, ◌^◌, List, [], ◌∷◌, map, filter, ⊤}
 use Rattle.std.specs.Int.Signed.{mag}
 use Rattle.std.specs.List.{All, AllZip}
@@ -63,7 +64,7 @@ pub record IsInRange (s : SpanRecord) : Type 0 where
   pub scope : AreInRange s.scope.attributes
 
 -- ---- attributes
--- the array, with one type for all that have no items, since the text doesn't tell it
+-- the array, with one type for all arrays without items, since the text doesn't show their type
 abbrev pub told_array : ArrayValue → ArrayValue
 told_array (booleans []) = texts []
 told_array (booleans (b ∷ bs)) = booleans (b ∷ bs)
@@ -71,15 +72,15 @@ told_array (integers []) = texts []
 told_array (integers (z ∷ zs)) = integers (z ∷ zs)
 told_array (texts ss) = texts ss
 
--- what the text tells of a value
+-- the facts about a value that the text shows
 abbrev pub told_value : AttributeValue → AttributeValue
 told_value (value.boolean b) = value.boolean b
 told_value (value.integer z) = value.integer z
 told_value (value.text s) = value.text s
 told_value (value.array xs) = value.array (told_array xs)
 
--- what the text tells of attributes: their keys and values in order, but for the type of an array
--- without items
+-- the facts about attributes that the text shows: their keys and values in order, except for the
+-- type of an array without items
 abbrev pub told : List Attribute → List Attribute
 told = map (λ a. (a.0, told_value a.1))
 
@@ -125,7 +126,7 @@ pub record SaysSame (s t : SpanRecord) : Type 0 where
   pub dropped_events : s.dropped_events ≡ t.dropped_events
   pub dropped_links : s.dropped_links ≡ t.dropped_links
 
--- spans with equal values say the same of this
+-- spans with equal values are the same in this sense
 abbrev pub EqualValuesSaySame : Type 0
 EqualValuesSaySame =
     (s t : SpanRecord) → IsInRange s → IsInRange t → span s ≡ span t → SaysSame s t
@@ -154,8 +155,8 @@ pub record SameResource (r q : Parts) : Type 0 where
   pub attributes : told r.attributes ≡ told q.attributes
   pub schema_url : r.schema_url ≡ q.schema_url
 
--- both scopes are the same, and the spans of one among ss say the same as those of the other among
--- ts, in order
+-- both scopes are the same, and the spans of one among ss are the same in this sense as the spans
+-- of the other among ts, in order
 pub record SameGroup (ss ts : List SpanRecord) (a b : Scope) : Type 0 where
   pub scope : SameScope a b
   pub spans : AllZip SaysSame (filter (is_of scope_of a) ss) (filter (is_of scope_of b) ts)
@@ -176,7 +177,7 @@ EqualBatchesSaySame =
     → All IsInRange ss → All IsInRange ts → traces_data r ss ≡ traces_data q ts
     → SameBatch r q ss ts
 
--- a text is of no two batches that are not the same in this sense
+-- no text belongs to two batches that aren't the same in this sense
 abbrev pub EqualTextsSaySame : Type 0
 EqualTextsSaySame =
     (text : List ℕ) (r q : Parts) (ss ts : List SpanRecord)

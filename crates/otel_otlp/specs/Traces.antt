@@ -79,14 +79,14 @@ kind_number kind.Consumer = 5
 abbrev pub parent_member : ℕ → List Member
 parent_member id = if id == 0 then [] else text_member (codes "parentSpanId") (span_id_text id)
 
--- which span it is
+-- the identity of the span
 abbrev pub identity : SpanRecord → List Member
 identity s =
     context_members s.span_context
     ++ parent_member s.parent_span_id
     ++ number_member (codes "flags") (flags s.span_context.trace_flags s.parent_span_is_remote)
 
--- what it was, and when
+-- the name, the kind, the times and the status
 abbrev pub work : SpanRecord → List Member
 work s =
     text_member (codes "name") s.name
@@ -101,14 +101,14 @@ events_member es = list_unless_empty (codes "events") (map event es)
 abbrev pub links_member : List LinkRecord → List Member
 links_member ls = list_unless_empty (codes "links") (map link ls)
 
--- what it recorded
+-- the attributes, the events and the links
 abbrev pub records : SpanRecord → List Member
 records s =
     attributes_member s.attributes
     ++ events_member s.events
     ++ links_member s.links
 
--- how much of it was dropped because of limits
+-- the numbers of attributes, events and links that were dropped because of limits
 abbrev pub losses : SpanRecord → List Member
 losses s =
     number_unless_zero (codes "droppedAttributesCount") s.dropped_attributes

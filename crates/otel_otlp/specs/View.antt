@@ -1,4 +1,4 @@
--- What a function adds to the members of an object.
+-- The members that a function adds to an object.
 use Rattle.std.specs.Prelude.{◌≡◌, List, Result, OnOk, String, ⊤}
 use Rattle.std.specs.declared.alloc.AllocError.{AllocError}
 use Rattle.std.specs.declared.alloc.Global.{Global}
@@ -7,7 +7,7 @@ use Rattle.serde_json.specs.View.{members_view}
 use Rattle.serde_json.specs.declared.value.Value.{Value}
 use Rattle.otel_otlp.specs.Json.{Member, put_all}
 
--- the members of an object, as code has them
+-- the members of an object, in code
 abbrev pub Map : Type 0
 Map = BTreeMap (String Global) Value Global
 

@@ -21,7 +21,7 @@ pub(crate) fn boolean_value(alloc: Global, value: bool) -> Result<Json, AllocErr
     Ok(Json::from(members))
 }
 
-/// Returns the value of an integer, a text of its digits.
+/// Returns the value of an integer, as the text of its digits.
 pub(crate) fn integer_value(alloc: Global, value: i64) -> Result<Json, AllocError>
     ensures { IfOk result (λ v. view v ≡ spec.integer_value value) }
 {
@@ -128,7 +128,7 @@ fn key_value(alloc: Global, attribute: &KeyValue) -> Result<Json, AllocError>
     pair(alloc, attribute.key.as_str(), value)
 }
 
-/// Returns each of the attributes.
+/// Returns the value of each attribute.
 fn key_values(alloc: Global, attributes: &[KeyValue]) -> Result<Vec<Json>, AllocError>
     ensures { IfOk result (λ v.
         map view v.items ≡ map spec.key_value (map attribute_of attributes.now)) }
@@ -162,7 +162,7 @@ pub(crate) fn resource(alloc: Global, resource: &Resource) -> Result<Json, Alloc
     Ok(Json::from(members))
 }
 
-/// Returns the attributes, each key once, with its last value in its first place.
+/// Returns the scope's attributes with each key once: its last value at its first place.
 fn unique(alloc: Global, scope: &InstrumentationScope) -> Result<Resource, AllocError>
     ensures { IfOk result (λ r. r.attributes ≡ spec.unique scope.now.attributes) }
 {

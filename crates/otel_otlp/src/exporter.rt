@@ -26,13 +26,13 @@ use std::rc::Rc;
 /// exporter.export(batch)?;
 /// ```
 ///
-/// A line is made in memory, and handed to the writer, which should have no buffer. The batch is
-/// accepted exactly if the writer took every byte of its object. If a line was cut off, its missing
-/// newline is written before the next line, on flush and on shutdown, so the fragment is a line by
-/// itself, and no item can be read twice.
+/// A line is built in memory and then handed to the writer, which should have no buffer. The batch
+/// is accepted if and only if the writer accepted every byte of its object. If a line was cut off,
+/// its missing newline is written before the next line, on flush and on shutdown, so the fragment
+/// is a line by itself, and no item can be read twice.
 ///
 /// Contracts see the batches that it has accepted, the writer, whether a newline is pending, the
-/// resource of the items to come, and whether it was shut down.
+/// resource of later items, and whether it was shut down.
 #[derive(Drop)]
 pub struct OtlpJsonExporter<W, R> {
     lines: Lines<W>,
@@ -88,7 +88,8 @@ fn write_batch<W: Write, R: Grouped>(
 }
 
 impl<W: Write, R> OtlpJsonExporter<W, R> {
-    /// Returns an exporter to the writer. Items have no resource until one is set.
+    /// Creates an exporter that writes to the given writer. Items have no resource until one is
+    /// set.
     ///
     /// # Errors
     ///
@@ -129,13 +130,14 @@ impl<W: Write + Drop, R: Grouped> Exporter<R> for OtlpJsonExporter<W, R> {
       is_shut_down = true;
     } };
 
-    /// Writes a line. An empty batch writes nothing.
+    /// Writes the batch as a line. Writes nothing for an empty batch.
     ///
     /// # Errors
     ///
-    /// `AlreadyShutdown` after [`Exporter::shutdown`]; `Memory` if out of memory: nothing is
-    /// written then. `InternalFailure` if the writer didn't take the pending newline, or every byte
-    /// of the object. What it took stays there as a line that was cut off.
+    /// - `AlreadyShutdown` after [`Exporter::shutdown`]. Nothing is written.
+    /// - `Memory` if out of memory. Nothing is written.
+    /// - `InternalFailure` if the writer didn't accept the pending newline or every byte of the
+    ///   object. The accepted bytes remain as a truncated line.
     fn export(&mut self, batch: &[R]) -> OTelSdkResult
         ensures ok { OnOk result (self.new.accepted ≡ self.old.accepted ++ batch.now ∷ []) }
         ensures err { OnErr result (self.new.accepted ≡ self.old.accepted) }
@@ -162,12 +164,13 @@ impl<W: Write + Drop, R: Grouped> Exporter<R> for OtlpJsonExporter<W, R> {
         Ok(())
     }
 
-    /// Writes the newline that is pending, and flushes the writer.
+    /// Writes the pending newline, if there is one, and flushes the writer.
     ///
     /// # Errors
     ///
-    /// `AlreadyShutdown` after [`Exporter::shutdown`]; `InternalFailure` if the writer failed;
-    /// `Memory` if it failed and memory ran out too.
+    /// - `AlreadyShutdown` after [`Exporter::shutdown`].
+    /// - `InternalFailure` if the writer failed.
+    /// - `Memory` if the writer failed and memory ran out too.
     fn force_flush(&mut self) -> OTelSdkResult
         ensures same { self.new.accepted ≡ self.old.accepted }
         ensures flushes { ForceFlushes W.contents result self.old self.new }
@@ -178,12 +181,14 @@ impl<W: Write + Drop, R: Grouped> Exporter<R> for OtlpJsonExporter<W, R> {
         self.lines.flush(self.alloc)
     }
 
-    /// Writes the newline that is pending, flushes the writer, and refuses every later call.
+    /// Writes the pending newline, if there is one, flushes the writer, and refuses every later
+    /// call.
     ///
     /// # Errors
     ///
-    /// `AlreadyShutdown` at a second call; `InternalFailure` if the writer failed; `Memory` if it
-    /// failed and memory ran out too.
+    /// - `AlreadyShutdown` on a second call.
+    /// - `InternalFailure` if the writer failed.
+    /// - `Memory` if the writer failed and memory ran out too.
     fn shutdown(&mut self) -> OTelSdkResult
         ensures down { self.new ≡ record self.old {
           lines = self.new.lines;
@@ -198,7 +203,7 @@ impl<W: Write + Drop, R: Grouped> Exporter<R> for OtlpJsonExporter<W, R> {
         self.lines.flush(self.alloc)
     }
 
-    /// Writes this resource with the batches to come.
+    /// Sets the resource that is written with later batches.
     fn set_resource(&mut self, resource: Rc<Resource>)
         ensures { self.new ≡ record self.old { resource = rc_value resource } }
     {

@@ -1,5 +1,4 @@
-//! Records under their scopes, and these under a resource: what the messages of traces and of logs
-//! share.
+//! Groups records by scope, and scopes under a resource, for the messages of traces and of logs.
 ghost use Rattle.std.specs.Prelude.{◌≡◌, [], ◌∷◌, ◌++◌, IfOk, OnOk, map, filter, string_bytes};
 ghost use Rattle.std.specs.List.{list_any};
 ghost use Rattle.serde_json.specs.View.{view};
@@ -26,7 +25,7 @@ pub struct ListNames {
 
 /// An item of a batch: a span or a log record.
 ///
-/// It names, by a ghost member, the form that the protocol gives to a batch of such items.
+/// The ghost member `form` gives the protocol's form of a batch of such items.
 pub trait Grouped: Drop {
     ghost use Rattle.std.specs.Prelude.{◌≡◌, IfOk};
     ghost use Rattle.serde_json.specs.View.{view};
@@ -53,7 +52,7 @@ pub trait Grouped: Drop {
         ensures items { result.items.now ≡ form.items };
 }
 
-/// Returns whether the record is of the scope.
+/// Returns `true` if the record belongs to the scope.
 fn is_of<R: Grouped>(scope: &InstrumentationScope, item: &R) -> bool
     ensures { result ≡ spec.is_of R.form.scope_of scope.now item.now }
 {
@@ -97,14 +96,14 @@ fn scope_group<R: Grouped>(
     Ok(Value::from(members))
 }
 
-/// Returns whether one of the records is of the scope.
+/// Returns `true` if one of the records belongs to the scope.
 fn appears<R: Grouped>(scope: &InstrumentationScope, records: &[R]) -> bool
     ensures { result ≡ list_any (spec.is_of R.form.scope_of scope.now) records.now }
 {
     records.iter().any(|item| is_of(scope, item))
 }
 
-/// Adds the records of this record's scope, unless a record before it is of that scope.
+/// Adds the group of the record's scope, unless an earlier record belongs to that scope.
 fn add_group<R: Grouped>(
     values: &mut Vec<Value>,
     alloc: Global,
@@ -124,8 +123,8 @@ fn add_group<R: Grouped>(
     Ok(())
 }
 
-/// Returns the records of each scope under this name, the scopes in the order in which they first
-/// appear.
+/// Returns the group of each scope, in the order in which the scopes first appear. Each group lists
+/// its records under `name`.
 fn groups<R: Grouped>(alloc: Global, name: &str, batch: &[R]) -> Result<Vec<Value>, AllocError>
     ensures { IfOk result (λ v. map view v.items
         ≡ map (spec.scope_group R.form.scope_of R.form.value_of name.now batch.now)
@@ -156,7 +155,7 @@ fn resource_group(
     Ok(Value::from(members))
 }
 
-/// Returns the object that has a list of this one value under the name.
+/// Returns an object with a list of this one value under the name.
 fn list_of_one(alloc: Global, name: &str, value: Value) -> Result<Value, AllocError>
     ensures { IfOk result (λ v. view v ≡ object_of (list_member name.now (view value ∷ []))) }
 {

@@ -17,13 +17,13 @@ pub fn equal_groups_name_same()
 
 /// States that batches with equal values are of resources with the same attributes and schema URL,
 /// and have the same groups, in order: their scopes have the same name, version, schema URL and
-/// attributes, and their spans say the same of what [`equal_values_say_same`] names.
+/// attributes, and their spans agree on everything that [`equal_values_say_same`] names.
 pub fn equal_batches_say_same()
     ensures { EqualBatchesSaySame }
 {}
 
-/// States that no text is of two batches, unless they are the same as [`equal_batches_say_same`]
-/// says.
+/// States that no text belongs to two batches, unless the batches are the same in the sense of
+/// [`equal_batches_say_same`].
 pub fn equal_texts_say_same()
     ensures { EqualTextsSaySame }
 {}

@@ -1,4 +1,4 @@
-//! Lines handed to a writer: each is whole, or stands by itself as one that was cut off.
+//! Writes lines to a writer. Each line is complete, or a fragment on a line by itself.
 ghost use Rattle.std.specs.Prelude.{◌≡◌, ◌++◌, ◌∷◌, ℕ, List, [], true, false};
 ghost use Rattle.std.specs.Prelude.{IsTrue, OnOk, OnErr, IsErrOf, alloc_error};
 ghost use Rattle.otel_otlp.specs.Exporter.{Writes, Flushes, IsCutOff};
@@ -8,17 +8,17 @@ use otel_sdk_base::error::{OTelSdkError, OTelSdkResult};
 use std::alloc::Global;
 use std::io::Write;
 
-/// A writer of lines, and whether the newline of the last one is still to be written.
+/// A writer of lines, and whether the newline of the last line is pending.
 #[derive(Drop)]
 pub struct Lines<W> {
     /// The writer.
     pub writer: W,
-    /// Whether it lacks the newline of its last line.
+    /// Whether the newline of the last line is still to be written.
     pub newline_is_pending: bool,
 }
 
 impl<W: Write> Lines<W> {
-    // Writes the newline that is pending, and returns whether none is pending any more.
+    // Writes the pending newline, if there is one. Returns `true` if none is pending afterwards.
     fn write_pending_newline(&mut self) -> bool
         ensures written { IsTrue result → self.new.newline_is_pending ≡ false }
         ensures writes { Writes W.contents self.old self.new [] }
@@ -29,8 +29,8 @@ impl<W: Write> Lines<W> {
         !self.newline_is_pending
     }
 
-    // Writes the text, and returns whether the writer took all of it. The newline is pending from
-    // its first byte on.
+    // Writes the text. Returns `true` if the writer accepted all of it. A newline is pending once
+    // the first byte is written.
     fn write_object(&mut self, text: &str) -> bool
         requires { self.old.newline_is_pending ≡ false }
         ensures whole { IsTrue result
@@ -43,13 +43,13 @@ impl<W: Write> Lines<W> {
         self.newline_is_pending && count == text.len()
     }
 
-    /// Writes the newline that is pending, and the text as a line.
+    /// Writes the pending newline, if there is one, and then the text as a line.
     ///
     /// # Errors
     ///
-    /// `Memory` if out of memory: nothing is written. `InternalFailure` if the writer didn't take
-    /// the pending newline, or every byte of the text. What it took stays there as a line that was
-    /// cut off.
+    /// - `Memory` if out of memory. Nothing is written.
+    /// - `InternalFailure` if the writer didn't accept the pending newline or every byte of the
+    ///   text. The accepted bytes remain as a truncated line.
     pub(crate) fn write_line(&mut self, alloc: Global, text: &str) -> OTelSdkResult
         ensures ok { OnOk result
             (Writes W.contents self.old self.new (text.now ++ 10 ∷ [])) }
@@ -67,11 +67,11 @@ impl<W: Write> Lines<W> {
         Ok(())
     }
 
-    /// Writes the newline that is pending, and flushes the writer.
+    /// Writes the pending newline, if there is one, and flushes the writer.
     ///
     /// # Errors
     ///
-    /// `InternalFailure` if the writer failed; `Memory` if it failed and memory ran out too.
+    /// `InternalFailure` if the writer failed, or `Memory` if it failed and memory ran out too.
     pub(crate) fn flush(&mut self, alloc: Global) -> OTelSdkResult
         ensures { Flushes W.contents result self.old self.new }
     {

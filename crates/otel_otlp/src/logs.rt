@@ -1,4 +1,4 @@
-//! The messages of log records.
+//! The OTLP messages for log records.
 ghost use Rattle.std.specs.Prelude.{◌≡◌, ◌++◌, IfOk, OnOk, codes, map, option_map, string_bytes};
 ghost use Rattle.std.specs.List.{list_any};
 ghost use Rattle.serde_json.specs.View.{view};
@@ -23,7 +23,7 @@ use otel_sdk_logs::{LogData, SdkLogRecord, TraceContext};
 use serde_json::{Map, Value, put};
 use std::alloc::{AllocError, Global};
 
-/// Puts when the event happened, and when it was observed.
+/// Puts the times at which the event happened and was observed.
 fn put_times(members: &mut Members, alloc: Global, log: &SdkLogRecord) -> Result<(), AllocError>
     ensures { Adds result members.old members.new (spec.times log.now) }
 {
@@ -82,7 +82,7 @@ fn put_body(members: &mut Members, alloc: Global, body: &Option<AnyValue>) -> Re
     }
 }
 
-/// Puts what the record says.
+/// Puts the severity, the event name and the body.
 fn put_content(members: &mut Members, alloc: Global, log: &SdkLogRecord) -> Result<(), AllocError>
     ensures { Adds result members.old members.new (spec.content log.now) }
 {
@@ -92,7 +92,7 @@ fn put_content(members: &mut Members, alloc: Global, log: &SdkLogRecord) -> Resu
     put_body(members, alloc, &log.body)
 }
 
-/// Returns each of the attributes.
+/// Returns the value of each attribute.
 fn pairs(alloc: Global, attributes: &[(Key, AnyValue)]) -> Result<Vec<Value>, AllocError>
     ensures { IfOk result (λ v. map view v.items
         ≡ map spec.attribute (pairs_view attributes.now)) }
@@ -140,7 +140,7 @@ fn add_target(
     Ok(())
 }
 
-/// Returns each of the record's attributes, the target as the last one.
+/// Returns the value of each of the record's attributes, with the target last.
 fn attributes(alloc: Global, log: &SdkLogRecord) -> Result<Vec<Value>, AllocError>
     ensures { IfOk result (λ v. map view v.items
         ≡ map spec.attribute (spec.attributes log.now)) }
@@ -151,7 +151,7 @@ fn attributes(alloc: Global, log: &SdkLogRecord) -> Result<Vec<Value>, AllocErro
     Ok(values)
 }
 
-/// Puts the attributes, and how many were dropped because of the limit.
+/// Puts the attributes, and the number of attributes that were dropped because of the limit.
 fn put_details(members: &mut Members, alloc: Global, log: &SdkLogRecord) -> Result<(), AllocError>
     ensures { Adds result members.old members.new (spec.details log.now) }
 {
@@ -216,8 +216,8 @@ impl Grouped for LogData {
 
 /// Returns a batch of log records of one resource (the protocol's `LogsData`).
 ///
-/// The scopes stand in the order in which they first appear, under each its records in order. A
-/// record's target is its last attribute, `log.target`, unless that key is there.
+/// The scopes are in the order in which they first appear, each with its records in order. A
+/// record's target is its last attribute, `log.target`, unless the record already has that key.
 ///
 /// # Errors
 ///

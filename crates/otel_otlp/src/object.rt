@@ -1,4 +1,4 @@
-//! Objects of JSON, put together member by member.
+//! Builds JSON objects member by member.
 ghost use Rattle.std.specs.Prelude.{◌≡◌, IfOk, string_bytes, decimal};
 ghost use Rattle.std.specs.Prelude.{map};
 ghost use Rattle.std.specs.Option.{option_copied};

@@ -1,4 +1,4 @@
-//! The messages of traces.
+//! The OTLP messages for traces.
 ghost use Rattle.std.specs.Prelude.{◌≡◌, IfOk, map, string_bytes};
 ghost use Rattle.serde_json.specs.View.{view};
 ghost use Rattle.opentelemetry.specs.View.{event_of, link_of};
@@ -43,7 +43,7 @@ fn flags(context: &SpanContext, is_remote: bool) -> u32
     u32::from(context.trace_flags().to_u8()) + if is_remote { 768 } else { 256 }
 }
 
-/// Puts which span it is: the ids of its trace and of itself, and the trace state.
+/// Puts the trace id, the span id and the trace state.
 fn put_context(
     members: &mut Members,
     alloc: Global,
@@ -139,7 +139,7 @@ fn put_parent(members: &mut Members, alloc: Global, id: SpanId) -> Result<(), Al
     put_span_id(members, alloc, "parentSpanId", id)
 }
 
-/// Puts which span it is.
+/// Puts the identity of the span: its context, its parent and its flags.
 fn put_identity(members: &mut Members, alloc: Global, span: &SpanData) -> Result<(), AllocError>
     ensures { Adds result members.old members.new (spec.identity span.now) }
 {
@@ -154,7 +154,7 @@ fn put_identity(members: &mut Members, alloc: Global, span: &SpanData) -> Result
     )
 }
 
-/// Puts what the span was, and when.
+/// Puts the span's name, kind, times and status.
 fn put_work(members: &mut Members, alloc: Global, span: &SpanData) -> Result<(), AllocError>
     ensures { Adds result members.old members.new (spec.work span.now) }
 {
@@ -165,7 +165,7 @@ fn put_work(members: &mut Members, alloc: Global, span: &SpanData) -> Result<(),
     put_status(members, alloc, &span.status)
 }
 
-/// Returns each of the events.
+/// Returns the value of each event.
 fn events(alloc: Global, items: &[Event]) -> Result<Vec<Value>, AllocError>
     ensures { IfOk result (λ v. map view v.items ≡ map spec.event (map event_of items.now)) }
 {
@@ -176,7 +176,7 @@ fn events(alloc: Global, items: &[Event]) -> Result<Vec<Value>, AllocError>
     Ok(values)
 }
 
-/// Returns each of the links.
+/// Returns the value of each link.
 fn links(alloc: Global, items: &[Link]) -> Result<Vec<Value>, AllocError>
     ensures { IfOk result (λ v. map view v.items ≡ map spec.link (map link_of items.now)) }
 {
@@ -205,7 +205,7 @@ fn put_links(members: &mut Members, alloc: Global, items: &[Link]) -> Result<(),
     put_list_unless_empty(members, alloc, "links", values)
 }
 
-/// Puts what the span recorded.
+/// Puts the span's attributes, events and links.
 fn put_records(members: &mut Members, alloc: Global, span: &SpanData) -> Result<(), AllocError>
     ensures { Adds result members.old members.new (spec.records span.now) }
 {
@@ -214,7 +214,7 @@ fn put_records(members: &mut Members, alloc: Global, span: &SpanData) -> Result<
     put_links(members, alloc, span.links.links.as_slice())
 }
 
-/// Puts how much of the span was dropped because of limits.
+/// Puts the numbers of attributes, events and links that were dropped because of limits.
 fn put_losses(members: &mut Members, alloc: Global, span: &SpanData) -> Result<(), AllocError>
     ensures { Adds result members.old members.new (spec.losses span.now) }
 {
@@ -274,7 +274,7 @@ impl Grouped for SpanData {
 
 /// Returns a batch of spans of one resource (the protocol's `TracesData`).
 ///
-/// The scopes stand in the order in which they first appear, under each its spans in order.
+/// The scopes are in the order in which they first appear, each with its spans in order.
 ///
 /// # Errors
 ///

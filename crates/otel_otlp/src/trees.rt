@@ -1,4 +1,4 @@
-//! The values of trees, as bodies and attributes of log records have them.
+//! The values of trees, which are the bodies and attributes of log records.
 ghost use Rattle.std.specs.Prelude.{◌≡◌, IfOk, map};
 ghost use Rattle.serde_json.specs.View.{view};
 ghost use Rattle.otel_base.specs.View.{tree, trees_view, entries_view};
@@ -13,7 +13,7 @@ use serde_json::{Map, Value, put};
 use std::alloc::{AllocError, Global};
 use std::collections::BTreeMap;
 
-/// Returns the value of bytes, their text in base64.
+/// Returns the value of bytes, as their text in base64.
 fn bytes_value(alloc: Global, bytes: &[u8]) -> Result<Value, AllocError>
     ensures { IfOk result (λ v. view v ≡ spec.bytes_value bytes.now) }
 {

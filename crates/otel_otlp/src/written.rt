@@ -1,11 +1,12 @@
-//! Bytes handed to a writer, and how many it took.
+//! Writes bytes to a writer, and counts the accepted bytes.
 ghost use Rattle.std.specs.Prelude.{◌≡◌, ◌≤◌, ◌↔◌, length, take, IsTrue};
 ghost use Rattle.std.specs.Io.KnownBytes.{Appends};
 
 use std::io::{ErrorKind, Write};
 
-/// Hands the bytes to the writer until it has taken all, and returns how many it took: fewer only
-/// if it failed or took none. An interrupted write is tried again.
+/// Writes the bytes until the writer has accepted all of them. Returns the number of accepted
+/// bytes, which is less than all only if the writer failed or accepted none. An interrupted write
+/// is tried again.
 pub(crate) fn write_bytes<W: Write>(writer: &mut W, bytes: &[u8]) -> usize
     ensures bound { result ≤ length bytes.now }
     ensures taken { Appends (W.contents writer.old) (W.contents writer.new)
