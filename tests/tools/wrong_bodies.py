@@ -10,7 +10,8 @@ Further pairs of a section apply to the result of the earlier ones. `file: src/P
 crate's must-fail/ has one file NAME.edit for each wrong body, in the kit's format: `file:` and then the pairs.
 
 tests/mutants/refused has a line `CRATE CHECKSUM` for each crate with wrong bodies. The checksum covers all files that their trial
-reads, and is written once the prover has refused every one of them. While it is up to date, they needn't be tried again.
+reads, without lines that are comments, and is written once the prover has refused every one of them. While it is up to date, they
+needn't be tried again.
 """
 import functools
 import glob
@@ -25,6 +26,8 @@ MUTANTS = f"{TOP}/tests/mutants"
 REFUSED = f"{MUTANTS}/refused"
 # The scripts that the trial runs, beside the kit.
 SCRIPTS = "edits", "trial.py", "wrong_bodies.py", "functions.py", "built.py"
+# How a line begins that is a comment, by the ending of the file.
+COMMENTS = {".rt": "//", ".antt": "--"}
 # The files of a proof that no other crate can name.
 OF_ONE_FUNCTION = "Proof.antt", "Invariants.antt", "Answers.antt"
 
@@ -102,6 +105,12 @@ def logic():
     return subprocess.run(["rt", "version"], stdout=subprocess.PIPE, text=True, check=True).stdout.split()[-1]
 
 
+def without_comments(path, text):
+    """The text of a file, without the lines that are comments: no proof depends on them."""
+    begins = COMMENTS.get(os.path.splitext(path)[1])
+    return "".join(it for it in text.splitlines(keepends=True) if not (begins and it.lstrip().startswith(begins)))
+
+
 def checksum(crate, read=read):
     """The checksum of all files that the trial of the crate's wrong bodies reads. `read` reads the files of the crate."""
     known = crates()
@@ -113,7 +122,7 @@ def checksum(crate, read=read):
         digest.update(repr((it, known[it])).encode())
         paths += files_of(it, is_below=it != crate)
     for path in paths:
-        digest.update(repr((os.path.relpath(path, TOP), read(path))).encode())
+        digest.update(repr((os.path.relpath(path, TOP), without_comments(path, read(path)))).encode())
     return digest.hexdigest()[:32]
 
 
