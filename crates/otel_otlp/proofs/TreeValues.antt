@@ -1,6 +1,5 @@
 -- The values of the trees of a list, and of the entries of a map.
-use Rattle.std.proofs.Common.{◌≡◌, ℕ, Bool, List, [], ◌∷◌, map, refl, ap}
-use Rattle.std.specs.List.{list_any}
+use Rattle.std.proofs.Common.{◌≡◌, ℕ, List, [], ◌∷◌, map, refl, ap}
 use Rattle.otel_base.specs.View.{tree, trees_view, entries_view}
 use Rattle.otel_base.specs.declared.any_value.AnyValue.{AnyValue}
 use Rattle.serde_json.specs.Data.{Data}
@@ -20,8 +19,3 @@ tree_values-view (v ∷ vs) = ap (λ ds. tree_value (tree v) ∷ ds) (tree_value
 pub entry_values-view : (es : List Entry) → entry_values (entries_view es) ≡ map entry_value es
 entry_values-view [] = refl
 entry_values-view (e ∷ es) = ap (λ ds. entry_value e ∷ ds) (entry_values-view es)
-
--- a test of the results for the items
-pub list_any-map : {X Y : Type 0} (p : Y → Bool) (f : X → Y) (xs : List X) → list_any (λ x. p (f x)) xs ≡ list_any p (map f xs)
-list_any-map p f [] = refl
-list_any-map p f (x ∷ xs) = rw (list_any-map p f xs)

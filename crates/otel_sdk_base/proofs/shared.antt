@@ -1,2 +1,3 @@
 -- Lemmas that crates above use too.
 pub mod BatchLemmas
+pub mod Places

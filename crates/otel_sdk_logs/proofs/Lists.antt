@@ -1,22 +1,12 @@
 -- Places in lists of attributes.
-use Rattle.std.proofs.Common.{◌≡◌, ℕ, ◌+◌, Bool, List, [], ◌∷◌, ◌++◌, length, map}
-use Rattle.std.proofs.Common.{Some, None, refl, ap, ◌∙◌, slice_set}
-use Rattle.std.specs.Prelude.{position, not, cond, nat_lt}
-use Rattle.std.specs.List.{AllZip, prefix_len}
+use Rattle.std.proofs.Common.{◌≡◌, ℕ, List, [], ◌∷◌, ◌++◌, map, Some, refl, ap, ◌∙◌}
+use Rattle.std.proofs.Common.{slice_set}
+use Rattle.std.specs.List.{AllZip}
 use Rattle.std.specs.Option.{option_map_or}
-use Rattle.std.proofs.lemmas.List.{length-map, map-set}
+use Rattle.std.proofs.lemmas.List.{map-set}
 use Rattle.otel_base.specs.View.{tree, pairs_view}
 use Rattle.otel_base.specs.declared.any_value.AnyValue.{AnyValue}
 use Rattle.otel_sdk_logs.specs.Attributes as spec
-
-prefix_len_map : {X Y : Type 0} (p : Y → Bool) (f : X → Y) (xs : List X) → prefix_len p (map f xs) ≡ prefix_len (λ x. p (f x)) xs
-prefix_len_map p f [] = refl
-prefix_len_map p f (x ∷ xs) = ap (λ n. cond (p (f x)) (1 + n) 0) (prefix_len_map p f xs)
-
--- the first place that passes is the place of the first element whose image passes
-pub position_map : {X Y : Type 0} (p : Y → Bool) (f : X → Y) (xs : List X) → position p (map f xs) ≡ position (λ x. p (f x)) xs
-position_map p f xs =
-    rw (length-map xs f) (ap (λ n. cond (nat_lt n (length xs)) (Some n) None) (prefix_len_map (λ y. not (p y)) f xs))
 
 -- a list written at the place of the key
 pub put_at : (xs : List (List ℕ × AnyValue)) (key : List ℕ) (v : AnyValue) (i : ℕ) → Some i ≡ spec.place key (pairs_view xs)

@@ -3,7 +3,7 @@ use Rattle.std.proofs.lemmas.Iterator.{YieldsList-from_slice}
 use Rattle.std.proofs.lemmas.Iterator.Search.{position_from_yields_List}
 use Rattle.otel_base.specs.KeyValue.{has_key}
 use Rattle.otel_base.specs.View.{attribute_of}
-use Rattle.otel_sdk_base.proofs.Lists.{position_map}
+use Rattle.otel_sdk_base.proofs.shared.Places.{position_map}
 use Rattle.otel_sdk_base.proofs.attributes.place.Goals as goal
 
 pub returns : goal.returns

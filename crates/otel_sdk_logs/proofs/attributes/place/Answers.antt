@@ -3,7 +3,7 @@ use Rattle.std.proofs.lemmas.Iterator.{YieldsList-from_slice}
 use Rattle.std.proofs.lemmas.Iterator.Search.{position_from_yields_List}
 use Rattle.std.specs.Str.{bytes_eq}
 use Rattle.otel_base.specs.View.{tree}
-use Rattle.otel_sdk_logs.proofs.Lists.{position_map}
+use Rattle.otel_sdk_base.proofs.shared.Places.{position_map}
 use Rattle.otel_sdk_logs.proofs.attributes.place.Goals as goal
 
 pub returns : goal.returns
