@@ -1,5 +1,6 @@
 pub mod Attributes
 pub mod Clock
+pub mod Errors
 pub mod Export
 pub mod Queue
 pub mod QueueView

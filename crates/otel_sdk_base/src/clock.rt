@@ -9,7 +9,7 @@ use std::time::{SystemTime, UNIX_EPOCH};
 /// Supplies a span's start time if its builder gives none. Not in the Rust crate, where spans read
 /// the system's clock.
 ///
-/// See [`SystemClock`] and [`ManualClock`].
+/// See [`SystemClock`], [`ManualClock`] and [`CountedClock`].
 pub trait Clock: Drop {
     /// Returns the current time, in nanoseconds since 1970-01-01T00:00:00Z. A later call may return
     /// an earlier time.
@@ -81,5 +81,38 @@ impl Clock for ManualClock {
     /// Returns the time that was set last.
     fn now(&self) -> u64 {
         self.moment.get()
+    }
+}
+
+/// A clock that moves on by the same step at each reading, for output that is the same each time.
+///
+/// ```
+/// let clock = CountedClock::new(2);
+/// assert_eq!(rt; clock.now(), 0);
+/// assert_eq!(rt; clock.now(), 2);
+/// ```
+#[derive(Drop)]
+pub struct CountedClock {
+    next: Cell<u64>,
+    step: u64,
+}
+
+impl CountedClock {
+    /// Creates a clock that shows 0, then `step`, and so on, in nanoseconds since
+    /// 1970-01-01T00:00:00Z. Stops at the greatest `u64`.
+    pub fn new(step: u64) -> CountedClock {
+        CountedClock {
+            next: Cell::new(0),
+            step,
+        }
+    }
+}
+
+impl Clock for CountedClock {
+    /// Returns the next time.
+    fn now(&self) -> u64 {
+        let now = self.next.get();
+        self.next.set(now.saturating_add(self.step));
+        now
     }
 }

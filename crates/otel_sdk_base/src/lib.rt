@@ -13,7 +13,7 @@ mod queue;
 pub mod resource;
 
 pub use accepted::Accepted;
-pub use clock::{Clock, ManualClock, SystemClock};
+pub use clock::{Clock, CountedClock, ManualClock, SystemClock};
 pub use export::Exporter;
 pub use in_memory_exporter::{ExactClone, InMemoryExporter};
 pub use queue::Queue;

@@ -1,4 +1,4 @@
-//! The batches that an exporter keeps in memory, and the printed texts of errors.
+//! The batches that an exporter keeps in memory.
 use opentelemetry::trace::SpanId;
 use otel_sdk::error::OTelSdkError;
 use otel_sdk::trace::{Exporter, FinishedSpans, InMemorySpanExporter};
@@ -38,18 +38,5 @@ fn a_shutdown_exporter_refuses(rt: HostRuntime) -> Result<(), Fail> {
     let answer = exporter.export(&[span_data(alloc, 2, 1)?]);
     assert!(rt; matches!(answer, Err(OTelSdkError::AlreadyShutdown)));
     assert!(rt; exporter.get_finished_spans()?.is_empty());
-    Ok(())
-}
-
-#[test]
-fn errors_print_what_failed(rt: HostRuntime) -> Result<(), Fail> {
-    let alloc = rt.alloc();
-    let closed = OTelSdkError::AlreadyShutdown.to_string(alloc)?;
-    assert_eq!(rt; closed.as_str(), "Shutdown already invoked");
-    let failed = OTelSdkError::InternalFailure(String::from_str(alloc, "no disk")?);
-    assert_eq!(rt;
-        failed.to_string(alloc)?.as_str(),
-        "Operation failed: no disk"
-    );
     Ok(())
 }

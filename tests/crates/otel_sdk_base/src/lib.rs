@@ -1,5 +1,7 @@
-//! Properties of resources and queues that no clause states: calls succeed, and worked cases.
+//! Properties of resources, queues and errors that no clause states: calls succeed, printed texts,
+//! and worked cases.
 #![tactic(auto)]
 
+mod error;
 mod queue;
 mod resource;
