@@ -1,6 +1,9 @@
 -- Contracts' view of an exporter that draws spans. Not in the Rust crates.
-use Rattle.std.specs.Prelude.{ℕ, Bool, List}
+use Rattle.std.specs.Prelude.{◌≡◌, ◌⊎◌, ℕ, Bool, List, [], take, Result, ⊤, IsTrue, IsErrOf}
+use Rattle.otel_sdk_base.specs.declared.error.OTelSdkError.{OTelSdkError}
+use Rattle.otel_sdk_base.specs.declared.error.OTelSdkError.TheVariants as error
 use Rattle.otel_sdk_span.specs.SpanData.{SpanRecord}
+use Rattle.otel_waterfall.specs.Picture.{IsPictureOf}
 
 -- the batches that it has accepted, the writer that it draws to, the width in columns, whether it
 -- draws in ASCII, and whether it was shut down
@@ -10,3 +13,16 @@ pub record Waterfall (W : Type 0) : Type 0 where
   pub width : ℕ
   pub is_ascii : Bool
   pub is_shut_down : Bool
+
+-- an exporter that was shut down returns this error and is unchanged, and no other returns it
+pub record RefusesIfShutDown {W : Type 0} (result : Result ⊤ OTelSdkError) (old new : Waterfall W)
+    : Type 0 where
+  pub refused : IsTrue old.is_shut_down → IsErrOf result error.AlreadyShutdown
+  pub only_then : IsErrOf result error.AlreadyShutdown → IsTrue old.is_shut_down
+  pub unchanged : IsTrue old.is_shut_down → new ≡ old
+
+-- a part of the picture of the batch, from its first byte on, or nothing
+abbrev pub IsPartOfPicture : Bool → ℕ → List SpanRecord → List ℕ → Type 0
+IsPartOfPicture ascii width batch part =
+    (part ≡ [])
+    ⊎ ((text : List ℕ) × IsPictureOf ascii width batch text × (n : ℕ) × (part ≡ take n text))

@@ -5,5 +5,6 @@ pub mod Duration
 pub mod Exporter
 pub mod Line
 pub mod Name
+pub mod Picture
 pub mod Prefix
 pub mod Rows

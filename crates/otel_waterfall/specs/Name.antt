@@ -4,16 +4,25 @@ use Rattle.std.specs.Prelude.{Bool, true, false, ◌&&◌, ◌||◌, List, [], �
 use Rattle.std.specs.Prelude.{chars, if◌then◌else◌}
 use Rattle.std.specs.List.{sum_by}
 use Rattle.std.specs.Option.{unwrap_or}
+use Rattle.ucd_category.specs.GeneralCategory.{general_category, general_category_eq}
+use Rattle.ucd_category.specs.declared.GeneralCategory.{GeneralCategory}
+use Rattle.ucd_category.specs.declared.GeneralCategory.TheVariants.{Control, Format}
+use Rattle.ucd_category.specs.declared.GeneralCategory.TheVariants.{LineSeparator}
+use Rattle.ucd_category.specs.declared.GeneralCategory.TheVariants.{ParagraphSeparator}
+use Rattle.ucd_category.proofs.Computing.{ucd_category}
 use Rattle.unicode_width.specs.Width.{char_width}
 use Rattle.unicode_width.proofs.Computing.{unicode_width}
 
--- whether a character can control a terminal: U+0000 to U+001F and U+007F to U+009F
-abbrev pub is_control : ℕ → Bool
-is_control c = nat_lt c 32 || (nat_le 127 c && nat_le c 159)
+-- whether characters of this category can steer a terminal: control and format characters, such as
+-- an escape or a change of direction, and separators of lines and paragraphs
+abbrev pub steers : GeneralCategory → Bool
+steers category =
+    general_category_eq category Control || general_category_eq category Format
+    || general_category_eq category LineSeparator || general_category_eq category ParagraphSeparator
 
--- a character as it is shown: ? if it can control a terminal or, in ASCII, is above U+007E
+-- a character as it is shown: ? if it can steer a terminal or, in ASCII, is above U+007E
 abbrev pub shown : Bool → ℕ → ℕ
-shown ascii c = if is_control c || (ascii && nat_lt 126 c) then 63 else c
+shown ascii c = if steers (general_category c) || (ascii && nat_lt 126 c) then 63 else c
 
 -- the columns of a character, as the library unicode_width counts them: 2 for a wide one, 0 for a
 -- combining mark
@@ -47,7 +56,13 @@ shown_name ascii name = map (shown ascii) (chars name)
 
 -- ---- worked rows
 escape_is_shown : map (shown false) (27 ∷ codes "[31m") ≡ codes "?[31m"
+unfolding ucd_category
 escape_is_shown = refl
+
+-- U+202E, which turns the direction, U+200B, U+2028 and U+2029
+format_is_shown : map (shown false) (0x202E ∷ 0x200B ∷ 0x2028 ∷ 0x2029 ∷ codes "a") ≡ codes "????a"
+unfolding ucd_category
+format_is_shown = refl
 
 a_name_is_cut : fitted true 4 (codes "abcde") ≡ codes "abc~"
 unfolding char_width

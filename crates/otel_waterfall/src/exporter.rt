@@ -1,8 +1,11 @@
 //! The exporter.
-ghost use Rattle.std.specs.Prelude.{◌≡◌, [], false, true, IsTrue, IsOk, IsErrOf, OnOk, OnErr};
-ghost use Rattle.std.specs.Prelude.{◌∷◌, ◌++◌, length};
-ghost use Rattle.std.specs.Io.KnownBytes.{Appends};
+ghost use Rattle.std.specs.Prelude.{◌≡◌, ℕ, List, [], ◌∷◌, ◌++◌, take, false, true};
+ghost use Rattle.std.specs.Prelude.{IsTrue, IsErrOf, IfOk, OnOk, OnErr, alloc_error};
+ghost use Rattle.std.specs.Io.KnownBytes.{Appends, Keeps};
+ghost use Rattle.std.specs.String.{string_bytes};
 ghost use Rattle.otel_waterfall.specs.Columns.{picture_width};
+ghost use Rattle.otel_waterfall.specs.Exporter.{RefusesIfShutDown, IsPartOfPicture};
+ghost use Rattle.otel_waterfall.specs.Picture.{IsPictureOf};
 
 use crate::columns::Style;
 use crate::drawn::drawn;
@@ -11,7 +14,7 @@ use otel_sdk_base::error::{OTelSdkError, OTelSdkResult};
 use otel_sdk_base::resource::Resource;
 use otel_sdk_base::{Accepted, Exporter};
 use otel_sdk_span::SpanData;
-use std::alloc::Global;
+use std::alloc::{AllocError, Global};
 use std::io::{ErrorKind, Write};
 use std::marker::Model;
 use std::rc::Rc;
@@ -93,7 +96,10 @@ impl<W> WaterfallExporter<W> {
 
 /// Writes all bytes. Returns whether the writer accepted them.
 fn write_all<W: Write>(output: &mut W, bytes: &[u8]) -> bool
-    ensures { IsTrue result → Appends (W.contents output.old) (W.contents output.new) bytes.now }
+    ensures all { IsTrue result
+        → Appends (W.contents output.old) (W.contents output.new) bytes.now }
+    ensures cut { (n : ℕ) × Appends (W.contents output.old) (W.contents output.new)
+        (take n bytes.now) }
 {
     let mut rest = bytes;
     for _ in 0..u64::MAX {
@@ -113,12 +119,65 @@ fn write_all<W: Write>(output: &mut W, bytes: &[u8]) -> bool
     false
 }
 
+/// Returns the picture of a batch of spans.
+fn picture_of(alloc: Global, style: Style, batch: &[SpanData]) -> Result<String, AllocError>
+    ensures { IfOk result (λ text.
+        IsPictureOf style.is_ascii style.width batch.now (string_bytes text)) }
+{
+    let spans = drawn(alloc, style.is_ascii, batch)?;
+    picture(alloc, style, spans.as_slice())
+}
+
+/// Writes the picture of a batch of spans.
+fn write_picture<W: Write>(
+    alloc: Global,
+    style: Style,
+    output: &mut W,
+    batch: &[SpanData],
+) -> OTelSdkResult
+    ensures whole { OnOk result ((text : List ℕ)
+        × IsPictureOf style.is_ascii style.width batch.now text
+        × Appends (W.contents output.old) (W.contents output.new) text) }
+    ensures cut { OnErr result ((part : List ℕ)
+        × IsPartOfPicture style.is_ascii style.width batch.now part
+        × Appends (W.contents output.old) (W.contents output.new) part) }
+    ensures memory { IsErrOf result (OTelSdkError.Memory alloc_error)
+        → output.new ≡ output.old }
+    ensures open { IsErrOf result OTelSdkError.AlreadyShutdown → ⊥ }
+{
+    let text = picture_of(alloc, style, batch)?;
+    let message = String::from_str(alloc, "the writer failed")?;
+    if !write_all(output, text.as_bytes()) {
+        return Err(OTelSdkError::InternalFailure(message));
+    }
+    Ok(())
+}
+
+/// Flushes the writer.
+///
+/// # Errors
+///
+/// `InternalFailure` if the writer failed, or `Memory` if it failed and memory ran out too.
+fn flush<W: Write>(alloc: Global, output: &mut W) -> OTelSdkResult
+    ensures bytes { Keeps (W.contents output.old) (W.contents output.new) }
+    ensures open { IsErrOf result OTelSdkError.AlreadyShutdown → ⊥ }
+{
+    if output.flush().is_ok() {
+        return Ok(());
+    }
+    let message = String::from_str(alloc, "the writer failed")?;
+    Err(OTelSdkError::InternalFailure(message))
+}
+
 impl<W: Write + Drop> Exporter<SpanData> for WaterfallExporter<W> {
     ghost use Rattle.std.specs.Prelude.{◌≡◌, true};
 
     ghost accepted = { λ e. e.accepted };
 
-    ghost shuts_down = { λ old left. left ≡ record old { is_shut_down = true } };
+    ghost shuts_down = { λ old left. left ≡ record old {
+      output = left.output;
+      is_shut_down = true;
+    } };
 
     /// Draws the batch, and writes the picture. An empty batch is accepted, and nothing is written.
     ///
@@ -130,42 +189,68 @@ impl<W: Write + Drop> Exporter<SpanData> for WaterfallExporter<W> {
     fn export(&mut self, batch: &[SpanData]) -> OTelSdkResult
         ensures ok { OnOk result (self.new.accepted ≡ self.old.accepted ++ batch.now ∷ []) }
         ensures err { OnErr result (self.new.accepted ≡ self.old.accepted) }
-        ensures closed { IsTrue self.old.is_shut_down
-            → IsErrOf result OTelSdkError.AlreadyShutdown }
+        ensures refused { RefusesIfShutDown result self.old self.new }
+        ensures memory { IsErrOf result (OTelSdkError.Memory alloc_error)
+            → self.new ≡ self.old }
+        ensures picture { OnOk result ((text : List ℕ)
+            × IsPictureOf self.old.is_ascii self.old.width batch.now text
+            × Appends (W.contents self.old.output) (W.contents self.new.output) text) }
+        ensures cut { OnErr result ((part : List ℕ)
+            × IsPartOfPicture self.old.is_ascii self.old.width batch.now part
+            × Appends (W.contents self.old.output) (W.contents self.new.output) part) }
         ensures nothing { batch.now ≡ [] → OnOk result
             (Appends (W.contents self.old.output) (W.contents self.new.output) []) }
-        ensures width { self.new.width ≡ self.old.width }
-        ensures ascii { self.new.is_ascii ≡ self.old.is_ascii }
-        ensures open { self.new.is_shut_down ≡ self.old.is_shut_down }
+        ensures rest { self.new ≡ record self.old {
+          accepted = self.new.accepted;
+          output = self.new.output;
+        } }
     {
         if self.is_shut_down {
             return Err(OTelSdkError::AlreadyShutdown);
         }
-        let spans = drawn(self.alloc, self.style.is_ascii, batch)?;
-        let text = picture(self.alloc, self.style, spans.as_slice())?;
-        let message = String::from_str(self.alloc, "the writer failed")?;
-        if !write_all(&mut self.output, text.as_bytes()) {
-            return Err(OTelSdkError::InternalFailure(message));
-        }
+        write_picture(self.alloc, self.style, &mut self.output, batch)?;
         self.accepted = self.accepted.and(batch);
         Ok(())
     }
 
-    /// Does nothing, because pictures are written at once.
+    /// Flushes the writer.
+    ///
+    /// # Errors
+    ///
+    /// - `AlreadyShutdown` after [`Exporter::shutdown`].
+    /// - `InternalFailure` if the writer failed.
+    /// - `Memory` if the writer failed and memory ran out too.
     fn force_flush(&mut self) -> OTelSdkResult
-        ensures ok { IsOk result }
-        ensures same { self.new ≡ self.old }
+        ensures refused { RefusesIfShutDown result self.old self.new }
+        ensures bytes { Keeps (W.contents self.old.output) (W.contents self.new.output) }
+        ensures rest { self.new ≡ record self.old { output = self.new.output } }
     {
-        Ok(())
+        if self.is_shut_down {
+            return Err(OTelSdkError::AlreadyShutdown);
+        }
+        flush(self.alloc, &mut self.output)
     }
 
-    /// Refuses every later batch.
+    /// Flushes the writer, and refuses every later call.
+    ///
+    /// # Errors
+    ///
+    /// - `AlreadyShutdown` on a second call.
+    /// - `InternalFailure` if the writer failed.
+    /// - `Memory` if the writer failed and memory ran out too.
     fn shutdown(&mut self) -> OTelSdkResult
-        ensures ok { IsOk result }
-        ensures closed { self.new ≡ record self.old { is_shut_down = true } }
+        ensures refused { RefusesIfShutDown result self.old self.new }
+        ensures bytes { Keeps (W.contents self.old.output) (W.contents self.new.output) }
+        ensures down { self.new ≡ record self.old {
+          output = self.new.output;
+          is_shut_down = true;
+        } }
     {
+        if self.is_shut_down {
+            return Err(OTelSdkError::AlreadyShutdown);
+        }
         self.is_shut_down = true;
-        Ok(())
+        flush(self.alloc, &mut self.output)
     }
 
     /// Does nothing: a picture doesn't show resources.

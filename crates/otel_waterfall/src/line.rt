@@ -1,8 +1,11 @@
 //! The lines of a picture.
-ghost use Rattle.std.specs.Prelude.{◌≡◌, ◌++◌, IfOk, OnOk, chars, replicate};
-ghost use Rattle.otel_waterfall.specs.Columns.{name_width};
-ghost use Rattle.otel_waterfall.specs.Name.{columns_of};
+ghost use Rattle.std.specs.Prelude.{◌≡◌, ◌++◌, IfOk, OnOk, chars, replicate, take};
+ghost use Rattle.otel_waterfall.specs.Columns.{name_width, bar_width};
+ghost use Rattle.otel_waterfall.specs.Drawn.{look};
 ghost use Rattle.otel_waterfall.specs.Line as spec;
+ghost use Rattle.otel_waterfall.specs.Name.{columns_of};
+ghost use Rattle.otel_waterfall.specs.Picture.{without_last_spaces, duration_column};
+ghost use Rattle.otel_waterfall.specs.Picture as picture;
 
 use crate::bar::Scale;
 use crate::columns::Style;
@@ -68,11 +71,27 @@ fn outcome_text(outcome: Outcome) -> &'static str
     }
 }
 
-/// Removes the spaces at the end.
-fn trim_end(line: &mut Vec<char>) {
-    while line.last() == Some(&' ') {
-        line.pop();
+/// Returns the number of characters up to the last one that isn't a space.
+#[tactic(auto, using(crate::proofs::Lines::kept_other, crate::proofs::Lines::kept_space))]
+fn len_without_last_spaces(line: &[char]) -> usize
+    ensures { take result line.now ≡ without_last_spaces line.now }
+{
+    let mut kept = 0;
+    for (place, c) in line.iter().enumerate() {
+        if *c != ' ' {
+            kept = place + 1;
+        }
     }
+    kept
+}
+
+/// Appends a duration in nine columns, with a space on either side.
+fn push_duration(line: &mut Vec<char>, duration: &str) -> Result<(), AllocError>
+    ensures { OnOk result (line.new.items ≡ line.old.items ++ duration_column duration.now) }
+{
+    push_spaces(line, 1 + DURATION_WIDTH.saturating_sub(duration.len()))?;
+    push_text(line, duration)?;
+    push_spaces(line, 1)
 }
 
 /// Returns the line of a span.
@@ -86,12 +105,15 @@ pub(crate) fn span_line(
     scale: Scale,
     span: &Span,
     follows: &[bool],
-) -> Result<Vec<char>, AllocError> {
+) -> Result<Vec<char>, AllocError>
+    requires { scale.cells ≡ bar_width style.width }
+    ensures { IfOk result (λ line. line.items
+        ≡ picture.span_line style.is_ascii style.width scale.from scale.to (look span.now)
+        follows.now) }
+{
     let mut line = name_column(alloc, style, &span.name, follows)?;
     let duration = duration_text(alloc, span.start, span.end)?;
-    push_spaces(&mut line, 1 + DURATION_WIDTH.saturating_sub(duration.len()))?;
-    push_text(&mut line, duration.as_str())?;
-    line.push(' ')?;
+    push_duration(&mut line, duration.as_str())?;
     let bar = scale.bar(
         alloc,
         style.is_ascii,
@@ -100,9 +122,10 @@ pub(crate) fn span_line(
         span.moments.as_slice(),
     )?;
     line.extend_from_slice(bar.as_slice())?;
-    line.push(' ')?;
+    push_spaces(&mut line, 1)?;
     push_text(&mut line, outcome_text(span.outcome))?;
-    trim_end(&mut line);
+    let kept = len_without_last_spaces(line.as_slice());
+    line.truncate(kept);
     Ok(line)
 }
 
@@ -116,13 +139,17 @@ pub(crate) fn absent_line(
     alloc: Global,
     style: Style,
     child: &Span,
-) -> Result<Vec<char>, AllocError> {
+) -> Result<Vec<char>, AllocError>
+    ensures { IfOk result (λ line. line.items
+        ≡ picture.absent_line style.is_ascii style.width (look child.now)) }
+{
     let id = child.parent_span_id;
-    let text = if child.is_parent_remote {
-        format!(in alloc; "[remote {id}]")?
+    let start = if child.is_parent_remote {
+        "[remote "
     } else {
-        format!(in alloc; "[missing {id}]")?
+        "[missing "
     };
+    let text = format!(in alloc; "{start}{id}]")?;
     let mut line = shown_name(alloc, style.is_ascii, text.as_str())?;
     fit(style.is_ascii, style.name_width(), &mut line);
     Ok(line)

@@ -3,17 +3,31 @@ ghost use Rattle.std.specs.Prelude.{◌≡◌, ◌<◌, ◌≤◌, ◌-◌, leng
 ghost use Rattle.otel_waterfall.specs.Name as spec;
 
 use std::alloc::{AllocError, Global};
+use ucd_category::GeneralCategory;
 use unicode_width::UnicodeWidthChar;
 
-/// Returns the character as it is shown: `?` if it can control a terminal or, in ASCII, if it is
+/// Returns `true` if a character of this category can steer a terminal.
+fn steers(category: GeneralCategory) -> bool
+    ensures { result ≡ spec.steers category }
+{
+    matches!(
+        category,
+        GeneralCategory::Control
+            | GeneralCategory::Format
+            | GeneralCategory::LineSeparator
+            | GeneralCategory::ParagraphSeparator
+    )
+}
+
+/// Returns the character as it is shown: `?` if it can steer a terminal or, in ASCII, if it is
 /// above U+007E.
 fn shown(is_ascii: bool, c: char) -> char
     ensures { result ≡ spec.shown is_ascii c }
 {
-    match c {
-        '\0'..='\x1f' | '\x7f'..='\u{9f}' => '?',
-        '\u{a0}'.. if is_ascii => '?',
-        _ => c,
+    if steers(GeneralCategory::for_char(c)) || (is_ascii && c > '~') {
+        '?'
+    } else {
+        c
     }
 }
 

@@ -1,6 +1,10 @@
 //! The picture of a batch.
-ghost use Rattle.std.specs.Prelude.{◌≡◌, [], length, IfOk};
+ghost use Rattle.std.specs.Prelude.{◌≡◌, ◌==◌, ℕ, [], ◌++◌, List, length, map, OnOk, IfOk};
+ghost use Rattle.std.specs.List.{list_any};
 ghost use Rattle.std.specs.String.{string_bytes};
+ghost use Rattle.otel_waterfall.specs.Columns.{bar_width};
+ghost use Rattle.otel_waterfall.specs.Drawn.{look};
+ghost use Rattle.otel_waterfall.specs.Picture as spec;
 
 use crate::bar::Scale;
 use crate::columns::Style;
@@ -12,7 +16,11 @@ use otel_ids::TraceId;
 use std::alloc::{AllocError, Global};
 
 /// Appends a line.
-fn push_line(text: &mut String, line: &[char]) -> Result<(), AllocError> {
+#[tactic(auto, using(crate::proofs::Lines::line_more))]
+fn push_line(text: &mut String, line: &[char]) -> Result<(), AllocError>
+    ensures { OnOk result
+        (string_bytes text.new ≡ string_bytes text.old ++ spec.line_text line.now) }
+{
     for c in line {
         text.push(*c)?;
     }
@@ -28,7 +36,12 @@ struct Extent {
 }
 
 /// Returns the extent of a trace of the batch.
-fn extent_of(batch: &[Span], trace: TraceId) -> Extent {
+#[tactic(auto, using(crate::proofs::Traces::extents))]
+fn extent_of(batch: &[Span], trace: TraceId) -> Extent
+    ensures count { result.count ≡ length (spec.spans_of trace (map look batch.now)) }
+    ensures from { result.from ≡ spec.least_start (spec.spans_of trace (map look batch.now)) }
+    ensures to { result.to ≡ spec.greatest_end (spec.spans_of trace (map look batch.now)) }
+{
     let mut extent = Extent {
         count: 0,
         from: u64::MAX,
@@ -44,26 +57,98 @@ fn extent_of(batch: &[Span], trace: TraceId) -> Extent {
     extent
 }
 
+/// Returns the word for this number of spans.
+fn spans_word(count: usize) -> &'static str
+    ensures { result.now ≡ spec.spans_word count }
+{
+    if count == 1 { "span" } else { "spans" }
+}
+
 /// Appends the first line of a trace.
 fn push_head(
     alloc: Global,
     text: &mut String,
     trace: TraceId,
     extent: Extent,
-) -> Result<(), AllocError> {
+) -> Result<(), AllocError>
+    ensures { OnOk result (string_bytes text.new
+        ≡ string_bytes text.old ++ spec.head_text trace extent.from extent.to extent.count) }
+{
     let duration = duration_text(alloc, extent.from, extent.to)?;
     let duration = duration.as_str();
     let count = extent.count;
-    let spans = if count == 1 { "span" } else { "spans" };
+    let spans = spans_word(count);
     let head = format!(in alloc; "trace {trace} {duration} {count} {spans}\n")?;
     text.push_str(head.as_str())
 }
 
 /// Moves to a row at the depth. Keeps the flags of the rows above it, and adds `own`.
-fn go_to(follows: &mut Vec<bool>, depth: usize, own: bool) -> Result<(), AllocError> {
+fn go_to(follows: &mut Vec<bool>, depth: usize, own: bool) -> Result<(), AllocError>
+    ensures { OnOk result (follows.new.items ≡ spec.moved_to depth own follows.old.items) }
+{
     follows.truncate(depth.saturating_sub(1));
     if depth > 0 {
         follows.push(own)?;
+    }
+    Ok(())
+}
+
+/// Moves to a row, and appends its line.
+#[tactic(auto, using(crate::proofs::Traces::row_of_some, crate::proofs::Traces::row_of_none))]
+fn push_row(
+    alloc: Global,
+    style: Style,
+    scale: Scale,
+    text: &mut String,
+    batch: &[Span],
+    row: Row,
+    follows: &mut Vec<bool>,
+) -> Result<(), AllocError>
+    requires { scale.cells ≡ bar_width style.width }
+    ensures moved { OnOk result (follows.new.items ≡ spec.follows_at follows.old.items row) }
+    ensures text { OnOk result (string_bytes text.new ≡ string_bytes text.old
+        ++ spec.row_text style.is_ascii style.width scale.from scale.to (map look batch.now)
+        follows.new.items row) }
+{
+    match row {
+        Row::Span {
+            place,
+            depth,
+            follows: own,
+        } => {
+            go_to(follows, depth, own)?;
+            if let Some(span) = batch.get(place) {
+                let line = span_line(alloc, style, scale, span, follows.as_slice())?;
+                push_line(text, line.as_slice())?;
+            }
+        }
+        Row::Absent { child } => {
+            if let Some(child) = batch.get(child) {
+                let line = absent_line(alloc, style, child)?;
+                push_line(text, line.as_slice())?;
+            }
+        }
+    }
+    Ok(())
+}
+
+/// Appends the lines of the rows of a trace.
+fn push_rows(
+    alloc: Global,
+    style: Style,
+    scale: Scale,
+    text: &mut String,
+    batch: &[Span],
+    rows: &[Row],
+) -> Result<(), AllocError>
+    requires { scale.cells ≡ bar_width style.width }
+    ensures { OnOk result (string_bytes text.new ≡ string_bytes text.old
+        ++ spec.rows_text style.is_ascii style.width scale.from scale.to (map look batch.now) []
+        rows.now) }
+{
+    let mut follows = Vec::new(alloc);
+    for row in rows {
+        push_row(alloc, style, scale, text, batch, *row, &mut follows)?;
     }
     Ok(())
 }
@@ -75,7 +160,10 @@ fn push_trace(
     text: &mut String,
     batch: &[Span],
     trace: TraceId,
-) -> Result<(), AllocError> {
+) -> Result<(), AllocError>
+    ensures { OnOk result (spec.AddsTrace style.is_ascii style.width (map look batch.now) trace
+        (string_bytes text.old) (string_bytes text.new)) }
+{
     let extent = extent_of(batch, trace);
     push_head(alloc, text, trace, extent)?;
     let scale = Scale {
@@ -83,29 +171,47 @@ fn push_trace(
         from: extent.from,
         to: extent.to.max(extent.from),
     };
-    let mut follows = Vec::new(alloc);
-    for row in rows_of(alloc, batch, trace)? {
-        match row {
-            Row::Span {
-                place,
-                depth,
-                follows: own,
-            } => {
-                go_to(&mut follows, depth, own)?;
-                if let Some(span) = batch.get(place) {
-                    let line = span_line(alloc, style, scale, span, follows.as_slice())?;
-                    push_line(text, line.as_slice())?;
-                }
-            }
-            Row::Absent { child } => {
-                if let Some(child) = batch.get(child) {
-                    let line = absent_line(alloc, style, child)?;
-                    push_line(text, line.as_slice())?;
-                }
-            }
-        }
+    let rows = rows_of(alloc, batch, trace)?;
+    push_rows(alloc, style, scale, text, batch, rows.as_slice())
+}
+
+/// Appends an empty line, unless the text is empty.
+fn push_gap(text: &mut String) -> Result<(), AllocError>
+    ensures { OnOk result (string_bytes text.new ≡ spec.with_gap (string_bytes text.old)) }
+{
+    if !text.is_empty() {
+        text.push('\n')?;
     }
     Ok(())
+}
+
+/// Returns `true` if one of the spans belongs to the trace.
+fn appears(trace: TraceId, spans: &[Span]) -> bool
+    ensures { result ≡ list_any (λ span. span.trace_id == trace) spans.now }
+{
+    spans.iter().any(|span| span.trace_id == trace)
+}
+
+/// Appends the picture of a trace after an empty line, unless a span of `before` belongs to it.
+fn add_trace(
+    alloc: Global,
+    style: Style,
+    text: &mut String,
+    batch: &[Span],
+    before: &[Span],
+    trace: TraceId,
+) -> Result<(), AllocError>
+    ensures { (traces : List ℕ) → OnOk result
+        (spec.ArePictures style.is_ascii style.width (map look batch.now) traces
+        (string_bytes text.old)
+        → spec.ArePictures style.is_ascii style.width (map look batch.now)
+        (traces ++ spec.new_trace (map look before.now) trace) (string_bytes text.new)) }
+{
+    if appears(trace, before) {
+        return Ok(());
+    }
+    push_gap(text)?;
+    push_trace(alloc, style, text, batch, trace)
 }
 
 /// Returns the picture of a batch: its traces in the order in which they first appear, separated by
@@ -115,20 +221,19 @@ fn push_trace(
 ///
 /// Returns an error if out of memory.
 pub(crate) fn picture(alloc: Global, style: Style, batch: &[Span]) -> Result<String, AllocError>
-    ensures { length batch.now ≡ 0 → IfOk result (λ text. string_bytes text ≡ []) }
+    ensures { IfOk result (λ text. spec.IsPicture style.is_ascii style.width
+        (map look batch.now) (string_bytes text)) }
 {
     let mut text = String::new(alloc);
     for (place, span) in batch.iter().enumerate() {
-        let trace = span.trace_id;
-        let is_known = batch[..place]
-            .iter()
-            .any(|earlier| earlier.trace_id == trace);
-        if !is_known {
-            if place > 0 {
-                text.push('\n')?;
-            }
-            push_trace(alloc, style, &mut text, batch, trace)?;
-        }
+        add_trace(
+            alloc,
+            style,
+            &mut text,
+            batch,
+            &batch[..place],
+            span.trace_id,
+        )?;
     }
     Ok(text)
 }

@@ -6,6 +6,7 @@
 mod batches;
 mod failures;
 mod files;
+mod flushes;
 mod lines;
 mod log_files;
 mod log_lines;

@@ -5,5 +5,7 @@
 // Depends on: otel_sdk test_support
 
 mod durations;
+mod flushes;
+mod names;
 mod pictures;
 mod refusals;

@@ -1,0 +1,93 @@
+//! Flushes of the writer, which no clause can count.
+use crate::pictures::span;
+use otel_sdk::error::OTelSdkError;
+use otel_sdk::trace::Exporter;
+use otel_waterfall::WaterfallExporter;
+use std::io::{self, BufWriter, ErrorKind, Write};
+use std::test::Fail;
+
+/// A writer that takes all bytes. It counts its flushes, and the first `failures` of them fail.
+#[derive(Drop)]
+struct Counting {
+    flushes: usize,
+    failures: usize,
+}
+
+impl Write for Counting {
+    fn write(&mut self, buf: &[u8]) -> io::Result<usize> {
+        Ok(buf.len())
+    }
+
+    fn flush(&mut self) -> io::Result<()> {
+        self.flushes = self.flushes.saturating_add(1);
+        if self.flushes <= self.failures {
+            return Err(ErrorKind::Other.into());
+        }
+        Ok(())
+    }
+}
+
+/// A disk without room.
+#[derive(Drop)]
+struct Full;
+
+impl Write for Full {
+    fn write(&mut self, _buf: &[u8]) -> io::Result<usize> {
+        Err(ErrorKind::StorageFull.into())
+    }
+
+    fn flush(&mut self) -> io::Result<()> {
+        Ok(())
+    }
+}
+
+#[test]
+fn each_call_flushes_once(rt: HostRuntime) -> Result<(), Fail> {
+    let alloc = rt.alloc();
+    let writer = Counting {
+        flushes: 0,
+        failures: 0,
+    };
+    let mut exporter = WaterfallExporter::new(alloc, writer);
+    assert!(rt; exporter.force_flush().is_ok());
+    assert_eq!(rt; exporter.output().flushes, 1);
+    assert!(rt; exporter.shutdown().is_ok());
+    assert_eq!(rt; exporter.output().flushes, 2);
+    let answer = exporter.force_flush();
+    assert!(rt; matches!(answer, Err(OTelSdkError::AlreadyShutdown)));
+    let answer = exporter.shutdown();
+    assert!(rt; matches!(answer, Err(OTelSdkError::AlreadyShutdown)));
+    assert_eq!(rt; exporter.output().flushes, 2);
+    Ok(())
+}
+
+#[test]
+fn a_failed_flush_is_returned(rt: HostRuntime) -> Result<(), Fail> {
+    let alloc = rt.alloc();
+    let writer = Counting {
+        flushes: 0,
+        failures: 2,
+    };
+    let mut exporter = WaterfallExporter::new(alloc, writer);
+    let answer = exporter.force_flush();
+    assert!(rt; matches!(answer, Err(OTelSdkError::InternalFailure(_))));
+    let answer = exporter.shutdown();
+    assert!(rt; matches!(answer, Err(OTelSdkError::InternalFailure(_))));
+    let batch = [span(alloc, 7, (1, 0), "a", 5, 5)?];
+    let answer = exporter.export(&batch);
+    assert!(rt; matches!(answer, Err(OTelSdkError::AlreadyShutdown)));
+    Ok(())
+}
+
+#[test]
+fn a_full_disk_behind_a_buffer(rt: HostRuntime) -> Result<(), Fail> {
+    let alloc = rt.alloc();
+    let mut exporter = WaterfallExporter::new(alloc, BufWriter::new(alloc, Full)?);
+    let batch = [span(alloc, 7, (1, 0), "a", 5, 5)?];
+    assert!(rt; exporter.export(&batch).is_ok());
+    let answer = exporter.force_flush();
+    assert!(rt; matches!(answer, Err(OTelSdkError::InternalFailure(_))));
+    let answer = exporter.shutdown();
+    assert!(rt; matches!(answer, Err(OTelSdkError::InternalFailure(_))));
+    Ok(())
+}
