@@ -24,7 +24,7 @@ use Rattle.otel_propagators.specs.BaggagePropagator.{baggage_key, members, bagga
 use Rattle.otel_propagators.proofs.Injecting.{state_read, valid_passes}
 use Rattle.otel_propagators.proofs.Parents.{parent_reads, parent_of_reads}
 use Rattle.otel_propagators.proofs.PieceReads.{baggage_reads}
-use Rattle.otel_propagators.specs.Laws.{IsSpanContext, IsContext, BothExtract, IsOther, ArePairsOfBoth, AreSet, CompositeSets, received_span, ComesBack, ComesBackInTurn, ComesBackTogether}
+use Rattle.otel_propagators.specs.Laws.{IsSpanContext, IsContext, BothExtract, IsOther, ArePairsOfBoth, AreSet, CompositeSets, ComesBackByW3c, received_span, ComesBack, ComesBackInTurn, ComesBackTogether}
 
 -- ---- the texts that are set
 
@@ -210,14 +210,22 @@ together context given back old new i set = comes_back context given old new i s
 no_others : All IsOther []
 no_others = All-nil IsOther
 
+-- the trace context propagator sets its pairs, and then the one of the baggage
+trace_first : (context : ContextRecord) (old new : TextMap) → Sets old (trace_pairs context ++ baggage_pairs context) new → AreSet context old new
+trace_first context old new =
+    composite_sets context (trace_pairs context ++ baggage_pairs context) old new
+    (record { before = []; one = trace_pairs context; between = []; other = baggage_pairs context; after = []; all = refl; both = inl (refl, refl); others = (no_others, no_others, no_others) })
+
+pub by_w3c : ComesBackByW3c
+by_w3c context given back old new i s e = together context given back old new i (trace_first context old new s) (inl e)
+
 pub in_turn : ComesBackInTurn
 in_turn context given back old new i there = together context given back old new i (by there.sets)
   where
     by : (Sets old (trace_pairs context) there.between × Sets there.between (baggage_pairs context) new) ⊎ (Sets old (baggage_pairs context) there.between × Sets there.between (trace_pairs context) new)
         → AreSet context old new
     by (inl s) =
-        composite_sets context (trace_pairs context ++ baggage_pairs context) old new
-        (record { before = []; one = trace_pairs context; between = []; other = baggage_pairs context; after = []; all = refl; both = inl (refl, refl); others = (no_others, no_others, no_others) })
+        trace_first context old new
         (sets_more old there.between new (trace_pairs context) (baggage_pairs context) s.0 s.1)
     by (inr s) =
         composite_sets context (baggage_pairs context ++ trace_pairs context) old new

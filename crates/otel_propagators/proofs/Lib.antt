@@ -1,4 +1,5 @@
 pub mod Injecting
+pub mod Both
 pub mod Numbering
 pub mod Parents
 pub mod EscapedValues

@@ -15,6 +15,7 @@ use Rattle.otel_propagators.specs.BaggagePropagator.{baggage_extracted}
 use Rattle.otel_propagators.specs.TraceContext.{traceparent_key, tracestate_key, parent, is_valid}
 use Rattle.otel_propagators.specs.TraceContext.{trace_pairs, trace_extracted}
 use Rattle.otel_propagators.specs.TraceParent.{parent_text}
+use Rattle.otel_propagators.specs.W3cPropagator.{w3c_pairs, w3c_extracted}
 
 -- ---- the properties of every context
 
@@ -123,3 +124,9 @@ ComesBackTogether = (context given back : ContextRecord) (old new : TextMap) →
 abbrev pub CompositeSets : Type 0
 CompositeSets = (context : ContextRecord) (pairs : Pairs) (old new : TextMap)
     → ArePairsOfBoth context pairs → Sets old pairs new → AreSet context old new
+
+-- a context that a `W3cPropagator` injects is restored if a `W3cPropagator` extracts it
+abbrev pub ComesBackByW3c : Type 0
+ComesBackByW3c = (context given back : ContextRecord) (old new : TextMap) → IsContext context
+    → Sets old (w3c_pairs context) new → back ≡ w3c_extracted given new
+    → ComesBack context old given back

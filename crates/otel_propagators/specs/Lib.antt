@@ -4,4 +4,5 @@ pub mod TraceParent
 pub mod BaggageReading
 pub mod BaggagePieces
 pub mod BaggagePropagator
+pub mod W3cPropagator
 pub mod Laws

@@ -12,7 +12,7 @@ use opentelemetry::propagation::{Extractor, Injector, PropagationError, TextMapP
 use std::alloc::{AllocError, Global};
 
 /// The name of the header (W3C baggage, "Header Name").
-const BAGGAGE_HEADER: &str = "baggage";
+pub(crate) const BAGGAGE_HEADER: &str = "baggage";
 
 /// Propagates a context's baggage from one process to another, in the header `baggage` (W3C
 /// baggage; `BaggagePropagator` of the Rust crate `opentelemetry_sdk`).

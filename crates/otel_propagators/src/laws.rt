@@ -1,7 +1,7 @@
 //! Laws of the headers. Each function does nothing: its contract is the law. Not in the Rust crate.
 ghost use Rattle.otel_propagators.specs.BaggageReading.{BaggageReads, ReadsBaggage};
 ghost use Rattle.otel_propagators.specs.Laws.{ComesBackInTurn, ComesBackTogether, CompositeSets};
-ghost use Rattle.otel_propagators.specs.Laws.{IsContext};
+ghost use Rattle.otel_propagators.specs.Laws.{ComesBackByW3c, IsContext};
 ghost use Rattle.otel_propagators.specs.TraceParent.{OneParent, ParentLength, ParentReads};
 ghost use Rattle.otel_propagators.specs.TraceParent.{ParentsAgree};
 
@@ -23,6 +23,8 @@ pub fn headers_there_and_back()
     ensures together { ComesBackTogether }
     // A composite of both, possibly with members of other keys, sets the three keys so.
     ensures composite { CompositeSets }
+    // One `W3cPropagator` injects, and one extracts.
+    ensures w3c { ComesBackByW3c }
 {}
 
 /// States the properties of every context: its span context has ids of 128 and of 64 bits, flags of

@@ -4,6 +4,8 @@
 pub mod baggage;
 pub mod laws;
 pub mod trace_context;
+pub mod w3c;
 
 pub use baggage::BaggagePropagator;
 pub use trace_context::TraceContextPropagator;
+pub use w3c::W3cPropagator;

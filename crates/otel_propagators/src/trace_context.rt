@@ -14,9 +14,9 @@ use std::alloc::{AllocError, Global};
 mod digits;
 mod traceparent;
 
-const TRACEPARENT: &str = "traceparent";
+pub(crate) const TRACEPARENT: &str = "traceparent";
 
-const TRACESTATE: &str = "tracestate";
+pub(crate) const TRACESTATE: &str = "tracestate";
 
 /// Propagates the span context of a context from one process to another, in the headers
 /// `traceparent` and `tracestate` (W3C trace-context-2; `TraceContextPropagator` of the Rust crate
@@ -79,7 +79,6 @@ fn read_state(alloc: Global, value: Option<&str>) -> Result<TraceState, AllocErr
 /// Extracts a copy of the given context with the remote span context of the two values, or a copy
 /// of the given context if `traceparent` is absent, doesn't have this form between blanks, or has
 /// an id that is 0. If `tracestate` is absent or can't be read, the trace state is empty. Never
-/// refuses.
 /// refuses.
 impl TextMapPropagator for TraceContextPropagator {
     ghost use Rattle.std.specs.Prelude.{false};

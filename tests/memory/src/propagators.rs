@@ -1,7 +1,7 @@
 //! Carriers, propagators and composites of them.
-mod carriers;
+pub mod carriers;
 mod composites;
-mod headers;
+pub mod headers;
 mod http;
 mod runs;
 

@@ -4,7 +4,7 @@ use opentelemetry::baggage::{Baggage, BaggageMetadata};
 use opentelemetry::propagation::{PropagationError, TextMapCompositePropagator, TextMapPropagator};
 use opentelemetry::trace::{SpanContext, SpanId, TraceFlags, TraceId, TraceState};
 use opentelemetry::{Context, Key, StringValue};
-use otel_propagators::{BaggagePropagator, TraceContextPropagator};
+use otel_propagators::{BaggagePropagator, TraceContextPropagator, W3cPropagator};
 use std::alloc::{AllocError, Global};
 use std::collections::HashMap;
 use std::process::Abort;
@@ -310,4 +310,29 @@ fn an_older_traceparent_stays_without_a_valid_span(rt: HostRuntime) -> Result<()
     }
     let back = extract(alloc, Way::InTurn, false, &carrier)?;
     assert_comes_back(&rt, alloc, &back, older)
+}
+
+#[test]
+fn one_propagator_carries_all_headers_there_and_back(rt: HostRuntime) -> Result<(), Fail> {
+    let alloc = rt.alloc();
+    let propagator = W3cPropagator::new(alloc)?;
+    for row in ROWS {
+        let mut carrier = HashMap::new(alloc);
+        given(propagator.inject_context(&context_of(alloc, row)?, &mut carrier))?;
+        assert_headers(&rt, &carrier, row.headers, Way::Composite);
+        let back = given(propagator.extract_with_context(alloc, &Context::new(), &carrier))?;
+        assert_comes_back(&rt, alloc, &back, row)?;
+    }
+    Ok(())
+}
+
+#[test]
+fn one_propagator_names_all_fields(rt: HostRuntime) -> Result<(), Fail> {
+    let propagator = W3cPropagator::new(rt.alloc())?;
+    let mut fields = propagator.fields();
+    for name in ["traceparent", "tracestate", "baggage"] {
+        assert!(rt; fields.next() == Some(name));
+    }
+    assert!(rt; fields.next().is_none());
+    Ok(())
 }

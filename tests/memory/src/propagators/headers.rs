@@ -8,7 +8,7 @@ use opentelemetry::context::Context;
 use opentelemetry::propagation::TextMapPropagator;
 use opentelemetry::trace::TraceState;
 use opentelemetry::{Key, StringValue};
-use otel_propagators::{BaggagePropagator, TraceContextPropagator};
+use otel_propagators::{BaggagePropagator, TraceContextPropagator, W3cPropagator};
 use std::alloc::{AllocError, Global};
 use std::collections::HashMap;
 
@@ -17,8 +17,10 @@ pub const TRACE_KEYS: [&str; 3] = ["kept", "traceparent", "tracestate"];
 
 const BAGGAGE_KEYS: [&str; 2] = ["kept", "baggage"];
 
+const ALL_KEYS: [&str; 4] = ["kept", "traceparent", "tracestate", "baggage"];
+
 /// A header of each propagator.
-const TRACE_TEXTS: [(&str, &str); 2] = [
+pub const TRACE_TEXTS: [(&str, &str); 2] = [
     (
         "traceparent",
         "00-00000000000000000000000000000001-0000000000000002-01",
@@ -42,6 +44,7 @@ pub fn play<R: Print>(alloc: Global, lines: &Lines<'_, R>) {
         lines.end(extract_trace(alloc, lines));
     }
     play_baggage(alloc, lines);
+    play_all(alloc, lines);
 }
 
 fn play_baggage<R: Print>(alloc: Global, lines: &Lines<'_, R>) {
@@ -56,6 +59,21 @@ fn play_baggage<R: Print>(alloc: Global, lines: &Lines<'_, R>) {
     }
     if lines.begin("baggage-propagator-extract") {
         lines.end(extract_baggage(alloc, lines));
+    }
+}
+
+fn play_all<R: Print>(alloc: Global, lines: &Lines<'_, R>) {
+    if lines.begin("w3c-propagator-new") {
+        match W3cPropagator::new(alloc) {
+            Ok(propagator) => lines.answer(&propagator.fields().count()),
+            Err(error) => lines.answer(&error),
+        }
+    }
+    if lines.begin("w3c-propagator-inject") {
+        lines.end(inject_all(alloc, lines));
+    }
+    if lines.begin("w3c-propagator-extract") {
+        lines.end(extract_all(alloc, lines));
     }
 }
 
@@ -101,7 +119,7 @@ fn inject_baggage<R: Print>(alloc: Global, lines: &Lines<'_, R>) -> Result<(), A
 }
 
 /// A carrier with these texts.
-fn carrier_of(
+pub fn carrier_of(
     alloc: Global,
     texts: &[(&str, &str)],
 ) -> Result<HashMap<String, String>, AllocError> {
@@ -138,4 +156,23 @@ fn baggage_answer<R: Print>(lines: &Lines<'_, R>, context: &Context) {
         Some(baggage) => lines.answer(&Show(baggage)),
         None => lines.answer(&"no baggage"),
     }
+}
+
+fn inject_all<R: Print>(alloc: Global, lines: &Lines<'_, R>) -> Result<(), AllocError> {
+    let propagator = W3cPropagator::new(alloc)?;
+    let context = with_pair(alloc)?.with_remote_span_context(alloc, remote(1, TraceState::NONE))?;
+    inject(alloc, lines, &propagator, &context, &ALL_KEYS)
+}
+
+fn extract_all<R: Print>(alloc: Global, lines: &Lines<'_, R>) -> Result<(), AllocError> {
+    let propagator = W3cPropagator::new(alloc)?;
+    let mut carrier = carrier_of(alloc, &TRACE_TEXTS)?;
+    let (key, value) = BAGGAGE_TEXTS[0];
+    let value = String::from_str(alloc, value)?;
+    carrier.insert(String::from_str(alloc, key)?, value)?;
+    match propagator.extract_with_context(alloc, &Context::new(), &carrier) {
+        Ok(context) => baggage_answer(lines, &context),
+        Err(error) => lines.answer(&error),
+    }
+    Ok(())
 }
