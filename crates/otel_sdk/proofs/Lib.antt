@@ -11,3 +11,4 @@ mod Rising
 mod RunLemmas
 mod Scaling
 mod Starts
+mod TracingLemmas

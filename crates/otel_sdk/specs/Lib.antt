@@ -12,3 +12,7 @@ pub mod SamplerLaws
 pub mod SpanChange
 pub mod SpanEnd
 pub mod Tracer
+pub mod Tracing
+pub mod TracingBuilder
+pub mod TracingErrors
+pub mod Work

@@ -1,7 +1,7 @@
 -- Which spans a tracer starts.
 use Rattle.std.specs.Prelude.{◌≡◌, ◌≢◌, ◌⊎◌, ℕ, ◌+◌, ◌/◌, ◌%◌, ◌==◌, List, [], ◌++◌, Bool, true, false}
 use Rattle.std.specs.Prelude.{Option, Some, None, if◌then◌else◌, refl}
-use Rattle.std.specs.Option.{unwrap_or}
+use Rattle.std.specs.Option.{option_map_or, unwrap_or}
 use Rattle.otel_base.specs.InstrumentationScope.{Scope}
 use Rattle.otel_base.specs.KeyValue.{Attribute}
 use Rattle.otel_context.specs.Context.{ContextRecord, span_context, is_telemetry_suppressed}
@@ -11,7 +11,7 @@ use Rattle.otel_context.specs.declared.span.status.Status.TheVariants.{Unset}
 use Rattle.otel_ids.specs.SpanContext.{SpanContextRecord, no_span_context}
 use Rattle.otel_ids.specs.TraceState.{Pair}
 use Rattle.opentelemetry.specs.SpanBuilder.{BuilderRecord}
-use Rattle.otel_sdk_base.specs.Resource.{Parts, with_defaults}
+use Rattle.otel_sdk_base.specs.Resource.{Parts, merge, with_defaults}
 use Rattle.otel_sdk.specs.Sampler.{Asked, Answer, has_parent}
 use Rattle.otel_sdk_span.specs.Span.{SpanState, started, unrecorded}
 use Rattle.otel_sdk_span.specs.SpanData.{SpanRecord}
@@ -210,6 +210,31 @@ pub record ProviderParts (S G : Type 0) : Type 0 where
   pub id_generator : G
   pub limits : SpanLimits
   pub resource : Option Parts
+
+-- the same parts with this sampler (`TracerProviderBuilder::with_sampler`)
+abbrev pub with_sampler : {S T G : Type 0} → T → ProviderParts S G → ProviderParts T G
+with_sampler sampler parts = record {
+  sampler = sampler;
+  id_generator = parts.id_generator;
+  limits = parts.limits;
+  resource = parts.resource;
+}
+
+-- the same parts with this generator (`TracerProviderBuilder::with_id_generator`)
+abbrev pub with_id_generator : {S G T : Type 0} → T → ProviderParts S G → ProviderParts S T
+with_id_generator id_generator parts = record {
+  sampler = parts.sampler;
+  id_generator = id_generator;
+  limits = parts.limits;
+  resource = parts.resource;
+}
+
+-- the same parts with this resource, merged into an earlier one
+-- (`TracerProviderBuilder::with_resource`)
+abbrev pub with_resource : {S G : Type 0} → Parts → ProviderParts S G → ProviderParts S G
+with_resource resource parts = record parts {
+  resource = Some (option_map_or (λ old. merge old resource) parts.resource resource);
+}
 
 module _ {S G : Type 0} where
   -- the provider's tracer for this scope

@@ -10,13 +10,15 @@ mod provider;
 mod sampler;
 mod start;
 mod tracer;
+mod tracing;
 
 pub use change::SpanChange;
 pub use id_generator::{CountedIdGenerator, IdError, IdGenerator, RandomIdGenerator};
 pub use in_memory_exporter::{FinishedSpans, InMemorySpanExporter};
-pub use live::LiveSpans;
+pub use live::{Entered, LiveSpans};
 pub use otel_sdk_base::{
-    BatchConfig, BatchConfigBuilder, Clock, Exporter, InMemoryExporter, ManualClock, SystemClock,
+    BatchConfig, BatchConfigBuilder, Clock, CountedClock, Exporter, InMemoryExporter, ManualClock,
+    SystemClock,
 };
 pub use otel_sdk_span::{SdkSpan, SpanData, SpanEvents, SpanExporter, SpanLimits, SpanLinks};
 pub use processor::batch::BatchSpanProcessor;
@@ -27,3 +29,4 @@ pub use provider::{SdkTracerProvider, TracerProviderBuilder};
 pub use sampler::parent_based::ParentBased;
 pub use sampler::{Sampler, SamplingDecision, SamplingResult, ShouldSample, laws};
 pub use tracer::{Pipeline, SdkTracer, TracerPipeline};
+pub use tracing::{Attached, NotEntered, SpanWork, Tracing, TracingBuilder};

@@ -9,8 +9,9 @@ use std::alloc::AllocError;
 /// Keeps copies of the spans that it accepts, for tests (the Rust crate's `InMemorySpanExporter`).
 ///
 /// ```
-/// let processor = SimpleSpanProcessor::new(alloc, InMemorySpanExporter::new(alloc));
 /// let spans = processor.exporter().get_finished_spans()?;
+/// assert_eq!(rt; spans.len(), 1);
+/// assert_eq!(rt; spans[0].name.as_str(), "price");
 /// ```
 pub type InMemorySpanExporter = InMemoryExporter<SpanData>;
 

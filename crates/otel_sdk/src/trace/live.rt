@@ -1,15 +1,16 @@
 //! The spans of a program until a processor collects them.
-ghost use Rattle.std.specs.Prelude.{◌≡◌, ◌≤◌, false, [], OnOk, OnErr, IfOk, IfErr, IsErr};
+ghost use Rattle.std.specs.Prelude.{◌≡◌, ◌<◌, ◌≤◌, false, [], OnOk, OnErr, IfOk, IfErr, IsErr};
 ghost use Rattle.std.specs.Prelude.{IsTrue, None, Some, option_copied};
 ghost use Rattle.std.specs.Vec.{vec_capacity};
 ghost use Rattle.otel_context.specs.Context.{with_span};
 ghost use Rattle.otel_context.specs.Spans.{get, used_up};
-ghost use Rattle.otel_context.specs.Stack.{current};
+ghost use Rattle.otel_context.specs.Stack.{attach, current, last_position, newest_position};
 ghost use Rattle.otel_context.specs.declared.span.spans.SpanCause.TheVariants.{NumbersUsedUp};
 ghost use Rattle.otel_sdk.specs.SpanChange.{change_of};
 ghost use Rattle.otel_sdk.specs.LiveState.{no_spans, with_started, with_changed, with_ended};
 ghost use Rattle.otel_sdk_base.specs.Queue.{cause};
 ghost use Rattle.otel_sdk.specs.Ended.{of, AreCollected};
+ghost use Rattle.otel_sdk.specs.Tracing.{SameSpans, context_with, next_entered};
 
 use crate::trace::change::{SpanChange, change_in, end_in};
 use crate::trace::processor::batch::BatchSpanProcessor;
@@ -51,6 +52,16 @@ impl Model for LiveSpans {
       listed : AreListed live.spans live.ended.items;
       has_room : len live.spans ≤ vec_capacity live.ended;
     } };
+}
+
+/// A span that was entered: its number, and the position of its context. Not in the Rust crate.
+///
+/// [`Tracing::enter`](crate::trace::Tracing::enter) returns it, and
+/// [`Tracing::exit`](crate::trace::Tracing::exit) takes it. It may be dropped.
+#[derive(Debug, Clone, Copy)]
+pub struct Entered {
+    pub(crate) number: u64,
+    pub(crate) position: u16,
 }
 
 /// Reserves capacity for `room` numbers in total.
@@ -149,6 +160,41 @@ impl LiveSpans {
             return Err(SpanRefused { span, cause });
         }
         stack.current_with_span(&mut self.spans, span)
+    }
+
+    /// Starts a span, and attaches a copy of the current context in which it is active.
+    ///
+    /// # Errors
+    ///
+    /// As [`LiveSpans::start`], or `Memory` if out of memory for the attach. The stack and the
+    /// spans are unchanged, and the span is dropped. At most one more number was used.
+    pub(crate) fn start_attached(
+        &mut self,
+        stack: &mut ContextStack,
+        span: SdkSpan,
+    ) -> Result<Entered, SpanCause>
+        requires { newest_position stack.old.live < last_position }
+        ensures entered { IfOk result (λ e. e ≡ next_entered self.old stack.old.live) }
+        ensures started { OnOk result (self.new ≡ with_started span self.old) }
+        ensures attached { OnOk result (stack.new.live
+            ≡ attach (context_with span self.old stack.old.live) stack.old.live) }
+        ensures same_spans { OnErr result (SameSpans self.old self.new) }
+        ensures same_stack { OnErr result (stack.new ≡ stack.old) }
+        ensures used_up { IfErr result (λ cause.
+            cause ≡ NumbersUsedUp → self.old.spans.next_number ≡ used_up) }
+    {
+        let number = self.spans.next_number();
+        let context = match self.start_in(stack, span) {
+            Ok(context) => context,
+            Err(refused) => return Err(refused.cause),
+        };
+        match stack.push(context) {
+            Ok(position) => Ok(Entered { number, position }),
+            Err(error) => {
+                drop(self.spans.take(number));
+                Err(SpanCause::Memory(error))
+            }
+        }
     }
 
     /// Changes the span with this number. Does nothing if there is no such span, if it has ended,

@@ -1,7 +1,6 @@
 //! The provider, which makes the tracers of the SDK, and its builder.
-ghost use Rattle.std.specs.Prelude.{◌≡◌, IfOk, Some, None, map};
-ghost use Rattle.std.specs.Option.{option_map_or};
-ghost use Rattle.otel_sdk_base.specs.Resource.{merge, with_defaults};
+ghost use Rattle.std.specs.Prelude.{◌≡◌, IfOk, Some, None};
+ghost use Rattle.std.specs.Rc.{rc_value};
 ghost use Rattle.otel_sdk_span.specs.SpanLimits.{default_limits};
 ghost use Rattle.otel_sdk.specs.Tracer as spec;
 
@@ -21,7 +20,7 @@ use std::rc::Rc;
 /// The state that the tracers of a provider share.
 #[derive(Drop)]
 pub(crate) struct TracerProviderInner<S, G, C> {
-    pub resource: Resource,
+    pub resource: Rc<Resource>,
     pub sampler: S,
     pub id_generator: G,
     pub clock: C,
@@ -61,7 +60,7 @@ impl<S, G, C> Model for SdkTracerProvider<S, G, C> {
       sampler = (rc_value p.inner).sampler;
       id_generator = (rc_value p.inner).id_generator;
       limits = (rc_value p.inner).limits;
-      resource = (rc_value p.inner).resource;
+      resource = rc_value (rc_value p.inner).resource;
     } };
 }
 
@@ -98,6 +97,17 @@ impl<S: ShouldSample, G: IdGenerator, C: Clock> SdkTracerProvider<S, G, C> {
         ensures { result.now ≡ self.now.resource }
     {
         &self.inner.resource
+    }
+
+    /// Returns the resource, for an exporter to share.
+    ///
+    /// # Errors
+    ///
+    /// `AllocError` if the count of its owners is at the limit.
+    pub(crate) fn shared_resource(&self) -> Result<Rc<Resource>, AllocError>
+        ensures { IfOk result (λ resource. rc_value resource ≡ self.now.resource) }
+    {
+        self.inner.resource.clone()
     }
 
     /// Shuts the provider down. From now on, a span that its tracers start has no ids and doesn't
@@ -181,9 +191,7 @@ impl<S: ShouldSample, G: IdGenerator, C: Clock> TracerProviderBuilder<S, G, C> {
     ///
     /// `AllocError` if out of memory. The builder and the resource are dropped.
     pub fn with_resource(self, resource: Resource) -> Result<Self, AllocError>
-        ensures { IfOk result (λ b. b ≡ record self {
-          resource = Some (option_map_or (λ old. merge old resource) self.resource resource);
-        }) }
+        ensures { IfOk result (λ b. b ≡ spec.with_resource resource self) }
     {
         let TracerProviderBuilder {
             resource: given,
@@ -207,12 +215,7 @@ impl<S: ShouldSample, G: IdGenerator, C: Clock> TracerProviderBuilder<S, G, C> {
 
     /// Sets the sampler, which decides which spans record.
     pub fn with_sampler<T: ShouldSample>(self, sampler: T) -> TracerProviderBuilder<T, G, C>
-        ensures { result ≡ record {
-          sampler = sampler;
-          id_generator = self.id_generator;
-          limits = self.limits;
-          resource = self.resource;
-        } }
+        ensures { result ≡ spec.with_sampler sampler self }
     {
         TracerProviderBuilder {
             resource: self.resource,
@@ -228,12 +231,7 @@ impl<S: ShouldSample, G: IdGenerator, C: Clock> TracerProviderBuilder<S, G, C> {
         self,
         id_generator: T,
     ) -> TracerProviderBuilder<S, T, C>
-        ensures { result ≡ record {
-          sampler = self.sampler;
-          id_generator = id_generator;
-          limits = self.limits;
-          resource = self.resource;
-        } }
+        ensures { result ≡ spec.with_id_generator id_generator self }
     {
         TracerProviderBuilder {
             resource: self.resource,
@@ -255,6 +253,13 @@ impl<S: ShouldSample, G: IdGenerator, C: Clock> TracerProviderBuilder<S, G, C> {
             clock,
             limits: self.limits,
         }
+    }
+
+    /// Sets all limits of spans.
+    pub fn with_span_limits(self, limits: SpanLimits) -> Self
+        ensures { result ≡ record self { limits = limits } }
+    {
+        TracerProviderBuilder { limits, ..self }
     }
 
     /// Sets the maximum number of events per span.
@@ -355,7 +360,7 @@ impl<S: ShouldSample, G: IdGenerator, C: Clock> TracerProviderBuilder<S, G, C> {
             None => Resource::builder(alloc)?.build(),
         };
         let inner = TracerProviderInner {
-            resource,
+            resource: Rc::new(alloc, resource)?,
             sampler,
             id_generator,
             clock,

@@ -40,6 +40,9 @@ pub trait Pipeline: Drop {
         parent: &Context,
     ) -> Result<SdkSpan, AllocError>
         ensures { IfOk result (may_start self.now (builder_of builder) parent.now) };
+
+    /// Returns the clock's moment, in nanoseconds since 1970.
+    fn now(&self) -> u64;
 }
 
 /// Starts the spans of one library or module (the Rust crate's `SdkTracer`).
@@ -230,5 +233,10 @@ impl<S: ShouldSample, G: IdGenerator, C: Clock> Pipeline for TracerPipeline<S, G
                 without_ids(parent_of(parent))
             }
         }
+    }
+
+    /// Returns the moment of the provider's clock, in nanoseconds since 1970.
+    fn now(&self) -> u64 {
+        self.provider.clock.now()
     }
 }

@@ -12,3 +12,4 @@ mod ratio;
 mod run;
 mod sampler;
 mod tracer;
+mod tracing;

@@ -7,8 +7,8 @@ use opentelemetry::trace::{
 use opentelemetry::{Context, Key, KeyValue, StringValue, Value};
 use otel_sdk::resource::Resource;
 use otel_sdk::trace::{
-    Clock, CountedIdGenerator, IdError, IdGenerator, ManualClock, ParentBased, Sampler,
-    SamplingDecision, SamplingResult, SdkSpan, SdkTracerProvider, ShouldSample,
+    Clock, CountedClock, CountedIdGenerator, IdError, IdGenerator, ManualClock, ParentBased,
+    Sampler, SamplingDecision, SamplingResult, SdkSpan, SdkTracerProvider, ShouldSample,
 };
 use std::alloc::{AllocError, Global};
 use std::test::Fail;
@@ -355,5 +355,14 @@ fn a_manual_clock_shows_what_it_is_set_to(rt: HostRuntime) -> Result<(), Fail> {
     let clock = ManualClock::new(5);
     clock.set(7);
     assert_eq!(rt; clock.now(), 7);
+    Ok(())
+}
+
+#[test]
+fn a_counted_clock_moves_on_at_each_reading(rt: HostRuntime) -> Result<(), Fail> {
+    let clock = CountedClock::new(2);
+    assert_eq!(rt; clock.now(), 0);
+    assert_eq!(rt; clock.now(), 2);
+    assert_eq!(rt; clock.now(), 4);
     Ok(())
 }

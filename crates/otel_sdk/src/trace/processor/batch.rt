@@ -25,9 +25,8 @@ use std::rc::Rc;
 /// stays queued, in order.
 ///
 /// ```
-/// let mut processor = BatchSpanProcessor::new(alloc, exporter, config);
-/// live.collect(&mut processor)?;
-/// processor.force_flush()?;
+/// live.collect(processor)?;
+/// processor.force_flush()
 /// ```
 #[derive(Drop)]
 pub struct BatchSpanProcessor<E> {

@@ -25,8 +25,11 @@ use std::rc::Rc;
 /// them to the exporter again, before other spans.
 ///
 /// ```
-/// let mut processor = SimpleSpanProcessor::new(alloc, exporter);
-/// processor.collect(&mut spans, &mut ended)?;
+/// span.end_with_timestamp(end);
+/// match span.into_data() {
+///     Some(data) => processor.on_end(data).map_err(|refused| refused.error),
+///     None => Ok(()),
+/// }
 /// ```
 #[derive(Drop)]
 pub struct SimpleSpanProcessor<E> {

@@ -1,0 +1,35 @@
+-- A `Tracing` under construction. Not in the Rust crate.
+use Rattle.std.specs.Prelude.{◌≡◌, List, []}
+use Rattle.otel_base.specs.InstrumentationScope.{Scope}
+use Rattle.otel_sdk.specs.LiveState.{no_spans}
+use Rattle.otel_sdk.specs.Tracer.{ProviderParts, TracerState, provider_of, tracer_of}
+use Rattle.otel_sdk.specs.Tracing.{TracingState}
+use Rattle.otel_sdk_base.specs.Queue.{Limits, new as new_processor}
+use Rattle.otel_sdk_span.specs.SpanData.{SpanRecord}
+
+-- the parts of the provider, the exporter, and the limits of the queue
+pub record BuilderParts (S G E : Type 0) : Type 0 where
+  pub provider : ProviderParts S G
+  pub exporter : E
+  pub config : Limits
+
+-- nothing is attached, started, entered or queued, and the clock wasn't read
+abbrev pub at_start : {P E : Type 0} → P → E → Limits → TracingState P E
+at_start pipeline exporter config = record {
+  pipeline = pipeline;
+  contexts = [];
+  spans = no_spans;
+  entered = [];
+  processor = new_processor exporter config;
+  moments = [];
+  unrecorded = 0;
+}
+
+-- The `Tracing` of these parts and this scope. Its exporter was told the resource, and has accepted
+-- what the given one had.
+pub record IsBuilt {S G E : Type 0} (accepted : E → List (List SpanRecord))
+    (parts : BuilderParts S G E) (scope : Scope) (t : TracingState (TracerState S G) E)
+    : Type 0 where
+  pub exporter : E
+  pub same : accepted exporter ≡ accepted parts.exporter
+  pub state : t ≡ at_start (tracer_of (provider_of parts.provider) scope) exporter parts.config

@@ -1,0 +1,211 @@
+//! The builder of a `Tracing`.
+ghost use Rattle.std.specs.Prelude.{◌≡◌, IfOk, None};
+ghost use Rattle.opentelemetry.specs.Scope.{scope_of_name};
+ghost use Rattle.otel_sdk.specs.Tracer.{with_id_generator, with_resource, with_sampler};
+ghost use Rattle.otel_sdk.specs.TracingBuilder.{IsBuilt};
+ghost use Rattle.otel_sdk_base.specs.Queue.{default_limits as default_batches};
+ghost use Rattle.otel_sdk_span.specs.SpanLimits.{default_limits};
+
+use super::Tracing;
+use super::moments::Moments;
+use crate::trace::live::LiveSpans;
+use crate::trace::processor::SpanProcessor;
+use crate::trace::processor::batch::BatchSpanProcessor;
+use crate::trace::tracer::TracerPipeline;
+use crate::trace::{
+    IdGenerator, ParentBased, RandomIdGenerator, Sampler, SdkTracerProvider, ShouldSample,
+    TracerProviderBuilder,
+};
+use opentelemetry::StringValue;
+use opentelemetry::context::ContextStack;
+use opentelemetry::trace::TracerProvider;
+use otel_sdk_base::resource::Resource;
+use otel_sdk_base::{BatchConfig, Clock, SystemClock};
+use otel_sdk_span::{SpanExporter, SpanLimits};
+use std::alloc::{AllocError, Global};
+use std::marker::Model;
+use std::random::RandomSource;
+
+/// Builds a [`Tracing`].
+///
+/// See [`Tracing::builder`].
+#[derive(Drop)]
+pub struct TracingBuilder<S, G, C, E> {
+    provider: TracerProviderBuilder<S, G, C>,
+    exporter: E,
+    config: BatchConfig,
+}
+
+impl<S, G, C, E> Model for TracingBuilder<S, G, C, E> {
+    ghost use Rattle.otel_sdk.specs.TracingBuilder.{BuilderParts};
+
+    ghost Value = { BuilderParts S G E };
+
+    ghost view = { λ b. record {
+      provider = b.provider;
+      exporter = b.exporter;
+      config = b.config;
+    } };
+}
+
+/// The tracer of a provider with the defaults.
+pub type StandardPipeline<R> = TracerPipeline<
+    ParentBased<Sampler>,
+    RandomIdGenerator<R>,
+    SystemClock<R>,
+>;
+
+impl<R> Tracing<StandardPipeline<R>, ()>
+where
+    R: RandomSource + std::time::Clock + Copy + Drop,
+{
+    /// Starts a `Tracing` with the defaults of [`SdkTracerProvider::builder`] and of
+    /// [`BatchConfig`]. It needs an exporter. Takes no memory.
+    pub fn builder(
+        rt: R,
+    ) -> TracingBuilder<ParentBased<Sampler>, RandomIdGenerator<R>, SystemClock<R>, ()>
+        ensures limits { result.provider.limits ≡ default_limits }
+        ensures resource { result.provider.resource ≡ None }
+        ensures root { result.provider.sampler.root ≡ Sampler.AlwaysOn }
+        ensures batches { result.config ≡ default_batches }
+    {
+        TracingBuilder {
+            provider: SdkTracerProvider::builder(rt),
+            exporter: (),
+            config: BatchConfig::default(),
+        }
+    }
+}
+
+impl<S: ShouldSample, G: IdGenerator, C: Clock, E: Drop> TracingBuilder<S, G, C, E> {
+    /// Sets the exporter.
+    pub fn with_exporter<X: SpanExporter>(self, exporter: X) -> TracingBuilder<S, G, C, X>
+        ensures { result ≡ record {
+          provider = self.provider;
+          exporter = exporter;
+          config = self.config;
+        } }
+    {
+        TracingBuilder {
+            provider: self.provider,
+            exporter,
+            config: self.config,
+        }
+    }
+
+    /// Sets the sampler, which decides which spans record.
+    pub fn with_sampler<T: ShouldSample>(self, sampler: T) -> TracingBuilder<T, G, C, E>
+        ensures { result ≡ record {
+          provider = with_sampler sampler self.provider;
+          exporter = self.exporter;
+          config = self.config;
+        } }
+    {
+        TracingBuilder {
+            provider: self.provider.with_sampler(sampler),
+            exporter: self.exporter,
+            config: self.config,
+        }
+    }
+
+    /// Sets the generator of ids.
+    pub fn with_id_generator<T: IdGenerator>(self, id_generator: T) -> TracingBuilder<S, T, C, E>
+        ensures { result ≡ record {
+          provider = with_id_generator id_generator self.provider;
+          exporter = self.exporter;
+          config = self.config;
+        } }
+    {
+        TracingBuilder {
+            provider: self.provider.with_id_generator(id_generator),
+            exporter: self.exporter,
+            config: self.config,
+        }
+    }
+
+    /// Sets the clock, which reads the moments at which spans start and end.
+    pub fn with_clock<T: Clock>(self, clock: T) -> TracingBuilder<S, G, T, E>
+        ensures { result ≡ self }
+    {
+        TracingBuilder {
+            provider: self.provider.with_clock(clock),
+            exporter: self.exporter,
+            config: self.config,
+        }
+    }
+
+    /// Sets the resource: the entity that the spans describe.
+    ///
+    /// # Errors
+    ///
+    /// `AllocError` if out of memory. The parts are dropped.
+    pub fn with_resource(self, resource: Resource) -> Result<Self, AllocError>
+        ensures { IfOk result (λ b. b
+            ≡ record self { provider = with_resource resource self.provider }) }
+    {
+        let TracingBuilder {
+            provider,
+            exporter,
+            config,
+        } = self;
+        Ok(TracingBuilder {
+            provider: provider.with_resource(resource)?,
+            exporter,
+            config,
+        })
+    }
+
+    /// Sets the limits of the spans.
+    pub fn with_limits(self, limits: SpanLimits) -> Self
+        ensures { result ≡ record self {
+          provider = record self.provider { limits = limits };
+        } }
+    {
+        TracingBuilder {
+            provider: self.provider.with_span_limits(limits),
+            ..self
+        }
+    }
+
+    /// Sets the greatest size of the queue and of a batch.
+    pub fn with_batch_config(self, config: BatchConfig) -> Self
+        ensures { result ≡ record self { config = config } }
+    {
+        TracingBuilder { config, ..self }
+    }
+}
+
+impl<S: ShouldSample, G: IdGenerator, C: Clock, E: SpanExporter> TracingBuilder<S, G, C, E> {
+    /// Returns the `Tracing` of the given parts, whose spans have the scope named `name`. Tells the
+    /// exporter the resource.
+    ///
+    /// # Errors
+    ///
+    /// `AllocError` if out of memory. The parts are dropped.
+    pub fn build(
+        self,
+        alloc: Global,
+        name: &'static str,
+    ) -> Result<Tracing<TracerPipeline<S, G, C>, E>, AllocError>
+        ensures { IfOk result (IsBuilt E.accepted self (scope_of_name name.now)) }
+    {
+        let TracingBuilder {
+            provider,
+            exporter,
+            config,
+        } = self;
+        let provider = provider.build(alloc)?;
+        let mut processor = BatchSpanProcessor::new(alloc, exporter, config);
+        processor.set_resource(provider.shared_resource()?);
+        Ok(Tracing {
+            alloc,
+            tracer: provider.tracer(alloc, StringValue::from(name))?,
+            stack: ContextStack::new(alloc)?,
+            live: LiveSpans::new(alloc),
+            entered: Vec::new(alloc),
+            processor,
+            moments: Moments::new(),
+            unrecorded: 0,
+        })
+    }
+}
