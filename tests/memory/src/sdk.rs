@@ -8,6 +8,7 @@ mod loggers;
 mod logs;
 mod spans;
 mod tracer;
+mod tracing;
 
 use crate::lines::Lines;
 use opentelemetry::trace::{SpanContext, SpanId, SpanKind, TraceFlags, TraceId, TraceState};
@@ -39,6 +40,7 @@ pub fn play<R: Print>(rt: HostRuntime, lines: &Lines<'_, R>) {
     live::play(rt, lines);
     logs::play(alloc, lines);
     loggers::play(rt, lines);
+    tracing::play(rt, lines);
 }
 
 fn resources<R: Print>(alloc: Global, lines: &Lines<'_, R>) {

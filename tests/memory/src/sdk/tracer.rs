@@ -35,7 +35,7 @@ pub fn play<R: Print>(rt: HostRuntime, lines: &Lines<'_, R>) {
 }
 
 /// A resource with one attribute.
-fn resource(alloc: Global) -> Result<Resource, AllocError> {
+pub fn resource(alloc: Global) -> Result<Resource, AllocError> {
     let attribute = KeyValue::new(Key::from("k"), Value::from("v"));
     Ok(
         Resource::builder_empty(alloc)

@@ -1,0 +1,210 @@
+//! One value that traces a program: its builder, its spans and its contexts.
+mod changes;
+mod exports;
+
+use crate::lines::Lines;
+use crate::propagators::carriers::{carrier, injected};
+use crate::propagators::headers::{TRACE_KEYS, TRACE_TEXTS, carrier_of, with_remote_span};
+use crate::sdk::tracer::resource;
+use exports::{Tally, has_exported};
+use opentelemetry::trace::{Run, SpanBuilder, TraceState};
+use opentelemetry::{Context, StringValue};
+use otel_propagators::TraceContextPropagator;
+use otel_sdk::resource::Resource;
+use otel_sdk::trace::{
+    CountedIdGenerator, Entered, ManualClock, NotEntered, Sampler, TracerPipeline, Tracing,
+};
+use std::alloc::{AllocError, Global};
+
+pub type App = Tracing<TracerPipeline<Sampler, CountedIdGenerator, ManualClock>, Tally>;
+
+/// The number of attachments for which a new stack has room.
+const ROOM: u16 = 8;
+
+pub fn play<R: Print>(rt: HostRuntime, lines: &Lines<'_, R>) {
+    if lines.begin("tracing-builder-with-resource") {
+        lines.end(with_resource(rt, lines));
+    }
+    if lines.begin("tracing-builder-build") {
+        lines.answer_named("built", app(rt));
+    }
+    spans(rt, lines);
+    contexts(rt, lines);
+    changes::play(rt, lines);
+    exports::play(rt, lines);
+}
+
+fn with_resource<R: Print>(rt: HostRuntime, lines: &Lines<'_, R>) -> Result<(), AllocError> {
+    let alloc = rt.alloc();
+    let first = Resource::builder_empty(alloc).build();
+    let next = resource(alloc)?;
+    let builder = Tracing::builder(rt).with_resource(first)?;
+    lines.answer_named("set", builder.with_resource(next));
+    Ok(())
+}
+
+/// A value without spans.
+pub fn app(rt: HostRuntime) -> Result<App, AllocError> {
+    Tracing::builder(rt)
+        .with_exporter(Tally::new())
+        .with_sampler(Sampler::AlwaysOn)
+        .with_id_generator(CountedIdGenerator::new())
+        .with_clock(ManualClock::new(1))
+        .build(rt.alloc(), "cart")
+}
+
+/// Enters a span of the set-up.
+pub fn enter(app: &mut App) -> Result<Entered, AllocError> {
+    match app.enter("s") {
+        Ok(entered) => Ok(entered),
+        Err(_) => Err(AllocError),
+    }
+}
+
+/// A value whose stack has to request more room at the next attach.
+fn crowded(rt: HostRuntime) -> Result<App, AllocError> {
+    let mut app = app(rt)?;
+    for _ in 0..ROOM {
+        app.attach(Context::new())?;
+    }
+    Ok(app)
+}
+
+fn spans<R: Print>(rt: HostRuntime, lines: &Lines<'_, R>) {
+    if lines.begin("tracing-enter") {
+        lines.end(entered(lines, app(rt), |app| app.enter("s")));
+    }
+    if lines.begin("tracing-enter-with") {
+        let builder = SpanBuilder::from_name(StringValue::from("s"));
+        lines.end(entered(lines, crowded(rt), |app| app.enter_with(builder)));
+    }
+    if lines.begin("tracing-exit") {
+        lines.end(exit(rt, lines));
+    }
+    if lines.begin("tracing-in-span") {
+        lines.end(in_span(rt, lines));
+    }
+    if lines.begin("tracing-try-in-span") {
+        lines.end(try_in_span(rt, lines));
+    }
+}
+
+/// Enters a span by this call. It is then open and exported later, or isn't there after an error.
+fn entered<R: Print, F: FnOnce(&mut App) -> Result<Entered, NotEntered> + Drop>(
+    lines: &Lines<'_, R>,
+    app: Result<App, AllocError>,
+    call: F,
+) -> Result<(), AllocError> {
+    let mut app = app?;
+    let answer = call(&mut app);
+    let open = if answer.is_ok() { 1 } else { 0 };
+    lines.answer_named("entered", answer);
+    let is_open = app.open_spans() == open && app.context().has_active_span() == (open == 1);
+    lines.due(is_open && app.unrecorded() == 0 && has_exported(&mut app, open, 0));
+    Ok(())
+}
+
+/// An exit of the outer one of two spans. Both are exported later.
+fn exit<R: Print>(rt: HostRuntime, lines: &Lines<'_, R>) -> Result<(), AllocError> {
+    let mut app = app(rt)?;
+    let outer = enter(&mut app)?;
+    enter(&mut app)?;
+    app.exit(outer);
+    lines.free("Tracing::exit", &app.open_spans());
+    lines.due(has_exported(&mut app, 2, 0));
+    Ok(())
+}
+
+/// Prints whether everything was recorded.
+fn recorded<R: Print>(lines: &Lines<'_, R>, app: &App) {
+    if app.unrecorded() == 0 {
+        lines.answer(&"recorded");
+    } else {
+        lines.answer(&AllocError);
+    }
+}
+
+/// Work that runs in a span or, after a failed request, without one.
+fn in_span<R: Print>(rt: HostRuntime, lines: &Lines<'_, R>) -> Result<(), AllocError> {
+    let mut app = app(rt)?;
+    let open = app.in_span("s", Run(|app: &mut App| app.open_spans()));
+    recorded(lines, &app);
+    let is_counted = open <= 1 && app.unrecorded() < 2 && (open == 1) == (app.unrecorded() == 0);
+    lines.due(is_counted && app.open_spans() == 0 && has_exported(&mut app, open, 0));
+    Ok(())
+}
+
+/// Work that fails. The caller gets its error in any case.
+fn try_in_span<R: Print>(rt: HostRuntime, lines: &Lines<'_, R>) -> Result<(), AllocError> {
+    let mut app = app(rt)?;
+    let out = app.try_in_span("s", Run(|_: &mut App| -> Result<u8, u16> { Err(402) }));
+    recorded(lines, &app);
+    let is_lost = app.unrecorded() == 1;
+    let is_flushed = app.flush().is_ok();
+    let tally = app.exporter();
+    let is_whole = tally.spans == 1 && tally.parts == 1;
+    let is_due = if is_lost {
+        tally.parts <= tally.spans
+    } else {
+        is_whole || !is_flushed
+    };
+    lines.due(out == Err(402) && app.open_spans() == 0 && app.unrecorded() < 2 && is_due);
+    Ok(())
+}
+
+fn contexts<R: Print>(rt: HostRuntime, lines: &Lines<'_, R>) {
+    if lines.begin("tracing-attach") {
+        lines.end(attach(rt, lines));
+    }
+    if lines.begin("tracing-detach") {
+        lines.end(detach(rt, lines));
+    }
+    if lines.begin("tracing-receive") {
+        lines.end(receive(rt, lines));
+    }
+    if lines.begin("tracing-send") {
+        lines.end(send(rt, lines));
+    }
+}
+
+fn caller(alloc: Global) -> Result<Context, AllocError> {
+    with_remote_span(alloc, TraceState::NONE)
+}
+
+fn attach<R: Print>(rt: HostRuntime, lines: &Lines<'_, R>) -> Result<(), AllocError> {
+    let mut app = crowded(rt)?;
+    let answer = app.attach(caller(rt.alloc())?);
+    let is_attached = answer.is_ok();
+    lines.answer_named("attached", answer);
+    lines.due(app.context().has_active_span() == is_attached);
+    Ok(())
+}
+
+fn detach<R: Print>(rt: HostRuntime, lines: &Lines<'_, R>) -> Result<(), AllocError> {
+    let mut app = app(rt)?;
+    let attached = app.attach(caller(rt.alloc())?)?;
+    app.detach(attached);
+    lines.free("Tracing::detach", &app.context().has_active_span());
+    Ok(())
+}
+
+fn receive<R: Print>(rt: HostRuntime, lines: &Lines<'_, R>) -> Result<(), AllocError> {
+    let mut app = crowded(rt)?;
+    let propagator = TraceContextPropagator::new(rt.alloc())?;
+    let carrier = carrier_of(rt.alloc(), &TRACE_TEXTS)?;
+    let answer = app.receive(&propagator, &carrier);
+    let is_attached = answer.is_ok();
+    lines.answer_named("received", answer);
+    lines.due(app.context().has_active_span() == is_attached);
+    Ok(())
+}
+
+fn send<R: Print>(rt: HostRuntime, lines: &Lines<'_, R>) -> Result<(), AllocError> {
+    let mut app = app(rt)?;
+    enter(&mut app)?;
+    let propagator = TraceContextPropagator::new(rt.alloc())?;
+    let mut carrier = carrier(rt.alloc())?;
+    let answer = app.send(&propagator, &mut carrier);
+    injected(lines, answer, &carrier, &TRACE_KEYS);
+    Ok(())
+}

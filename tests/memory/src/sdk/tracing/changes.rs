@@ -1,0 +1,86 @@
+//! Changes to the current span.
+use crate::context::contexts::remote;
+use crate::lines::Lines;
+use crate::sdk::tracing::exports::has_exported;
+use crate::sdk::tracing::{App, app, enter};
+use opentelemetry::trace::{Status, TraceState};
+use opentelemetry::{Key, KeyValue, StringValue, Value};
+use std::alloc::{AllocError, Global};
+
+pub fn play<R: Print>(rt: HostRuntime, lines: &Lines<'_, R>) {
+    for (name, call) in CALLS {
+        if lines.begin(name) {
+            lines.end(of_span(rt, lines, call));
+        }
+    }
+    if lines.begin("tracing-set-status") {
+        lines.end(set_status(rt, lines));
+    }
+    if lines.begin("tracing-without-span") {
+        lines.end(without_span(rt, lines));
+    }
+}
+
+/// A call that adds one part.
+#[derive(Clone, Copy)]
+enum Call {
+    SetAttribute,
+    AddEvent,
+    AddLink,
+    RecordError,
+}
+
+const CALLS: [(&str, Call); 4] = [
+    ("tracing-set-attribute", Call::SetAttribute),
+    ("tracing-add-event", Call::AddEvent),
+    ("tracing-add-link", Call::AddLink),
+    ("tracing-record-error", Call::RecordError),
+];
+
+fn attribute() -> KeyValue {
+    KeyValue::new(Key::from("k"), Value::from("v"))
+}
+
+/// Makes this call on the current span.
+fn add(alloc: Global, app: &mut App, call: Call) -> Result<(), AllocError> {
+    match call {
+        Call::SetAttribute => app.set_attribute(attribute()),
+        Call::AddEvent => app.add_event(StringValue::from("e"), Vec::new(alloc)),
+        Call::AddLink => app.add_link(remote(1, TraceState::NONE), Vec::new(alloc)),
+        Call::RecordError => app.record_error(&402),
+    }
+}
+
+/// Makes this call in a span, which is exported later: with the part, or without it after an error.
+fn of_span<R: Print>(rt: HostRuntime, lines: &Lines<'_, R>, call: Call) -> Result<(), AllocError> {
+    let mut app = app(rt)?;
+    enter(&mut app)?;
+    let answer = add(rt.alloc(), &mut app, call);
+    let parts = if answer.is_ok() { 1 } else { 0 };
+    lines.answer_named("added", answer);
+    lines.due(app.open_spans() == 1 && has_exported(&mut app, 1, parts));
+    Ok(())
+}
+
+/// A new status and a new name, which take the place of the old ones.
+fn set_status<R: Print>(rt: HostRuntime, lines: &Lines<'_, R>) -> Result<(), AllocError> {
+    let mut app = app(rt)?;
+    enter(&mut app)?;
+    let status = Status::error(StringValue::from("x"));
+    lines.free_ok("Tracing::set_status", app.set_status(status));
+    let name = StringValue::from("renamed");
+    lines.free_ok("Tracing::update_name", app.update_name(name));
+    lines.due(app.open_spans() == 1 && has_exported(&mut app, 1, 0));
+    Ok(())
+}
+
+fn without_span<R: Print>(rt: HostRuntime, lines: &Lines<'_, R>) -> Result<(), AllocError> {
+    let mut app = app(rt)?;
+    let answer = add(rt.alloc(), &mut app, Call::SetAttribute);
+    lines.free_ok("Tracing::set_attribute", answer);
+    let answer = add(rt.alloc(), &mut app, Call::AddEvent);
+    lines.free_ok("Tracing::add_event", answer);
+    let answer = add(rt.alloc(), &mut app, Call::AddLink);
+    lines.free_ok("Tracing::add_link", answer);
+    Ok(())
+}

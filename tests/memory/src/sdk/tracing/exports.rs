@@ -1,0 +1,100 @@
+//! The way of spans to an exporter.
+use crate::lines::Lines;
+use crate::sdk::tracing::{App, app, enter};
+use otel_sdk::error::OTelSdkResult;
+use otel_sdk::trace::{Exporter, SpanData};
+use otel_sdk_base::Accepted;
+use std::alloc::AllocError;
+
+/// An exporter that never allocates. It counts the spans that it accepts, and their attributes,
+/// events and links.
+#[derive(Drop)]
+pub struct Tally {
+    accepted: Accepted<SpanData>,
+    pub spans: usize,
+    pub parts: usize,
+}
+
+impl Tally {
+    pub fn new() -> Tally {
+        Tally {
+            accepted: Accepted::new(),
+            spans: 0,
+            parts: 0,
+        }
+    }
+}
+
+impl Exporter<SpanData> for Tally {
+    ghost accepted = { λ e. e.accepted.batches };
+
+    ghost shuts_down = { λ _ _. Unit {0} };
+
+    fn export(&mut self, batch: &[SpanData]) -> OTelSdkResult {
+        self.accepted = self.accepted.and(batch);
+        self.spans += batch.len();
+        for span in batch {
+            let (events, links) = (&span.events.events, &span.links.links);
+            self.parts += span.attributes.len() + events.len() + links.len();
+        }
+        Ok(())
+    }
+
+    fn force_flush(&mut self) -> OTelSdkResult {
+        Ok(())
+    }
+
+    fn shutdown(&mut self) -> OTelSdkResult {
+        Ok(())
+    }
+}
+
+pub fn play<R: Print>(rt: HostRuntime, lines: &Lines<'_, R>) {
+    if lines.begin("tracing-flush") {
+        lines.end(flush(rt, lines));
+    }
+    if lines.begin("tracing-shutdown") {
+        lines.end(shutdown(rt, lines));
+    }
+}
+
+/// Shuts down. Returns whether no span is open then, and whether so many spans with so many parts
+/// were exported in all, or none if out of memory again.
+pub fn has_exported(app: &mut App, spans: usize, parts: usize) -> bool {
+    let is_done = app.shutdown().is_ok();
+    let tally = app.exporter();
+    let is_whole = tally.spans == spans && tally.parts == parts;
+    app.open_spans() == 0 && if is_done { is_whole } else { tally.spans == 0 }
+}
+
+/// A flush of an ended span, while another one is open.
+fn flush<R: Print>(rt: HostRuntime, lines: &Lines<'_, R>) -> Result<(), AllocError> {
+    let mut app = app(rt)?;
+    let ended = enter(&mut app)?;
+    app.exit(ended);
+    enter(&mut app)?;
+    let answer = app.flush();
+    let exported = if answer.is_ok() { 1 } else { 0 };
+    lines.answer_named("flushed", answer);
+    let is_due = app.open_spans() == 1 && app.exporter().spans == exported;
+    let is_done = app.shutdown().is_ok();
+    let spans = if is_done { 2 } else { exported };
+    lines.due(is_due && app.exporter().spans == spans);
+    Ok(())
+}
+
+/// A shutdown with two open spans. After an error, another one exports them.
+fn shutdown<R: Print>(rt: HostRuntime, lines: &Lines<'_, R>) -> Result<(), AllocError> {
+    let mut app = app(rt)?;
+    enter(&mut app)?;
+    enter(&mut app)?;
+    let answer = app.shutdown();
+    let exported = if answer.is_ok() { 2 } else { 0 };
+    lines.answer_of(answer);
+    let is_due = app.open_spans() == 0 && app.exporter().spans == exported;
+    let is_first = app.shutdown().is_ok();
+    let spans = if is_first { 2 } else { exported };
+    let is_closed = exported == 0 || !is_first;
+    lines.due(is_due && is_closed && app.exporter().spans == spans);
+    Ok(())
+}
