@@ -22,6 +22,7 @@
 #   make memory                     runs programs out of memory: each allocation fails in turn
 #   make long                       runs the programs on long inputs
 #   make calls                      checks that make memory covers each call that can run out of memory
+#   make new-crate                  checks that ./new makes a crate whose program runs
 #   make fuzz                       compares random programs and rows with a plain model; COUNT=N sets their number, SEED=N the seed
 #   make documents                  checks that everything the documents mention exists, and that the code they show runs
 #   make bench                      counts the instructions of operations, beside the Rust crate
@@ -39,7 +40,7 @@ GIVEN := $(if $(filter -,$(INPUT)),,< "$(INPUT)")
 CRATES := $(patsubst crates/%/src,%,$(wildcard crates/*/src))
 IS_CRATE = @$(if $(filter $(CRATE),$(CRATES)),true,echo 'make $@: name a crate, as in `make $@ CRATE=otel_ids`: $(CRATES)' >&2; exit 2)
 
-.PHONY: run prove example example-c test check tests edit mutants vectors otlp c misuse memory long calls fuzz documents bench
+.PHONY: run prove example example-c test check tests edit mutants vectors otlp c misuse memory long calls new-crate fuzz documents bench
 
 run:
 	@program=$$(tests/tools/programs.py path otel_carry) && "$$program" $(GIVEN)
@@ -95,6 +96,9 @@ long:
 
 calls:
 	@tests/memory/calls
+
+new-crate:
+	@tests/tools/progress.py --part 'a new crate' tests/new/run
 
 fuzz:
 	@tests/tools/progress.py --part fuzz tests/fuzz/run "$(COUNT)" "$(SEED)"
