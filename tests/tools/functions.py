@@ -3,8 +3,9 @@ import re
 
 
 def words(text, dropped):
-    """The words of a type or a trait as they occur in the name of an `impl`, without its type parameters."""
-    found = re.findall(r"&|\w+", re.sub(r"'\w+", "", re.sub(r"\w+::", "", text)))
+    """The words of a type or a trait as they occur in the name of an `impl`, without its type parameters. `fmt::Display` is Display,
+    and `From<io::Error>` is FromIoError."""
+    found = re.findall(r"&|\w+", re.sub(r"'\w+", "", re.sub(r"^\s*(?:\w+::)+", "", text)))
     return "".join("Ref" if it == "&" else it[0].upper() + it[1:] for it in found if it not in dropped)
 
 
