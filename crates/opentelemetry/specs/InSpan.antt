@@ -1,11 +1,11 @@
 -- The effect of the calls that run a body in a span.
-use Rattle.std.specs.Prelude.{◌≡◌, ℕ, Option}
+use Rattle.std.specs.Prelude.{◌≡◌, ℕ, List, ◌++◌, codes, Option}
 use Rattle.otel_context.specs.declared.span.spans.SpanRefused.{SpanRefused}
 use Rattle.otel_ids.specs.SpanContext.{SpanContextRecord}
 use Rattle.otel_context.specs.Context.{ContextRecord, with_span}
 use Rattle.otel_context.specs.Active.{AttachesAt}
 use Rattle.otel_context.specs.Stack.{StackState, Detaches, current}
-use Rattle.otel_context.specs.Spans.{SpansState, HasSameSpans, insert, refusal}
+use Rattle.otel_context.specs.Spans.{SpansState, HasSameSpans, cause_text, insert, refusal}
 use Rattle.opentelemetry.specs.declared.trace.in_span.StartError.{StartError}
 use Rattle.opentelemetry.specs.declared.trace.in_span.StartError.TheVariants.{Build, Refused}
 
@@ -16,6 +16,11 @@ MayLeave S Out =
     StackState → SpansState S → ContextRecord → Out → StackState → SpansState S → Type 0
 
 module _ {S : Type 0} where
+  -- the printed text of the error: which step failed, and why
+  abbrev pub error_text : StartError S → List ℕ
+  error_text (Build error) = codes "span not built: no memory"
+  error_text (Refused refused) = codes "span refused: " ++ cause_text refused.cause
+
   -- a body ran once in a span under the given parent, and its context was then detached [the Rust
   -- crate's `Tracer::in_span_with_builder_and_context`]
   pub record RanInSpan {Out : Type 0}

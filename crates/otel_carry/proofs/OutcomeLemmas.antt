@@ -1,5 +1,6 @@
 -- The meaning of the program's exit status for its input and its output.
 use Rattle.std.proofs.Common.{◌≡◌, ◌≢◌, ℕ, zero, suc, ◌≤◌, List, Option, Some, None, Result, Ok, Err, inl, inr, refl, sym, ◌∙◌, arith, subst, IfSome, IfOk, OnOk, IsOk}
+use Rattle.std.proofs.KnownBytes.{Appends-kept}
 use Rattle.std.specs.Io.KnownBytes.{Appends, Keeps}
 use Rattle.std.specs.Result.{result_unwrap_or}
 use Rattle.std.specs.FinMap as fin
@@ -15,13 +16,6 @@ use Rattle.otel_carry.specs.Outcome.{IsFailureOf, IsFaultyInput, IsGood, IsGoodI
 use Rattle.otel_carry.specs.Report.{Writes, failure_line}
 use Rattle.otel_carry.specs.Run.{Ends, IsCutOff, IsFailureReport, IsReport, IsRunOf, IsRunText}
 use Rattle.otel_carry.proofs.GrammarLemmas.{never_both}
-
--- an appended text stays
-appends_kept : (old mid new : Option (List ℕ)) (text : List ℕ) → Appends old mid text → Keeps mid new → Appends old new text
-appends_kept None mid new text a k = tt
-appends_kept (Some x) None new text a k = absurd a
-appends_kept (Some x) (Some y) None text a k = absurd k
-appends_kept (Some x) (Some y) (Some z) text a k = k ∙ a
 
 -- a good input isn't faulty
 good_or_faulty : (input : List ℕ) (events : List StackEvent) → IsGoodInput input events → IsFaultyInput input → ⊥
@@ -61,7 +55,7 @@ at_ok (Err e) h p = absurd (cc)
 
 -- a text that was written stays
 writes_kept : (P : List ℕ → Type 0) (old mid new : Option (List ℕ)) → Keeps mid new → Writes P old mid → Writes P old new
-writes_kept P old mid new kept w = record { text = w.text; is = w.is; appended = appends_kept old mid new w.text w.appended kept }
+writes_kept P old mid new kept w = record { text = w.text; is = w.is; appended = Appends-kept old mid new w.text w.appended kept }
 
 module _ (pairs : ContextRecord → Pairs) (extracted : ContextRecord → TextMap → ContextRecord) where
   -- a flush keeps the written text

@@ -7,7 +7,7 @@ use Rattle.std.specs.Cmp.{nat_cmp_total}
 use Rattle.std.specs.FinMap as map
 use Rattle.otel_context.specs.Spans.{SpansState, get, find, replace, replace_found}
 use Rattle.otel_context.specs.SpanCalls.{after_effect, BecomesOne, OthersStay}
-use Rattle.otel_context.proofs.shared.SpansLemmas.{equal_of}
+use Rattle.otel_context.proofs.shared.SpansLemmas.{same_by_cmp}
 
 module _ {S : Type 0} where
   kept : (b : Bool) (o v : Option S) → (b ≡ true → o ≡ v) → cond b v o ≡ o
@@ -20,7 +20,7 @@ module _ {S : Type 0} where
       let m = t.spans in
       ap (λ spans. record { spans = spans; next_number = t.next_number }) (map.same_map nat_cmp_total map.nat_cmp-IsAntisymmetric (map.insert m k s) m (λ q.
       map.get-insert nat_cmp_total m k s q
-      ∙ kept (eq_by_cmp nat_cmp q k) (map.get m q) (Some s) (λ e. ap (map.get m) (map.nat_cmp-IsAntisymmetric q k (equal_of (nat_cmp q k) e)) ∙ there)))
+      ∙ kept (eq_by_cmp nat_cmp q k) (map.get m q) (Some s) (λ e. ap (map.get m) (same_by_cmp q k e) ∙ there)))
 
   replace_found-same : (t : SpansState S) (number : Option ℕ) (s : S) → find t number ≡ Some s → replace_found t number s ≡ t
   replace_found-same t (Some k) s there = replace-same t k s there
@@ -75,7 +75,7 @@ module _ {S : Type 0} where
     h.0,
     λ q apart.
         map.get-insert nat_cmp_total t.spans k w q
-        ∙ passed_over (eq_by_cmp nat_cmp q k) (map.get t.spans q) (Some w) (λ e. apart (ap Some (sym (map.nat_cmp-IsAntisymmetric q k (equal_of (nat_cmp q k) e)))))
+        ∙ passed_over (eq_by_cmp nat_cmp q k) (map.get t.spans q) (Some w) (λ e. apart (ap Some (sym (same_by_cmp q k e))))
         ∙ h.1 q apart,
   )
 

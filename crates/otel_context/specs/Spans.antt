@@ -1,7 +1,7 @@
 -- The model of a span table: a finite map from numbers to spans, and the next number (not in the
 -- Rust crate, whose contexts share their spans).
 use Rattle.std.specs.Prelude.{◌≡◌, ◌⊎◌, ℕ, ◌+◌, ◌<◌, ◌==◌, Option, Some, None, IsSome, alloc_error}
-use Rattle.std.specs.Prelude.{if◌then◌else◌}
+use Rattle.std.specs.Prelude.{List, codes, if◌then◌else◌}
 use Rattle.std.specs.Ordering.{nat_cmp}
 use Rattle.std.specs.FinMap as map
 use Rattle.otel_context.specs.declared.span.spans.SpanCause.{SpanCause}
@@ -16,6 +16,11 @@ pub record SpansState (S : Type 0) : Type 0 where
 -- the next number once all numbers are used: the greatest `u64`
 abbrev pub used_up : ℕ
 used_up = 18446744073709551615
+
+-- the printed text of a cause
+abbrev pub cause_text : SpanCause → List ℕ
+cause_text NumbersUsedUp = codes "no span number left"
+cause_text (Memory error) = codes "no memory"
 
 module _ {S : Type 0} where
   -- no span, and the first number

@@ -7,6 +7,8 @@ ghost use Rattle.opentelemetry.specs.Closure.{CallLeaves};
 
 use otel_context::{Context, ContextStack, Span, SpanCause, SpanRefused, Spans};
 use std::alloc::{AllocError, Global};
+use std::error::Error;
+use std::fmt;
 
 /// The error of [`Tracer::in_span`](crate::trace::Tracer::in_span) and its variants. Not in the
 /// Rust crate.
@@ -24,6 +26,33 @@ pub enum StartError<S> {
     /// In the first case, the table is unchanged. In the second, its next number may be one higher.
     Refused(SpanRefused<S>),
 }
+
+/// Prints which step failed, and the reason.
+impl<S> fmt::Display for StartError<S> {
+    ghost use Rattle.std.specs.Prelude.{Some};
+    ghost use Rattle.opentelemetry.specs.InSpan.{error_text};
+
+    ghost output = { λ error. Some (error_text error) };
+
+    fn fmt<W: fmt::Write>(&self, f: &mut fmt::Formatter<W>) -> fmt::Result {
+        match self {
+            StartError::Build(_) => f.write_str("span not built: no memory"),
+            StartError::Refused(refused) => write!(f, "span refused: {refused}"),
+        }
+    }
+}
+
+/// Prints the step and the reason without the span, whose type may not be `Debug`.
+impl<S> fmt::Debug for StartError<S> {
+    fn fmt<W: fmt::Write>(&self, f: &mut fmt::Formatter<W>) -> fmt::Result {
+        match self {
+            StartError::Build(error) => f.debug_tuple("Build").field(error).finish(),
+            StartError::Refused(refused) => f.debug_tuple("Refused").field(refused).finish(),
+        }
+    }
+}
+
+impl<S: Drop> Error for StartError<S> {}
 
 /// Code that runs in a span. Not in the Rust crate, whose `in_span` takes a closure: [`Run`] turns
 /// a closure into a body.

@@ -2,13 +2,11 @@
 use Rattle.std.proofs.Common.{◌≡◌, ℕ, ◌+◌, ◌<◌, List, [], ◌∷◌, length, Option, Some, None, Bool, cond, true, false, is_some, refl, sym, ap, ◌∙◌, arith, inr}
 use Rattle.std.specs.Borrow.{MutBor}
 use Rattle.std.specs.Option.{IsSome, OnSome, option_copied_mut}
-use Rattle.std.specs.Ordering.{nat_cmp, eq_by_cmp, is_eq}
-use Rattle.std.specs.Cmp.{nat_cmp_total, eq_by_cmp_equiv, unsigned_Decides}
+use Rattle.std.specs.Ordering.{nat_cmp, eq_by_cmp}
+use Rattle.std.specs.Cmp.{nat_cmp_total, eq_by_cmp_equiv, unsigned_tied, unsigned_Decides}
 use Rattle.std.proofs.lemmas.Cmp.{nat_eq_equiv}
 use Rattle.std.specs.List.{IsDistinct}
 use Rattle.std.specs.Map.{lookup, keys_of}
-use Rattle.std.specs.declared.cmp.Ordering.{Ordering}
-use Rattle.std.specs.declared.cmp.Ordering.TheVariants.{Less, Equal, Greater}
 use Rattle.std.specs.HashMap as hash
 use Rattle.std.specs.HashMap.{HashMap}
 use Rattle.std.specs.FinMap as map
@@ -22,30 +20,19 @@ use Rattle.otel_context.specs.declared.span.spans.SpanCause.TheVariants.{Numbers
 use Rattle.std.specs.Prelude.{◌==◌, if◌then◌else◌, alloc_error}
 use Rattle.std.proofs.lemmas.Bool.{false_from_ne_true}
 
-pub equal_of : (r : Ordering) → is_eq r ≡ true → r ≡ Equal
-equal_of Less e = cc
-equal_of Equal e = refl
-equal_of Greater e = cc
-
-same_bool : (b c : Bool) → (b ≡ true → c ≡ true) → (c ≡ true → b ≡ true) → b ≡ c
-same_bool true c f g = sym (f refl)
-same_bool false true f g = g refl
-same_bool false false f g = refl
+-- numbers that their order doesn't tell apart are equal
+pub same_by_cmp : (q k : ℕ) → eq_by_cmp nat_cmp q k ≡ true → q ≡ k
+same_by_cmp q k e = (unsigned_Decides q k).0 (sym (unsigned_tied q k) ∙ e)
 
 -- `==` tells numbers apart as their order does
-same_equal : (q k : ℕ) → eq_by_cmp nat_cmp q k ≡ (q == k)
-same_equal q k = same_bool (eq_by_cmp nat_cmp q k) (q == k)
-    (λ e. (unsigned_Decides q k).1 (map.nat_cmp-IsAntisymmetric q k (equal_of (nat_cmp q k) e)))
-    (λ e. sym (ap (λ x. eq_by_cmp nat_cmp q x) ((unsigned_Decides q k).0 e)) ∙ (eq_by_cmp_equiv nat_cmp_total).refl q)
-
-flipped : (k q : ℕ) → eq_by_cmp nat_cmp q k ≡ (k == q)
-flipped k q = same_equal q k ∙ nat_eq_equiv.symm q k
+pub flipped : (k q : ℕ) → eq_by_cmp nat_cmp q k ≡ (k == q)
+flipped k q = unsigned_tied q k ∙ nat_eq_equiv.symm q k
 
 module _ {S : Type 0} where
   find_is_lookup : (q : ℕ) (es : List (ℕ × S)) → map.find nat_cmp q es ≡ lookup (λ k. q == k) es
   find_is_lookup q [] = refl
   find_is_lookup q (e ∷ es) =
-      ap (λ b. cond b (Some e.1) (map.find nat_cmp q es)) (same_equal q e.0) ∙ ap (cond (q == e.0) (Some e.1)) (find_is_lookup q es)
+      ap (λ b. cond b (Some e.1) (map.find nat_cmp q es)) (unsigned_tied q e.0) ∙ ap (cond (q == e.0) (Some e.1)) (find_is_lookup q es)
 
   len-distinct : (es : List (ℕ × S)) → IsDistinct ◌==◌ (keys_of es) → map.len (map.from_entries {R = nat_cmp} es) ≡ length es
   len-distinct [] d = map.len-empty nat_cmp S
@@ -116,7 +103,7 @@ module _ {S : Type 0} where
         spans = map.same_map nat_cmp_total map.nat_cmp-IsAntisymmetric _ _ (λ q.
             map.get-remove nat_cmp_total (map.insert m k s) k q
             ∙ ap (cond (eq_by_cmp nat_cmp q k) None) (map.get-insert nat_cmp_total m k s q)
-            ∙ folded (eq_by_cmp nat_cmp q k) (map.get m q) (Some s) (λ e. ap (map.get m) (map.nat_cmp-IsAntisymmetric q k (equal_of (nat_cmp q k) e)) ∙ absent));
+            ∙ folded (eq_by_cmp nat_cmp q k) (map.get m q) (Some s) (λ e. ap (map.get m) (same_by_cmp q k e) ∙ absent));
         next_number = inr refl;
       }
 

@@ -1,11 +1,13 @@
 //! The table of spans, to which contexts refer by number.
-ghost use Rattle.std.specs.Prelude.{◌≡◌, ◌↔◌, IsTrue, IsErr, OnOk, OnErr, IfOk, IfErr, None};
+ghost use Rattle.std.specs.Prelude.{◌≡◌, ◌↔◌, IsTrue, IsErr, OnOk, OnErr, IfOk, IfErr, None, Some};
 ghost use Rattle.std.specs.Prelude.{option_copied, alloc_error};
 ghost use Rattle.std.specs.Option.{option_copied_mut};
 ghost use Rattle.std.specs.Borrow.{sem};
 
 use std::alloc::{AllocError, Global};
 use std::collections::HashMap;
+use std::error::Error;
+use std::fmt;
 use std::marker::Model;
 
 /// The reason why a table refused a span. Not in the Rust crate.
@@ -19,6 +21,21 @@ pub enum SpanCause {
     Memory(AllocError),
 }
 
+impl fmt::Display for SpanCause {
+    ghost use Rattle.otel_context.specs.Spans.{cause_text};
+
+    ghost output = { λ cause. Some (cause_text cause) };
+
+    fn fmt<W: fmt::Write>(&self, f: &mut fmt::Formatter<W>) -> fmt::Result {
+        f.write_str(match self {
+            SpanCause::NumbersUsedUp => "no span number left",
+            SpanCause::Memory(_) => "no memory",
+        })
+    }
+}
+
+impl Error for SpanCause {}
+
 /// A refused span, and the reason. Not in the Rust crate.
 ///
 /// See `otel_examples::api::service`, which returns the span to the caller.
@@ -29,6 +46,28 @@ pub struct SpanRefused<S> {
     /// The reason for the refusal.
     pub cause: SpanCause,
 }
+
+/// Prints the reason.
+impl<S> fmt::Display for SpanRefused<S> {
+    ghost use Rattle.otel_context.specs.Spans.{cause_text};
+
+    ghost output = { λ refused. Some (cause_text refused.cause) };
+
+    fn fmt<W: fmt::Write>(&self, f: &mut fmt::Formatter<W>) -> fmt::Result {
+        fmt::Display::fmt(&self.cause, f)
+    }
+}
+
+/// Prints the reason without the span, whose type may not be `Debug`.
+impl<S> fmt::Debug for SpanRefused<S> {
+    fn fmt<W: fmt::Write>(&self, f: &mut fmt::Formatter<W>) -> fmt::Result {
+        f.debug_struct("SpanRefused")
+            .field("cause", &self.cause)
+            .finish_non_exhaustive()
+    }
+}
+
+impl<S: Drop> Error for SpanRefused<S> {}
 
 impl<S> SpanRefused<S> {
     ghost use Rattle.otel_context.specs.declared.span.spans.SpanCause.TheVariants as Cause;

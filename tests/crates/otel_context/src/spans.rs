@@ -4,7 +4,7 @@ use otel_context::{
 };
 use otel_examples::recording::RecordingSpan;
 use otel_ids::SpanId;
-use std::alloc::Global;
+use std::alloc::{AllocError, Global};
 use std::process::Abort;
 use std::test::Fail;
 use test_support::{LAST_NUMBER, NUMBERS, filled, name_of, span, span_context};
@@ -182,5 +182,38 @@ fn a_number_is_not_given_again_where_all_are_used_up(rt: HostRuntime) -> Result<
     assert!(rt; spans.insert(span(rt.alloc(), 1)).is_err());
     assert_eq!(rt; spans.len(), 2);
     assert_eq!(rt; spans.next_number(), u64::MAX);
+    Ok(())
+}
+
+/// A type with neither `Debug` nor `Display`.
+#[derive(Drop)]
+struct Silent;
+
+#[test]
+fn a_refusal_prints_its_cause_and_no_span(rt: HostRuntime) -> Result<(), Fail> {
+    let alloc = rt.alloc();
+    let rows = [
+        (
+            SpanCause::NumbersUsedUp,
+            "NumbersUsedUp",
+            "no span number left",
+        ),
+        (
+            SpanCause::Memory(AllocError),
+            "Memory(AllocError)",
+            "no memory",
+        ),
+    ];
+    for (cause, debug, text) in rows {
+        assert_eq!(rt; cause.to_string(alloc)?.as_str(), text);
+        assert_eq!(rt; format!(in alloc; "{cause:?}")?.as_str(), debug);
+        let refused = SpanRefused {
+            span: Silent,
+            cause,
+        };
+        assert_eq!(rt; refused.to_string(alloc)?.as_str(), text);
+        let wanted = format!(in alloc; "SpanRefused {{ cause: {debug}, .. }}")?;
+        assert_eq!(rt; format!(in alloc; "{refused:?}")?, wanted);
+    }
     Ok(())
 }

@@ -3,7 +3,9 @@ mod bodies;
 mod limits;
 
 use opentelemetry::context::{Context, ContextStack};
-use opentelemetry::trace::{Run, Span, SpanBuilder, SpanCause, Spans, StartError, TraceId, Tracer};
+use opentelemetry::trace::{
+    Run, Span, SpanBuilder, SpanCause, SpanRefused, Spans, StartError, TraceId, Tracer,
+};
 use opentelemetry::{Key, KeyValue, StringValue, Value};
 use otel_examples::recording::{Effect, RecordingSpan};
 use std::alloc::{AllocError, Global};
@@ -276,6 +278,45 @@ fn a_body_tells_its_span_what_happens(rt: HostRuntime) -> Result<(), Fail> {
             }
         }
         Err(_) => assert!(rt; false),
+    }
+    Ok(())
+}
+
+/// A type with neither `Debug` nor `Display`.
+#[derive(Drop)]
+struct Silent;
+
+/// A start whose span the table refused.
+fn refused(cause: SpanCause) -> StartError<Silent> {
+    StartError::Refused(SpanRefused {
+        span: Silent,
+        cause,
+    })
+}
+
+#[test]
+fn a_start_error_prints_the_step_that_failed(rt: HostRuntime) -> Result<(), Fail> {
+    let alloc = rt.alloc();
+    let rows = [
+        (
+            StartError::Build(AllocError),
+            "span not built: no memory",
+            "Build(AllocError)",
+        ),
+        (
+            refused(SpanCause::NumbersUsedUp),
+            "span refused: no span number left",
+            "Refused(SpanRefused { cause: NumbersUsedUp, .. })",
+        ),
+        (
+            refused(SpanCause::Memory(AllocError)),
+            "span refused: no memory",
+            "Refused(SpanRefused { cause: Memory(AllocError), .. })",
+        ),
+    ];
+    for (error, text, debug) in rows {
+        assert_eq!(rt; error.to_string(alloc)?.as_str(), text);
+        assert_eq!(rt; format!(in alloc; "{error:?}")?.as_str(), debug);
     }
     Ok(())
 }

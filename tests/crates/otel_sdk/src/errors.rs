@@ -1,0 +1,138 @@
+//! Each error of the API and the SDK is an error to `?`, in a program with `anyhow` and in one with
+//! `OTelSdkError`.
+use opentelemetry::propagation::PropagationError;
+use opentelemetry::trace::{SpanCause, SpanRefused, StartError};
+use otel_sdk::error::{OTelSdkError, OTelSdkResult};
+use otel_sdk::trace::{EndRefused, NotEntered};
+use std::alloc::{AllocError, Global};
+use std::io;
+use std::test::Fail;
+use test_support::span_data;
+
+/// A span type with neither `Debug` nor `Display`.
+#[derive(Drop)]
+struct Silent;
+
+/// A failed call of each of these errors.
+struct Failed;
+
+impl Failed {
+    fn cause() -> Result<(), SpanCause> {
+        Err(SpanCause::NumbersUsedUp)
+    }
+
+    fn insert() -> Result<u64, SpanRefused<Silent>> {
+        Err(SpanRefused {
+            span: Silent,
+            cause: SpanCause::NumbersUsedUp,
+        })
+    }
+
+    fn in_span() -> Result<u64, StartError<Silent>> {
+        Err(StartError::Build(AllocError))
+    }
+
+    fn inject() -> Result<(), PropagationError> {
+        Err(PropagationError::Refused)
+    }
+
+    fn read() -> io::Result<()> {
+        Err(io::Error::from(io::ErrorKind::NotFound))
+    }
+
+    fn end(alloc: Global) -> Result<(), EndRefused> {
+        let span = span_data(alloc, 1, 1).ok();
+        let error = OTelSdkError::AlreadyShutdown;
+        Err(EndRefused { span, error })
+    }
+
+    fn enter() -> Result<(), NotEntered> {
+        Err(NotEntered::PositionsUsedUp)
+    }
+}
+
+/// Fails at the step with this number, of 0 to 6.
+fn by_anyhow(alloc: Global, step: u8) -> anyhow::Result<()> {
+    match step {
+        0 => Failed::cause()?,
+        1 => drop(Failed::insert()?),
+        2 => drop(Failed::in_span()?),
+        3 => Failed::inject()?,
+        4 => Failed::read()?,
+        5 => Failed::end(alloc)?,
+        _ => Failed::enter()?,
+    }
+    Ok(())
+}
+
+/// Fails at the step with this number, of 0 to 5.
+fn by_sdk(alloc: Global, step: u8) -> OTelSdkResult {
+    match step {
+        0 => Failed::cause()?,
+        1 => drop(Failed::insert()?),
+        2 => drop(Failed::in_span()?),
+        3 => Failed::inject()?,
+        4 => Failed::read()?,
+        _ => Failed::end(alloc)?,
+    }
+    Ok(())
+}
+
+#[test]
+fn anyhow_tells_each_error(rt: HostRuntime) -> Result<(), Fail> {
+    let alloc = rt.alloc();
+    let texts = [
+        "no span number left",
+        "no span number left",
+        "span not built: no memory",
+        "refused",
+        "entity not found",
+        "Shutdown already invoked",
+        "no position left",
+    ];
+    for (step, text) in texts.iter().enumerate() {
+        let Err(error) = by_anyhow(alloc, step as u8) else {
+            return Err(Fail::from("no error"));
+        };
+        assert_eq!(rt; error.to_string(alloc)?.as_str(), *text);
+    }
+    Ok(())
+}
+
+#[test]
+fn the_error_of_the_sdk_tells_each_error(rt: HostRuntime) -> Result<(), Fail> {
+    let alloc = rt.alloc();
+    let texts = [
+        "no span number left",
+        "no span number left",
+        "no memory",
+        "propagation refused",
+        "entity not found",
+        "Shutdown already invoked",
+    ];
+    for (step, text) in texts.iter().enumerate() {
+        let Err(error) = by_sdk(alloc, step as u8) else {
+            return Err(Fail::from("no error"));
+        };
+        assert_eq!(rt; error.to_string(alloc)?.as_str(), *text);
+    }
+    Ok(())
+}
+
+#[test]
+fn a_refused_end_prints_its_error(rt: HostRuntime) -> Result<(), Fail> {
+    let alloc = rt.alloc();
+    let rows = [
+        (OTelSdkError::AlreadyShutdown, "Shutdown already invoked"),
+        (OTelSdkError::Memory(AllocError), "no memory"),
+        (
+            OTelSdkError::InternalFailure(String::from_str(alloc, "no disk")?),
+            "Operation failed: no disk",
+        ),
+    ];
+    for (error, text) in rows {
+        let refused = EndRefused { span: None, error };
+        assert_eq!(rt; refused.to_string(alloc)?.as_str(), text);
+    }
+    Ok(())
+}
