@@ -8,7 +8,8 @@ use std::marker::{Model, PhantomData};
 use std::mem::size_of;
 
 /// The batches of items that an exporter has accepted. The type has size zero, since the batches
-/// exist only in contracts. Only [`Accepted::and`] makes a longer list. Not in the Rust crates.
+/// exist only in contracts. Only [`Accepted::and`] and
+/// [`Accepted::and_one`] make a longer list. Not in the Rust crates.
 #[derive(Drop)]
 pub struct Accepted<T> {
     of: PhantomData<T>,
@@ -39,6 +40,13 @@ impl<T> Accepted<T> {
     /// Returns the list with one more batch at the end.
     pub fn and(&self, _batch: &[T]) -> Accepted<T>
         ensures { result.batches ≡ self.now.batches ++ _batch.now ∷ [] }
+    {
+        Accepted { of: PhantomData }
+    }
+
+    /// Returns the list with one more batch at the end, which contains only the item.
+    pub fn and_one(&self, _item: &T) -> Accepted<T>
+        ensures { result.batches ≡ self.now.batches ++ (_item.now ∷ []) ∷ [] }
     {
         Accepted { of: PhantomData }
     }

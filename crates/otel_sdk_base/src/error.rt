@@ -12,8 +12,8 @@ use thiserror::Error;
 /// The error of a processor or an exporter (the Rust crate's `OTelSdkError`, without `Timeout`,
 /// since nothing waits here).
 ///
-/// `?` also converts the errors of the API and of I/O, so that one error type is enough for a
-/// program. Each cause has its own variant, and out of memory is always `Memory`.
+/// `?` also converts the errors of the API, of I/O and of the end of a span, so that one error type
+/// is enough for a program. Each cause has its own variant, and out of memory is always `Memory`.
 ///
 /// ```
 /// assert!(rt; matches!(answer, Err(OTelSdkError::AlreadyShutdown)));
