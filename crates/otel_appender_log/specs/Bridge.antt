@@ -1,5 +1,5 @@
 -- The log record that a logger gets for a record of the crate `log`.
-use Rattle.std.specs.Prelude.{◌≡◌, ℕ, List, Bool, Option, Some, None, IfSome}
+use Rattle.std.specs.Prelude.{◌≡◌, ◌⊎◌, ℕ, List, Bool, true, false, Option, Some, None, IfSome}
 use Rattle.log.specs.declared.record.Metadata.{Metadata}
 use Rattle.log.specs.declared.record.Record.{Record}
 use Rattle.log.specs.Kv.{Pair}
@@ -76,18 +76,27 @@ pub record IsFilled {R : Type 0} (set : Setters R) (source : Source) (blank fill
       (metadata_target source.metadata) attributes
 
 -- `stamped` is the record with the ids and flags of the span context, if that is valid, otherwise
--- the record itself
+-- the record itself. Whether the span is sampled, and where it is from, doesn't matter.
 pub record IsStamped {R : Type 0} (MayBeTraced : R → ℕ → ℕ → Option ℕ → R → Type 0)
     (span : SpanContextRecord) (plain stamped : R) : Type 0 where
   pub traced : IsValidSpanContext span
       → MayBeTraced plain span.trace_id span.span_id (Some span.trace_flags) stamped
   pub untraced : (IsValidSpanContext span → ⊥) → stamped ≡ plain
 
--- a record that the logger made, filled from the source and then stamped with the span context
-pub record IsBridged {R : Type 0} (MayCreate : R → Type 0) (named : Ghosts R) (source : Source)
+-- A record that the logger made, filled from the source and then stamped with the span context.
+-- `MayBeStamped` relates a record to the possible results of setting its span.
+pub record IsBridged {R : Type 0} (MayCreate : R → Type 0) (named : Ghosts R)
+    (MayBeStamped : R → ℕ → ℕ → Option ℕ → R → Type 0) (source : Source)
     (span : SpanContextRecord) (bridged : R) : Type 0 where
   pub blank : R
   pub filled : R
   pub may_create : MayCreate blank
   pub is_filled : IsFilled (setters named) source blank filled
-  pub is_stamped : IsStamped named.may_be_traced span filled bridged
+  pub is_stamped : IsStamped MayBeStamped span filled bridged
+
+-- The fate of a record of the crate `log`: the logger doesn't accept such records, or its log
+-- record was emitted, or it was counted.
+abbrev pub IsLogged : {R : Type 0} → (Bool → Type 0) → (R → Type 0) → (R → Type 0) → Type 0
+    → Type 0
+IsLogged may_enable is_bridged is_emitted is_counted = may_enable false
+    ⊎ (may_enable true × (((made : _) × is_bridged made × is_emitted made) ⊎ is_counted))

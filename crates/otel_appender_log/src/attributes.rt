@@ -1,6 +1,7 @@
 //! The key-value pairs of a record, and its source location, as attributes.
 ghost use Rattle.std.specs.Prelude.{◌≡◌, [], IfOk, IfSome, OnOk};
 ghost use Rattle.std.specs.List.{FoldsTo};
+ghost use Rattle.log.specs.Kv.{value_text};
 ghost use Rattle.otel_base.specs.View.{pairs_view};
 ghost use Rattle.otel_appender_log.specs.Attributes.{TakesPair, AddsValue, has_key, with_absent};
 ghost use Rattle.otel_appender_log.specs.Location.{text_of, number_of, with_location, IsLocated};
@@ -47,7 +48,14 @@ impl VisitSource for Attributes {
     ghost visit_pair_gives = { λ before pair after.
         TakesPair (pairs_view before.pairs.items) pair (pairs_view after.pairs.items) };
 
-    fn visit_pair<D: Display>(&mut self, key: &str, value: Value<'_, D>) -> Result<(), kv::Error> {
+    // Appends the attribute of a pair. Only null is left out, and not the text `None`.
+    fn visit_pair<D: Display>(&mut self, key: &str, value: Value<'_, D>) -> Result<(), kv::Error>
+        ensures added { OnOk result (AddsValue D.output key.now value.entry
+            (pairs_view self.old.pairs.items) (pairs_view self.new.pairs.items)) }
+        ensures taken { OnOk result (IfSome (value_text D.output value.entry) (λ text.
+            TakesPair (pairs_view self.old.pairs.items) (key.now, text)
+            (pairs_view self.new.pairs.items))) }
+    {
         match push_pair(&mut self.pairs, key, &value) {
             Ok(()) => Ok(()),
             Err(_) => Err(kv::Error::msg("out of memory")),

@@ -1,20 +1,55 @@
 //! The sink that sends records of the crate `log` to a logger.
-ghost use Rattle.std.specs.Prelude.{◌≡◌, None};
+ghost use Rattle.std.specs.Prelude.{◌≡◌, true, false, None, is_some};
+ghost use Rattle.std.specs.Prelude.{IfOk, IfSome, IsNone, IsOkAnd, IsTrue, OnErr};
 ghost use Rattle.log.specs.Record.{metadata_level, metadata_target};
+ghost use Rattle.otel_context.specs.Context.{is_telemetry_suppressed, span_context};
+ghost use Rattle.otel_appender_log.specs.Bridge.{IsBridged, IsLogged, MayEnable, source_of};
 ghost use Rattle.otel_appender_log.specs.Location.{nowhere};
 ghost use Rattle.otel_appender_log.specs.Severity.{severity_of};
 
 use crate::attributes::SourceLocation;
-use crate::record::bridged_record;
+use crate::record::{StampedRecord, bridged_record};
 use crate::severity::severity_of_level;
 use log::kv::Source;
 use log::span::Spans;
 use log::{Log, Metadata, Record};
 use opentelemetry::Context;
 use opentelemetry::logs::Logger;
-use std::alloc::Global;
+use std::alloc::{AllocError, Global};
 use std::cell::Cell;
 use std::fmt::Display;
+
+/// A logger that a bridge emits records to. Every [`Logger`] is one.
+///
+/// No contract sees a change through `&self`. So each call ensures a ghost member of which code that
+/// is generic over this trait knows nothing: only the call shows it.
+pub trait EmittingLogger: Logger {
+    ghost is_emitted: { Self → Self.LogRecord → Type 0 };
+
+    ghost is_counted: { Type 0 };
+
+    /// Emits the record, as [`Logger::emit`].
+    fn emit_record(&self, emitted: Self::LogRecord)
+        ensures { is_emitted self.now emitted };
+
+    /// Counts a record that was dropped, up to `u64::MAX`.
+    fn count_dropped(dropped: &Cell<u64>)
+        ensures { is_counted };
+}
+
+impl<L: Logger> EmittingLogger for L {
+    ghost is_emitted = { λ _ _. Unit {0} };
+
+    ghost is_counted = { Unit {0} };
+
+    fn emit_record(&self, emitted: L::LogRecord) {
+        self.emit(emitted);
+    }
+
+    fn count_dropped(dropped: &Cell<u64>) {
+        dropped.set(dropped.get().saturating_add(1));
+    }
+}
 
 /// Sends the records of the crate `log` to a logger (the Rust crate's `OpenTelemetryLogBridge`).
 ///
@@ -74,10 +109,6 @@ impl<L: Logger> OpenTelemetryLogBridge<L> {
         } = self;
         logger
     }
-
-    fn count_dropped(&self) {
-        self.dropped.set(self.dropped.get().saturating_add(1));
-    }
 }
 
 /// A sink of the crate `log` that sends each record to the logger of a bridge.
@@ -93,26 +124,81 @@ pub struct BridgeSink<'a, L> {
     pub location: SourceLocation<'a>,
 }
 
-impl<L: Logger> Log for BridgeSink<'_, L> {
-    /// Returns `true` if the logger accepts records with this severity and target.
+impl<L: Logger> BridgeSink<'_, L>
+where
+    L::LogRecord: StampedRecord,
+{
+    /// Returns the log record that [`Log::log`] emits for the record: the one of
+    /// [`bridged_record`], with the active span of the context. Returns `None` if telemetry is
+    /// suppressed in the context, or if the logger doesn't accept records with this severity and
+    /// target.
+    ///
+    /// # Errors
+    ///
+    /// The errors of [`bridged_record`].
+    fn bridged<D: Display, K: Source, S>(
+        &self,
+        record: &Record<'_, D, K, S>,
+    ) -> Result<Option<L::LogRecord>, AllocError>
+        ensures suppressed { IsTrue (is_telemetry_suppressed self.now.context.now)
+            → IsOkAnd result (λ made. IsNone made) }
+        ensures asked { is_telemetry_suppressed self.now.context.now ≡ false → IfOk result (λ made.
+            MayEnable (L.may_enable self.now.bridge.now.logger) «record».now (is_some made)) }
+        ensures err { OnErr result
+            (MayEnable (L.may_enable self.now.bridge.now.logger) «record».now true) }
+        ensures bridged { IfOk result (λ made. IfSome made (
+            IsBridged (L.may_create self.now.bridge.now.logger) L.LogRecord.LogRecord
+            L.LogRecord.StampedRecord.may_be_stamped
+            (source_of D.output K.pairs «record».now self.now.location)
+            (span_context self.now.context.now))) }
+    {
+        if self.context.is_telemetry_suppressed() {
+            return Ok(None);
+        }
+        let logger = &self.bridge.logger;
+        let span = self.context.span_context();
+        bridged_record(self.bridge.alloc, logger, record, &self.location, span)
+    }
+}
+
+impl<L: Logger> Log for BridgeSink<'_, L>
+where
+    L: EmittingLogger,
+    L::LogRecord: StampedRecord,
+{
+    /// Returns `true` if the logger accepts records with this severity and target. Returns `false`
+    /// if telemetry is suppressed in the context.
     fn enabled(&self, metadata: &Metadata<'_>) -> bool
-        ensures { L.may_enable self.now.bridge.now.logger
+        ensures suppressed { IsTrue (is_telemetry_suppressed self.now.context.now)
+            → result ≡ false }
+        ensures asked { is_telemetry_suppressed self.now.context.now ≡ false
+            → L.Logger.may_enable self.now.bridge.now.logger
             (severity_of (metadata_level metadata.now)) (metadata_target metadata.now) None result }
     {
         let severity = severity_of_level(metadata.level());
-        self.bridge
-            .logger
-            .event_enabled(severity, metadata.target(), None)
+        !self.context.is_telemetry_suppressed()
+            && self
+                .bridge
+                .logger
+                .event_enabled(severity, metadata.target(), None)
     }
 
-    /// Emits the record returned by [`bridged_record`]. Counts it as dropped if out of memory.
-    fn log<D: Display, K: Source, S: Spans>(&self, record: &Record<'_, D, K, S>) {
-        let span = self.context.span_context();
-        let logger = &self.bridge.logger;
-        match bridged_record(self.bridge.alloc, logger, record, &self.location, span) {
-            Ok(Some(made)) => logger.emit(made),
+    /// Emits the log record of [`bridged_record`], with the active span of the context. Counts it as
+    /// dropped if out of memory. Does nothing if telemetry is suppressed in the context.
+    fn log<D: Display, K: Source, S: Spans>(&self, record: &Record<'_, D, K, S>)
+        ensures { let logger = self.now.bridge.now.logger in
+            is_telemetry_suppressed self.now.context.now ≡ false → IsLogged
+            (MayEnable (L.Logger.may_enable logger) «record».now)
+            (IsBridged (L.Logger.may_create logger) L.LogRecord.LogRecord
+            L.LogRecord.StampedRecord.may_be_stamped
+            (source_of D.output K.pairs «record».now self.now.location)
+            (span_context self.now.context.now))
+            (L.EmittingLogger.is_emitted logger) L.EmittingLogger.is_counted }
+    {
+        match self.bridged(record) {
+            Ok(Some(made)) => self.bridge.logger.emit_record(made),
             Ok(None) => {}
-            Err(_) => self.bridge.count_dropped(),
+            Err(_) => L::count_dropped(&self.bridge.dropped),
         }
     }
 

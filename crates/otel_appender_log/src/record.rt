@@ -1,5 +1,5 @@
 //! The log record that a logger gets for a record of the crate `log`.
-ghost use Rattle.std.specs.Prelude.{true, is_some, IfOk, IfSome, OnOk, OnErr};
+ghost use Rattle.std.specs.Prelude.{true, is_some, IfOk, IfSome, OnOk, OnErr, Some};
 ghost use Rattle.otel_appender_log.specs.Bridge.{IsFilled, IsStamped, IsBridged, MayEnable};
 ghost use Rattle.otel_appender_log.specs.Bridge.{setters, source_of};
 
@@ -9,9 +9,33 @@ use log::Record;
 use log::kv::Source;
 use opentelemetry::StringValue;
 use opentelemetry::logs::{AnyValue, LogRecord, Logger};
-use opentelemetry::trace::SpanContext;
+use opentelemetry::trace::{SpanContext, SpanId, TraceFlags, TraceId};
 use std::alloc::{AllocError, Global};
 use std::fmt::Display;
+
+/// A log record that a bridge sets the active span of. Every [`LogRecord`] is one.
+///
+/// A type of log records may ignore the span, so `may_be_traced` of [`LogRecord`] always allows the
+/// unchanged record. Of the ghost member `may_be_stamped`, code that is generic over this trait
+/// knows nothing: only a call of `set_span` shows it. So a contract that cites it says that the ids
+/// were set.
+pub trait StampedRecord: LogRecord {
+    ghost use Rattle.std.specs.Prelude.{ℕ, Option};
+
+    ghost may_be_stamped: { Self → ℕ → ℕ → Option ℕ → Self → Type 0 };
+
+    /// Sets the span that was active, as [`LogRecord::set_trace_context`].
+    fn set_span(&mut self, trace_id: TraceId, span_id: SpanId, trace_flags: TraceFlags)
+        ensures { may_be_stamped self.old trace_id span_id (Some trace_flags) self.new };
+}
+
+impl<R: LogRecord> StampedRecord for R {
+    ghost may_be_stamped = { R.may_be_traced };
+
+    fn set_span(&mut self, trace_id: TraceId, span_id: SpanId, trace_flags: TraceFlags) {
+        self.set_trace_context(trace_id, span_id, Some(trace_flags));
+    }
+}
 
 // Sets the severity, body, target and attributes.
 fn fill<R: LogRecord, D: Display, K: Source, S>(
@@ -35,12 +59,11 @@ fn fill<R: LogRecord, D: Display, K: Source, S>(
 }
 
 // Sets the ids and flags of a valid span context.
-fn stamp<R: LogRecord>(stamped: &mut R, span: &SpanContext)
-    ensures { IsStamped R.may_be_traced span.now stamped.old stamped.new }
+fn stamp<R: StampedRecord>(stamped: &mut R, span: &SpanContext)
+    ensures { IsStamped R.may_be_stamped span.now stamped.old stamped.new }
 {
     if span.is_valid() {
-        let flags = Some(span.trace_flags());
-        stamped.set_trace_context(span.trace_id(), span.span_id(), flags);
+        stamped.set_span(span.trace_id(), span.span_id(), span.trace_flags());
     }
 }
 
@@ -52,7 +75,10 @@ fn made_record<L: Logger, D: Display, K: Source, S>(
     location: &SourceLocation<'_>,
     span: &SpanContext,
 ) -> Result<L::LogRecord, AllocError>
+where
+    L::LogRecord: StampedRecord,
     ensures { IfOk result (IsBridged (L.may_create logger.now) L.LogRecord.LogRecord
+        L.LogRecord.StampedRecord.may_be_stamped
         (source_of D.output K.pairs source.now location.now) span.now) }
 {
     let mut made = logger.create_log_record(alloc)?;
@@ -66,8 +92,9 @@ fn made_record<L: Logger, D: Display, K: Source, S>(
 ///
 /// The log record has the level's name and its severity, the message's text as body, and the
 /// target. Its attributes are the key-value pairs, in order, followed by the known parts of the
-/// source location, except under keys that are present. It refers to the span if the span context
-/// is valid. It has no timestamp and no event name. The spans of the crate `log` are left out.
+/// source location, except under keys that are present. It has the ids and flags of the span
+/// context if that is valid, whether the span is sampled or not, and local or remote. It has no
+/// timestamp and no event name. The spans of the crate `log` are left out.
 ///
 /// # Errors
 ///
@@ -80,11 +107,14 @@ pub fn bridged_record<L: Logger, D: Display, K: Source, S>(
     location: &SourceLocation<'_>,
     span: &SpanContext,
 ) -> Result<Option<L::LogRecord>, AllocError>
+where
+    L::LogRecord: StampedRecord,
     ensures asked { IfOk result (λ made.
         MayEnable (L.may_enable logger.now) source.now (is_some made)) }
     ensures err { OnErr result (MayEnable (L.may_enable logger.now) source.now true) }
     ensures bridged { IfOk result (λ made. IfSome made (
         IsBridged (L.may_create logger.now) L.LogRecord.LogRecord
+        L.LogRecord.StampedRecord.may_be_stamped
         (source_of D.output K.pairs source.now location.now) span.now)) }
 {
     let severity = severity_of_level(source.level());

@@ -1,10 +1,11 @@
 -- The parts of a log record of the SDK, and the effects of calls.
-use Rattle.std.specs.Prelude.{◌≡◌, ℕ, List, [], Option, Some, None, refl}
+use Rattle.std.specs.Prelude.{◌≡◌, ℕ, List, [], Option, Some, None, IsTrue, is_some, refl}
 use Rattle.std.specs.Option.{unwrap_or}
 use Rattle.std.specs.Coded.{Coded, code_by, coded×, coded_ℕ, coded_list, coded_option}
 use Rattle.otel_base.specs.AnyValue.{Tree}
 use Rattle.otel_base.specs.InstrumentationScope.{Scope}
 use Rattle.otel_base.specs.View.{tree_code}
+use Rattle.otel_ids.specs.SpanContext.{SpanContextRecord, IsValidSpanContext}
 use Rattle.otel_sdk_logs.specs.Attributes.{Held, with_one, with_all}
 use Rattle.otel_sdk_logs.specs.declared.record.TraceContext.{TraceContext}
 
@@ -79,6 +80,14 @@ observed now log = record log {
 -- The entry is made from the record and the scope with some time that the clock may show.
 abbrev pub IsEmitted : LogState → Scope → LogEntry → Type 0
 IsEmitted log scope entry = (now : ℕ) × (entry ≡ record { log = observed now log; scope = scope })
+
+-- `emitted` is the record with the ids and flags of the span context, if that is valid and the
+-- record has no span yet, otherwise the record itself (the Rust crate's `SdkLogger::emit`)
+pub record IsInSpan (span : SpanContextRecord) (log emitted : LogState) : Type 0 where
+  pub kept : IsTrue (is_some log.trace_context) → emitted ≡ log
+  pub invalid : (IsValidSpanContext span → ⊥) → emitted ≡ log
+  pub named : log.trace_context ≡ None → IsValidSpanContext span
+      → emitted ≡ with_trace_context log span.trace_id span.span_id (Some span.trace_flags)
 
 -- ---- an encoding of records, with which proofs tell them apart
 abbrev texts_code : Coded (Option (List ℕ))

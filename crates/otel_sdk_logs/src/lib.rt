@@ -6,6 +6,7 @@
 mod attributes;
 mod export;
 mod in_memory_exporter;
+mod intake;
 mod logger;
 mod processor;
 mod provider;
@@ -13,6 +14,7 @@ mod record;
 
 pub use export::{LogData, LogExporter};
 pub use in_memory_exporter::{EmittedLogs, InMemoryLogExporter};
+pub use intake::RecordIntake;
 pub use logger::SdkLogger;
 pub use otel_sdk_base::{BatchConfig, BatchConfigBuilder};
 pub use processor::LogProcessor;

@@ -1,14 +1,17 @@
 //! The logger of the SDK.
-ghost use Rattle.std.specs.Prelude.{◌≡◌, IfOk};
+ghost use Rattle.std.specs.Prelude.{◌≡◌, true, false, IfOk, IsTrue, option_map};
 ghost use Rattle.std.specs.Option.{unwrap_or};
-ghost use Rattle.otel_sdk_logs.specs.LogRecord.{IsEmitted};
+ghost use Rattle.otel_context.specs.Context.{is_telemetry_suppressed, span_context};
+ghost use Rattle.otel_sdk_logs.specs.LogRecord.{LogState, IsEmitted, IsInSpan};
+ghost use Rattle.otel_sdk_logs.specs.Processor.{IsHandedOver};
 
 use crate::export::LogData;
+use crate::intake::RecordIntake;
 use crate::processor::LogProcessor;
 use crate::provider::LoggerProviderInner;
 use crate::record::SdkLogRecord;
-use opentelemetry::InstrumentationScope;
-use opentelemetry::logs::{Logger, Severity};
+use opentelemetry::logs::{LogRecord, Logger, Severity};
+use opentelemetry::{Context, InstrumentationScope};
 use otel_sdk_base::Clock;
 use std::alloc::{AllocError, Global};
 use std::marker::Model;
@@ -63,7 +66,64 @@ impl<P, C: Clock> SdkLogger<P, C> {
     }
 }
 
-impl<P: LogProcessor, C: Clock> Logger for SdkLogger<P, C> {
+/// Returns the record with the ids and flags of the active span of the context, unless the record
+/// already has a span or the span context isn't valid.
+fn in_context(mut emitted: SdkLogRecord, context: &Context) -> SdkLogRecord
+    ensures { IsInSpan (span_context context.now) emitted result }
+{
+    let span = context.span_context();
+    if emitted.trace_context.is_none() && span.is_valid() {
+        let flags = Some(span.trace_flags());
+        emitted.set_trace_context(span.trace_id(), span.span_id(), flags);
+    }
+    emitted
+}
+
+impl<P: RecordIntake, C: Clock> SdkLogger<P, C> {
+    /// Hands the record to the provider's processor, or counts it.
+    fn hand_over(&self, emitted: SdkLogRecord)
+        ensures { IsHandedOver (IsEmitted emitted self.now) P.is_taken P.is_counted }
+    {
+        match self.data_of(emitted) {
+            Ok(given) => self.provider.hand_in(given),
+            Err(_) => P::count_missed(&self.provider.dropped_records),
+        }
+    }
+
+    /// Emits the record in the context, as the Rust crate's `emit` does in the thread's context. A
+    /// record without a span gets the active span of the context. Does nothing if telemetry is
+    /// suppressed in the context. Not in the Rust crate.
+    pub fn emit_in(&self, context: &Context, emitted: SdkLogRecord)
+        ensures { is_telemetry_suppressed context.now ≡ false → IsHandedOver (λ entry.
+            (made : LogState) × IsInSpan (span_context context.now) emitted made
+            × IsEmitted made self.now entry) P.is_taken P.is_counted }
+    {
+        if !context.is_telemetry_suppressed() {
+            self.hand_over(in_context(emitted, context));
+        }
+    }
+
+    /// Returns `true` if the provider's processor is open and wants records with this severity,
+    /// target and event name, and telemetry isn't suppressed in the context. Not in the Rust crate.
+    pub fn event_enabled_in(
+        &self,
+        context: &Context,
+        level: Severity,
+        target: &str,
+        name: Option<&str>,
+    ) -> bool
+        ensures suppressed { IsTrue (is_telemetry_suppressed context.now) → result ≡ false }
+        ensures wanted { let asked = option_map (λ n. n.now) name.entry in
+            result ≡ true → P.is_wanted level target.now asked }
+    {
+        !context.is_telemetry_suppressed() && self.provider.is_enabled(level, target, name)
+    }
+}
+
+impl<P: LogProcessor, C: Clock> Logger for SdkLogger<P, C>
+where
+    P: RecordIntake,
+{
     ghost use Rattle.std.specs.Prelude.{◌≡◌};
     ghost use Rattle.otel_sdk_logs.specs.LogRecord.{empty};
 
@@ -79,16 +139,20 @@ impl<P: LogProcessor, C: Clock> Logger for SdkLogger<P, C> {
     }
 
     /// Hands the record to the provider's processor. Sets the observed time to now, unless it is
-    /// already set.
-    fn emit(&self, emitted: SdkLogRecord) {
-        match self.data_of(emitted) {
-            Ok(given) => self.provider.hand_in(given),
-            Err(_) => self.provider.count_dropped(),
-        }
+    /// already set. Knows no context: see [`SdkLogger::emit_in`].
+    fn emit(&self, emitted: SdkLogRecord)
+        ensures { IsHandedOver (IsEmitted emitted self.now)
+            P.RecordIntake.is_taken P.RecordIntake.is_counted }
+    {
+        self.hand_over(emitted);
     }
 
-    /// Returns whether the provider's processor is open.
-    fn event_enabled(&self, _level: Severity, _target: &str, _name: Option<&str>) -> bool {
-        self.provider.is_open()
+    /// Returns `true` if the provider's processor is open and wants such records. Knows no context:
+    /// see [`SdkLogger::event_enabled_in`].
+    fn event_enabled(&self, level: Severity, target: &str, name: Option<&str>) -> bool
+        ensures { let asked = option_map (λ n. n.now) name.entry in
+            result ≡ true → P.RecordIntake.is_wanted level target.now asked }
+    {
+        self.provider.is_enabled(level, target, name)
     }
 }

@@ -1,11 +1,13 @@
 //! Processors of log records, which hand them to an exporter.
-ghost use Rattle.std.specs.Prelude.{◌≡◌, false};
+ghost use Rattle.std.specs.Prelude.{◌≡◌, true, false, IsErrOf, OnOk, option_map};
 ghost use Rattle.otel_sdk_base.specs.Queue.{IsKeptOrDropped, with_dropped};
+ghost use Rattle.otel_sdk_base.specs.declared.error.OTelSdkError.TheVariants.{AlreadyShutdown};
 
 pub(crate) mod batch;
 pub(crate) mod simple;
 
 use crate::export::LogData;
+use opentelemetry::logs::Severity;
 use otel_sdk_base::error::OTelSdkResult;
 use otel_sdk_base::resource::Resource;
 use std::rc::Rc;
@@ -14,11 +16,14 @@ use std::rc::Rc;
 /// no threads: records are exported only during calls.
 ///
 /// The ghost member `received` gives the records that the processor received and keeps, in order,
-/// and how many it dropped. The ghost member `receives` says whether it is open.
+/// and how many it dropped. The ghost member `receives` says whether it is open. The ghost member
+/// `may_refuse` gives the severities, targets and event names of records that it may not want, by
+/// default none.
 ///
 /// See [`crate::BatchLogProcessor`].
 pub trait LogProcessor: Drop {
-    ghost use Rattle.std.specs.Prelude.{Bool};
+    ghost use Rattle.std.specs.Prelude.{ℕ, Bool, List, Option};
+    ghost use Rattle.otel_base.specs.declared.severity.Severity.{Severity};
     ghost use Rattle.otel_sdk_base.specs.Queue.{Received};
     ghost use Rattle.otel_sdk_logs.specs.LogRecord.{LogEntry};
 
@@ -26,11 +31,14 @@ pub trait LogProcessor: Drop {
 
     ghost receives: { Self → Bool };
 
+    ghost may_refuse: { Self → Severity → List ℕ → Option (List ℕ) → Type 0 } = { λ _ _ _ _. ⊥ };
+
     /// Receives a record. The record is kept, or dropped and counted.
     fn on_emit(&mut self, given: LogData)
         ensures handed_in { IsKeptOrDropped given (received self.old) (received self.new) }
         ensures closed { receives self.old ≡ false
-            → received self.new ≡ with_dropped (received self.old) };
+            → received self.new ≡ with_dropped (received self.old) }
+        ensures open { receives self.new ≡ receives self.old };
 
     /// Hands the queued records to the exporter, and flushes the exporter.
     ///
@@ -39,7 +47,9 @@ pub trait LogProcessor: Drop {
     /// `AlreadyShutdown` after [`LogProcessor::shutdown`], or the exporter's error. Records that it
     /// didn't accept stay queued, in order.
     fn force_flush(&mut self) -> OTelSdkResult
-        ensures { received self.new ≡ received self.old };
+        ensures same { received self.new ≡ received self.old }
+        ensures closed { receives self.old ≡ false → IsErrOf result AlreadyShutdown }
+        ensures open { receives self.new ≡ receives self.old };
 
     /// Flushes the processor, then shuts down the processor and its exporter. Later records are
     /// dropped and counted.
@@ -48,12 +58,27 @@ pub trait LogProcessor: Drop {
     ///
     /// `AlreadyShutdown` after an earlier call, or the exporter's error. If the flush failed, the
     /// processor stays open for another try.
-    fn shutdown(&mut self) -> OTelSdkResult;
+    fn shutdown(&mut self) -> OTelSdkResult
+        ensures ok { OnOk result (receives self.new ≡ false) }
+        ensures again { receives self.old ≡ false → IsErrOf result AlreadyShutdown }
+        ensures same { receives self.old ≡ false → received self.new ≡ received self.old }
+        ensures closed { receives self.old ≡ false → receives self.new ≡ false }
+        ensures open { receives self.new ≡ true → received self.new ≡ received self.old }
+        ensures dropped { (received self.new).dropped ≡ (received self.old).dropped };
 
     /// Returns `true` if the processor is open. An open processor keeps records unless its queue is
     /// full.
     fn is_open(&self) -> bool
         ensures { result ≡ receives self.now };
+
+    /// Returns `false` if the processor doesn't want records with this severity, target and event
+    /// name, so that they needn't be made. Returns `true` by default.
+    fn event_enabled(&self, _severity: Severity, _target: &str, _name: Option<&str>) -> bool
+        ensures { let asked = option_map (λ n. n.now) _name.entry in
+            result ≡ false → may_refuse self.now _severity _target.now asked }
+    {
+        true
+    }
 
     /// Returns the number of dropped records.
     fn dropped_records(&self) -> u64
@@ -61,6 +86,7 @@ pub trait LogProcessor: Drop {
 
     /// Sets the exporter's resource for later records. Does nothing by default.
     fn set_resource(&mut self, _resource: Rc<Resource>)
-        ensures { received self.new ≡ received self.old }
+        ensures same { received self.new ≡ received self.old }
+        ensures open { receives self.new ≡ receives self.old }
     {}
 }

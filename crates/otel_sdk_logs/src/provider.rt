@@ -1,12 +1,13 @@
 //! The provider of the SDK's loggers.
-ghost use Rattle.std.specs.Prelude.{◌≡◌, IfOk, Some, None};
+ghost use Rattle.std.specs.Prelude.{◌≡◌, ◌⊎◌, true, IfOk, Some, None, option_map};
 ghost use Rattle.std.specs.Option.{option_map_or, unwrap_or};
 ghost use Rattle.otel_sdk_base.specs.Resource.{merge, with_defaults};
 
 use crate::export::LogData;
+use crate::intake::RecordIntake;
 use crate::logger::SdkLogger;
 use crate::processor::LogProcessor;
-use opentelemetry::logs::LoggerProvider;
+use opentelemetry::logs::{LoggerProvider, Severity};
 use opentelemetry::{InstrumentationScope, StringValue};
 use otel_sdk_base::error::{OTelSdkError, OTelSdkResult};
 use otel_sdk_base::resource::Resource;
@@ -26,31 +27,30 @@ pub(crate) struct LoggerProviderInner<P, C> {
     pub dropped_records: Cell<u64>,
 }
 
-impl<P, C> LoggerProviderInner<P, C> {
-    /// Counts a record that doesn't reach the processor.
-    pub(crate) fn count_dropped(&self) {
-        let dropped = self.dropped_records.get();
-        self.dropped_records.set(dropped.saturating_add(1));
+impl<P: RecordIntake, C> LoggerProviderInner<P, C> {
+    /// Hands the record to the processor, or counts it if the processor is at work.
+    pub(crate) fn hand_in(&self, given: LogData)
+        ensures { P.is_taken given ⊎ P.is_counted }
+    {
+        match self.processor.try_borrow_mut() {
+            Ok(mut processor) => processor.take(given),
+            Err(_) => P::count_missed(&self.dropped_records),
+        }
+    }
+
+    /// Returns `true` if the processor is open, wants such records, and isn't at work.
+    pub(crate) fn is_enabled(&self, level: Severity, target: &str, name: Option<&str>) -> bool
+        ensures { let asked = option_map (λ n. n.now) name.entry in
+            result ≡ true → P.is_wanted level target.now asked }
+    {
+        match self.processor.try_borrow() {
+            Ok(processor) => processor.wants(level, target, name),
+            Err(_) => false,
+        }
     }
 }
 
 impl<P: LogProcessor, C> LoggerProviderInner<P, C> {
-    /// Hands the record to the processor, or counts it if the processor is at work.
-    pub(crate) fn hand_in(&self, given: LogData) {
-        match self.processor.try_borrow_mut() {
-            Ok(mut processor) => processor.on_emit(given),
-            Err(_) => self.count_dropped(),
-        }
-    }
-
-    /// Returns `true` if the processor is open and isn't at work.
-    pub(crate) fn is_open(&self) -> bool {
-        match self.processor.try_borrow() {
-            Ok(processor) => processor.is_open(),
-            Err(_) => false,
-        }
-    }
-
     /// Returns the number of records dropped here and by the processor.
     fn dropped_records(&self) -> u64 {
         let dropped = self.dropped_records.get();

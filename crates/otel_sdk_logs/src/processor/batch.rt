@@ -1,5 +1,5 @@
 //! The processor that exports log records in batches.
-ghost use Rattle.std.specs.Prelude.{◌≡◌, ◌≤◌, false, not, length, IfOk};
+ghost use Rattle.std.specs.Prelude.{◌≡◌, ◌≤◌, true, false, not, length, IfOk};
 ghost use Rattle.otel_sdk_base.specs.QueueView as queue_view;
 
 use crate::export::{LogData, LogExporter};
@@ -103,7 +103,10 @@ impl<E: LogExporter> LogProcessor for BatchLogProcessor<E> {
     }
 
     fn shutdown(&mut self) -> OTelSdkResult
-        ensures { IsShutDown E.accepted E.shuts_down result (state self.old) (state self.new) }
+        ensures shut_down { IsShutDown E.accepted E.shuts_down result
+            (state self.old) (state self.new) }
+        ensures open { not (state self.new).is_shut_down ≡ true
+            → received_of E.accepted (state self.new) ≡ received_of E.accepted (state self.old) }
     {
         self.queue.shutdown()
     }

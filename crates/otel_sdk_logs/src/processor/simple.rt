@@ -1,5 +1,5 @@
 //! The processor that exports each log record when it is emitted.
-ghost use Rattle.std.specs.Prelude.{◌≡◌, false, not, length, IfOk};
+ghost use Rattle.std.specs.Prelude.{◌≡◌, true, false, not, length, IfOk};
 ghost use Rattle.otel_sdk_base.specs.Queue as spec;
 ghost use Rattle.otel_sdk_base.specs.Queue.{IsFlushed, IsForceFlushed, IsKeptOrDropped, IsShutDown};
 ghost use Rattle.otel_sdk_base.specs.Queue.{OnlyExporterChanges, received_of, with_dropped};
@@ -92,8 +92,11 @@ impl<E: LogExporter> LogProcessor for SimpleLogProcessor<E> {
     }
 
     fn shutdown(&mut self) -> OTelSdkResult
-        ensures { IsShutDown E.accepted E.shuts_down result
+        ensures shut_down { IsShutDown E.accepted E.shuts_down result
             (simple_state self.old) (simple_state self.new) }
+        ensures open { simple_is_open self.new ≡ true
+            → received_of E.accepted (simple_state self.new)
+            ≡ received_of E.accepted (simple_state self.old) }
     {
         self.inner.shutdown()
     }

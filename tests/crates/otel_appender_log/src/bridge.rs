@@ -32,6 +32,18 @@ fn context(alloc: Global, trace: u128, span: u64) -> Result<Context, AllocError>
     Context::new().with_remote_span_context(alloc, span_context)
 }
 
+/// Returns a context whose active span has the ids 7, these flags and this origin.
+fn span_context(alloc: Global, flags: u8, is_remote: bool) -> Result<Context, AllocError> {
+    let span_context = SpanContext::new(
+        TraceId::from(7),
+        SpanId::from(7),
+        TraceFlags::new(flags),
+        is_remote,
+        TraceState::NONE,
+    );
+    Context::new().with_remote_span_context(alloc, span_context)
+}
+
 /// Returns the only record that the bridge emitted.
 fn only_record(rt: &impl Abort, bridge: Bridge) -> SdkLogRecord {
     assert_eq!(rt; bridge.dropped_records(), 0);
@@ -100,6 +112,64 @@ fn an_invalid_span_is_not_named(rt: HostRuntime) -> Result<(), Fail> {
         info!(logger; "started");
         assert!(rt; only_record(&rt, bridge).trace_context.is_none());
     }
+    Ok(())
+}
+
+#[test]
+fn unsampled_and_remote_spans_are_named(rt: HostRuntime) -> Result<(), Fail> {
+    let alloc = rt.alloc();
+    for (flags, is_remote) in [(0, false), (0, true), (1, true), (2, false)] {
+        let context = span_context(alloc, flags, is_remote)?;
+        let bridge = bridge(alloc, Severity::Trace)?;
+        let logger = Logged::new(rt, Level::Trace, bridge.sink(&context));
+        info!(logger; "started");
+        let span = only_record(&rt, bridge).trace_context.expect(&rt, "a span");
+        assert_eq!(rt; span.trace_id, TraceId::from(7));
+        assert_eq!(rt; span.span_id, SpanId::from(7));
+        assert_eq!(rt; span.trace_flags, Some(TraceFlags::new(flags)));
+    }
+    Ok(())
+}
+
+#[test]
+fn each_record_is_emitted_once_in_order(rt: HostRuntime) -> Result<(), Fail> {
+    let alloc = rt.alloc();
+    let bridge = bridge(alloc, Severity::Trace)?;
+    let context = Context::new();
+    let logger = Logged::new(rt, Level::Trace, bridge.sink(&context));
+    info!(logger; "1");
+    warn!(logger; "2");
+    info!(logger; "1");
+    assert_eq!(rt; bridge.dropped_records(), 0);
+    let emitted = bridge.into_logger().into_emitted();
+    assert_eq!(rt; emitted.len(), 3);
+    for (record, body) in emitted.iter().zip(["1", "2", "1"].iter()) {
+        assert!(rt; record.body == Some(AnyValue::from(*body)));
+    }
+    Ok(())
+}
+
+#[test]
+fn suppressed_telemetry_emits_nothing(rt: HostRuntime) -> Result<(), Fail> {
+    let alloc = rt.alloc();
+    let bridge = bridge(alloc, Severity::Trace)?;
+    let context = context(alloc, 1, 1)?;
+    let suppressed = context.with_telemetry_suppressed(alloc)?;
+    let sink = bridge.sink(&suppressed);
+    assert!(rt; !sink.enabled(&Metadata::new(Level::Error, "t")));
+    // `Logged` doesn't ask `enabled` of its sink.
+    let record = log::Record::new(Metadata::new(Level::Error, "t"), "m", (), ());
+    sink.log(&record);
+    let logger = Logged::new(rt, Level::Trace, sink);
+    error!(logger; "m");
+    assert_eq!(rt; bridge.dropped_records(), 0);
+    assert!(rt;
+        bridge
+            .sink(&context)
+            .enabled(&Metadata::new(Level::Error, "t"))
+    );
+    bridge.sink(&context).log(&record);
+    assert_eq!(rt; bridge.into_logger().into_emitted().len(), 1);
     Ok(())
 }
 
@@ -200,6 +270,25 @@ fn a_key_that_is_there_stays(rt: HostRuntime) -> Result<(), Fail> {
         &[
             ("code.line.number", AnyValue::Int(1)),
             ("code.namespace", AnyValue::from("cart::price")),
+        ],
+    );
+    Ok(())
+}
+
+#[test]
+fn a_text_that_prints_as_null_stays(rt: HostRuntime) -> Result<(), Fail> {
+    let alloc = rt.alloc();
+    let bridge = bridge(alloc, Severity::Trace)?;
+    let context = Context::new();
+    let logger = Logged::new(rt, Level::Trace, bridge.sink(&context));
+    info!(logger; owner = "None", price = None::<u8>, heir = Some("None"); "m");
+    let record = only_record(&rt, bridge);
+    assert_attributes(
+        &rt,
+        &record,
+        &[
+            ("owner", AnyValue::from("None")),
+            ("heir", AnyValue::from("None")),
         ],
     );
     Ok(())

@@ -8,6 +8,8 @@ use otel_sdk_logs::{
     SimpleLogProcessor,
 };
 use std::alloc::{AllocError, Global};
+use std::cell::Cell;
+use std::process::Abort;
 use std::rc::Rc;
 use std::test::Fail;
 
@@ -128,5 +130,98 @@ fn a_simple_processor_exports_at_once(rt: HostRuntime) -> Result<(), Fail> {
     assert_eq!(rt; processor.queued_records(), 0);
     assert_eq!(rt; processor.dropped_records(), 0);
     assert_eq!(rt; processor.exporter().log.as_str(), "[1]![1][2]");
+    Ok(())
+}
+
+/// An exporter whose flush and shutdown fail with the words `flush` and `shutdown` while they are to
+/// fail. It counts both calls.
+#[derive(Drop)]
+pub struct Failing {
+    alloc: Global,
+    pub fails_to_flush: Cell<bool>,
+    pub fails_to_shut_down: Cell<bool>,
+    pub flushes: Cell<u64>,
+    pub shutdowns: Cell<u64>,
+}
+
+impl Failing {
+    fn answer(&self, fails: bool, words: &str) -> OTelSdkResult {
+        if fails {
+            return Err(OTelSdkError::InternalFailure(String::from_str(self.alloc, words)?));
+        }
+        Ok(())
+    }
+}
+
+impl Exporter<LogData> for Failing {
+    ghost accepted = { λ _. [] };
+
+    ghost shuts_down = { λ _ _. Unit {0} };
+
+    fn export(&mut self, _batch: &[LogData]) -> OTelSdkResult {
+        Ok(())
+    }
+
+    fn force_flush(&mut self) -> OTelSdkResult {
+        self.flushes.set(self.flushes.get() + 1);
+        self.answer(self.fails_to_flush.get(), "flush")
+    }
+
+    fn shutdown(&mut self) -> OTelSdkResult {
+        self.shutdowns.set(self.shutdowns.get() + 1);
+        self.answer(self.fails_to_shut_down.get(), "shutdown")
+    }
+}
+
+pub fn failing(alloc: Global) -> Failing {
+    Failing {
+        alloc,
+        fails_to_flush: Cell::new(true),
+        fails_to_shut_down: Cell::new(true),
+        flushes: Cell::new(0),
+        shutdowns: Cell::new(0),
+    }
+}
+
+/// Returns whether the answer is the internal failure with these words.
+pub fn is_failure(answer: OTelSdkResult, words: &str) -> bool {
+    match answer {
+        Err(OTelSdkError::InternalFailure(given)) => given.as_str() == words,
+        _ => false,
+    }
+}
+
+/// Runs the processor of a failing exporter, which `exporter` returns. The exporter's own error is
+/// the answer of each call that runs it.
+fn run_failing<P: LogProcessor, F: Fn(&P) -> &Failing>(
+    rt: &impl Abort,
+    mut processor: P,
+    exporter: F,
+) {
+    assert!(rt; is_failure(processor.force_flush(), "flush"));
+    assert_eq!(rt; exporter(&processor).flushes.get(), 1);
+    assert!(rt; is_failure(processor.shutdown(), "flush"));
+    assert!(rt; processor.is_open());
+    assert_eq!(rt; exporter(&processor).flushes.get(), 2);
+    assert_eq!(rt; exporter(&processor).shutdowns.get(), 0);
+    exporter(&processor).fails_to_flush.set(false);
+    assert!(rt; processor.force_flush().is_ok());
+    assert_eq!(rt; exporter(&processor).flushes.get(), 3);
+    assert!(rt; is_failure(processor.shutdown(), "shutdown"));
+    assert!(rt; !processor.is_open());
+    assert_eq!(rt; exporter(&processor).shutdowns.get(), 1);
+    assert!(rt; matches!(processor.force_flush(), Err(OTelSdkError::AlreadyShutdown)));
+    assert!(rt; matches!(processor.shutdown(), Err(OTelSdkError::AlreadyShutdown)));
+    assert_eq!(rt; exporter(&processor).flushes.get(), 4);
+    assert_eq!(rt; exporter(&processor).shutdowns.get(), 1);
+}
+
+#[test]
+fn the_exporter_s_own_errors_are_the_answers(rt: HostRuntime) -> Result<(), Fail> {
+    let alloc = rt.alloc();
+    let processor = BatchLogProcessor::new(alloc, failing(alloc), two())?;
+    run_failing(&rt, processor, |p| p.exporter());
+    let processor = SimpleLogProcessor::new(alloc, failing(alloc))?;
+    run_failing(&rt, processor, |p| p.exporter());
     Ok(())
 }
