@@ -13,4 +13,8 @@ pub mod OneText
 pub mod Scopes
 pub mod LinesWritten
 pub mod TreeValues
+pub mod CutParts
+pub mod WholeTrees
 pub mod Writing
+pub mod Sorting
+pub mod SortedEntries

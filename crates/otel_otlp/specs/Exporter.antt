@@ -1,7 +1,8 @@
 -- The view of an exporter that writes lines of JSON, and the bytes that its writer gets
 -- [OpenTelemetry protocol file exporter, "JSON Lines file"].
 use Rattle.std.specs.Prelude.{◌≡◌, ◌⊎◌, ◌<◌, ℕ, Bool, true, false, List, [], ◌∷◌, ◌++◌, length}
-use Rattle.std.specs.Prelude.{take, Option, Result, ⊤, IsTrue, OnOk, IsErrOf, if◌then◌else◌}
+use Rattle.std.specs.Prelude.{take, Option, Result, ⊤, IsTrue, OnOk, IfErr, IsErrOf}
+use Rattle.std.specs.Prelude.{if◌then◌else◌}
 use Rattle.std.specs.Io.KnownBytes.{Appends}
 use Rattle.otel_sdk_base.specs.Resource as resource
 use Rattle.otel_sdk_base.specs.Resource.{Parts}
@@ -28,6 +29,12 @@ initial writer = record {
   is_shut_down = false;
 }
 
+-- the exporter, with a newline pending: it is written before the next line
+abbrev pub with_pending_newline : {W R : Type 0} → Exporting W R → Exporting W R
+with_pending_newline e = record e {
+  lines = record { writer = e.lines.writer; newline_is_pending = true };
+}
+
 -- ---- bytes
 -- a newline, U+000A, if it is pending
 abbrev pub pending : Bool → List ℕ
@@ -48,10 +55,12 @@ Writes contents old new lines =
     LinesWritten (contents old.writer) (contents new.writer)
     old.newline_is_pending new.newline_is_pending lines
 
--- a truncated line: a proper prefix of the text's bytes, and a newline; or nothing
+-- a truncated line: the first bytes of the text, at least one and not all, and a newline; or
+-- nothing
 abbrev pub IsCutOff : List ℕ → List ℕ → Type 0
 IsCutOff text line =
-    (line ≡ []) ⊎ ((n : ℕ) × (n < length text) × (line ≡ take n text ++ 10 ∷ []))
+    (line ≡ [])
+    ⊎ ((n : ℕ) × (0 < n) × (n < length text) × (line ≡ take n text ++ 10 ∷ []))
 
 -- ---- the lines of batches
 -- the line of the batch: the text of its object, and a newline; nothing for an empty batch
@@ -68,6 +77,11 @@ IsCutOffLineOf form resource batch line =
     ⊎ ((text : List ℕ) × IsTextOf text (batch_value form resource batch) × IsCutOff text line)
 
 -- ---- calls
+-- the error says that the writer failed
+abbrev pub IsFailure : OTelSdkError → Type 0
+IsFailure (error.InternalFailure message) = ⊤
+IsFailure other = ⊥
+
 -- an exporter that was shut down returns this error and is unchanged, and no other returns it
 pub record RefusesIfShutDown {W R : Type 0} (result : Result ⊤ OTelSdkError)
     (old new : Exporting W R) : Type 0 where
@@ -75,20 +89,23 @@ pub record RefusesIfShutDown {W R : Type 0} (result : Result ⊤ OTelSdkError)
   pub only_then : IsErrOf result error.AlreadyShutdown → IsTrue old.is_shut_down
   pub unchanged : IsTrue old.is_shut_down → new ≡ old
 
--- only the pending newline is written, and on `Ok` it is written; the call never returns that the
--- exporter was shut down
+-- only the pending newline is written, and on `Ok` it is written; each error says that the writer
+-- failed, so none that the exporter was shut down
 pub record Flushes {W : Type 0} (contents : W → Option (List ℕ)) (result : Result ⊤ OTelSdkError)
     (old new : Lines W) : Type 0 where
   pub written : OnOk result (new.newline_is_pending ≡ false)
   pub writes : Writes contents old new []
   pub goes_on : IsErrOf result error.AlreadyShutdown → ⊥
+  pub fails : IfErr result IsFailure
 
--- only the pending newline is written, and on `Ok` it is written; nothing else changes
+-- only the pending newline is written, and on `Ok` it is written; nothing else changes. Each error
+-- of an exporter that wasn't shut down says that the writer failed
 pub record ForceFlushes {W R : Type 0} (contents : W → Option (List ℕ))
     (result : Result ⊤ OTelSdkError) (old new : Exporting W R) : Type 0 where
   pub refuses : RefusesIfShutDown result old new
   pub written : OnOk result (new.lines.newline_is_pending ≡ false)
   pub writes : Writes contents old.lines new.lines []
+  pub fails : old.is_shut_down ≡ false → IfErr result IsFailure
   pub rest : new ≡ record old { lines = new.lines }
 
 -- the same, and the exporter is shut down
@@ -97,4 +114,5 @@ pub record ShutsDown {W R : Type 0} (contents : W → Option (List ℕ))
   pub refuses : RefusesIfShutDown result old new
   pub written : OnOk result (new.lines.newline_is_pending ≡ false)
   pub writes : Writes contents old.lines new.lines []
+  pub fails : old.is_shut_down ≡ false → IfErr result IsFailure
   pub rest : new ≡ record old { lines = new.lines; is_shut_down = true }

@@ -34,11 +34,6 @@ module _ {R : Type 0} (scope_of : R → Scope) where
       ∷ list_member name (map value_of (filter (is_of of) records))
       ++ text_if_given (codes "schemaUrl") of.schema_url)
 
-  -- this group of the scope of a record, unless an earlier record belongs to that scope
-  abbrev pub new_group : (R → Data) → List ℕ → List R → List R → R → List Data
-  new_group value_of name records before r =
-      map (scope_group value_of name records) (new_scope before r)
-
 -- ---- resources
 -- the groups of one resource (the protocol's `ResourceSpans` and `ResourceLogs`)
 abbrev pub resource_group : Parts → List ℕ → List Data → Data

@@ -3,6 +3,10 @@ pub mod Lossless
 pub mod Common
 pub mod Groups
 pub mod Exporter
+pub mod Trees
 pub mod Logs
 pub mod Traces
 pub mod View
+pub mod Written
+pub mod Sorted
+pub mod SortedView

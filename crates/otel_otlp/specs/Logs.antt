@@ -1,11 +1,12 @@
 -- The messages of log records [opentelemetry/proto/logs/v1/logs.proto].
-use Rattle.std.specs.Prelude.{◌≡◌, ℕ, List, [], ◌∷◌, ◌++◌, map, codes, Option, Some, None}
+use Rattle.std.specs.Prelude.{◌≡◌, ℕ, ◌+◌, List, [], ◌∷◌, ◌++◌, map, codes, Option, Some, None}
 use Rattle.std.specs.Prelude.{if◌then◌else◌, refl, Bool, true}
 use Rattle.std.specs.List.{list_any}
 use Rattle.std.specs.Str.{bytes_eq}
 use Rattle.otel_base.specs.AnyValue as any
 use Rattle.otel_base.specs.AnyValue.{Tree}
 use Rattle.otel_base.specs.InstrumentationScope.{Scope}
+use Rattle.otel_sdk_base.specs.Attributes.{up_by}
 use Rattle.otel_sdk_logs.specs.Attributes.{Attribute}
 use Rattle.otel_sdk_logs.specs.LogRecord.{LogState, LogEntry, empty}
 use Rattle.otel_sdk_logs.specs.declared.record.TraceContext.{TraceContext}
@@ -18,6 +19,7 @@ use Rattle.otel_otlp.specs.Json.{Member, object_of, text_member, text_if_given}
 use Rattle.otel_otlp.specs.Json.{decimal_member, number_if_given, decimal_if_given}
 use Rattle.otel_otlp.specs.Json.{number_unless_zero, list_unless_empty}
 use Rattle.otel_otlp.specs.Json.{trace_id_text, span_id_text}
+use Rattle.otel_otlp.specs.Trees.{max_levels, cut, cut_parts_of_body, cut_parts_of_attributes}
 
 -- ---- LogRecord
 -- the times at which the event happened and was observed
@@ -26,10 +28,11 @@ times l =
     decimal_if_given (codes "timeUnixNano") l.timestamp
     ++ decimal_if_given (codes "observedTimeUnixNano") l.observed_timestamp
 
--- the member `body`, left out if there is none
+-- the member `body`, left out if there is none; its lists and maps within `max_levels` others are
+-- cut
 abbrev pub body_member : Option Tree → List Member
 body_member None = []
-body_member (Some body) = (codes "body", tree_value body) ∷ []
+body_member (Some body) = (codes "body", tree_value (cut max_levels body)) ∷ []
 
 -- the content of the record; a severity is its number, from 1 for `TRACE` to 24 for `FATAL4`
 abbrev pub content : LogState → List Member
@@ -39,8 +42,9 @@ content l =
     ++ text_if_given (codes "eventName") l.event_name
     ++ body_member l.body
 
+-- an attribute, cut as a body is
 abbrev pub attribute : Attribute → Data
-attribute a = pair a.0 (tree_value a.1)
+attribute a = pair a.0 (tree_value (cut max_levels a.1))
 
 -- whether the attribute has the key `log.target`
 abbrev pub is_target : Attribute → Bool
@@ -57,11 +61,17 @@ target_attribute held (Some target) =
 abbrev pub attributes : LogState → List Attribute
 attributes l = l.attributes ++ target_attribute l.attributes l.target
 
--- the attributes, and the number of attributes that were dropped because of the limit
+-- the number of attributes that were dropped because of the limit, plus the number of parts of the
+-- attributes and the body that are cut, saturating
+abbrev pub dropped : LogState → ℕ
+dropped l =
+    up_by l.dropped_attributes (cut_parts_of_attributes l.attributes + cut_parts_of_body l.body)
+
+-- the attributes, and the number of attributes that were dropped and parts that are cut
 abbrev pub details : LogState → List Member
 details l =
     list_unless_empty (codes "attributes") (map attribute (attributes l))
-    ++ number_unless_zero (codes "droppedAttributesCount") l.dropped_attributes
+    ++ number_unless_zero (codes "droppedAttributesCount") (dropped l)
 
 -- the span that was active; bits 0 to 7 of the flags are the trace flags
 abbrev pub trace_members : Option TraceContext → List Member

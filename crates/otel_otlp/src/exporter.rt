@@ -2,7 +2,8 @@
 ghost use Rattle.std.specs.Prelude.{◌≡◌, ℕ, List, [], ◌∷◌, ◌++◌, true, false};
 ghost use Rattle.std.specs.Prelude.{IsTrue, IsOk, IfOk, OnOk, OnErr, IsErrOf, alloc_error};
 ghost use Rattle.std.specs.Rc.{rc_value};
-ghost use Rattle.otel_otlp.specs.Exporter.{initial, Writes, IsLineOf, IsCutOffLineOf};
+ghost use Rattle.otel_otlp.specs.Exporter.{initial, with_pending_newline, Writes};
+ghost use Rattle.otel_otlp.specs.Exporter.{IsLineOf, IsCutOffLineOf};
 ghost use Rattle.otel_otlp.specs.Exporter.{RefusesIfShutDown, ForceFlushes, ShutsDown};
 
 use crate::groups::{Grouped, batch_text};
@@ -26,7 +27,8 @@ use std::rc::Rc;
 /// exporter.export(batch)?;
 /// ```
 ///
-/// A line is built in memory and then handed to the writer, which should have no buffer. The batch
+/// A line is built in memory, with its newline, and then handed to the writer, which should have no
+/// buffer: in one call, unless the writer takes only a part of it. The batch
 /// is accepted if and only if the writer accepted every byte of its object. If a line was cut off,
 /// its missing newline is written before the next line, on flush and on shutdown, so the fragment
 /// is a line by itself, and no item can be read twice.
@@ -46,6 +48,9 @@ pub struct OtlpJsonExporter<W, R> {
 pub type OtlpJsonSpanExporter<W> = OtlpJsonExporter<W, SpanData>;
 
 /// Writes each batch of log records as a line of JSON.
+///
+/// In a record's body and attributes, each list or map inside 32 others is cut: the text `..` is
+/// written in its place, and it adds 1 to the record's count of dropped attributes.
 pub type OtlpJsonLogExporter<W> = OtlpJsonExporter<W, LogData>;
 
 impl<W, R> Model for OtlpJsonExporter<W, R> {
@@ -84,7 +89,7 @@ fn write_batch<W: Write, R: Grouped>(
         return Ok(());
     }
     let text = batch_text(alloc, resource, batch)?;
-    lines.write_line(alloc, text.as_str())
+    lines.write_line(alloc, text)
 }
 
 impl<W: Write, R> OtlpJsonExporter<W, R> {
@@ -110,6 +115,16 @@ impl<W: Write, R> OtlpJsonExporter<W, R> {
             is_shut_down: false,
             accepted: Accepted::new(),
         })
+    }
+
+    /// Sets that the writer's last line has no newline yet, as in a file whose last line another
+    /// program didn't finish. The newline is written before the next line, on flush and on
+    /// shutdown.
+    pub fn with_pending_newline(mut self) -> OtlpJsonExporter<W, R>
+        ensures { result ≡ with_pending_newline self }
+    {
+        self.lines.newline_is_pending = true;
+        self
     }
 
     /// Returns the writer.
@@ -169,8 +184,7 @@ impl<W: Write + Drop, R: Grouped> Exporter<R> for OtlpJsonExporter<W, R> {
     /// # Errors
     ///
     /// - `AlreadyShutdown` after [`Exporter::shutdown`].
-    /// - `InternalFailure` if the writer failed.
-    /// - `Memory` if the writer failed and memory ran out too.
+    /// - `InternalFailure` if the writer failed. Its text is empty if out of memory.
     fn force_flush(&mut self) -> OTelSdkResult
         ensures same { self.new.accepted ≡ self.old.accepted }
         ensures flushes { ForceFlushes W.contents result self.old self.new }
@@ -187,8 +201,7 @@ impl<W: Write + Drop, R: Grouped> Exporter<R> for OtlpJsonExporter<W, R> {
     /// # Errors
     ///
     /// - `AlreadyShutdown` on a second call.
-    /// - `InternalFailure` if the writer failed.
-    /// - `Memory` if the writer failed and memory ran out too.
+    /// - `InternalFailure` if the writer failed. Its text is empty if out of memory.
     fn shutdown(&mut self) -> OTelSdkResult
         ensures down { self.new ≡ record self.old {
           lines = self.new.lines;

@@ -1,12 +1,14 @@
 //! Groups records by scope, and scopes under a resource, for the messages of traces and of logs.
-ghost use Rattle.std.specs.Prelude.{◌≡◌, [], ◌∷◌, ◌++◌, IfOk, OnOk, map, filter, string_bytes};
-ghost use Rattle.std.specs.List.{list_any};
+ghost use Rattle.std.specs.Prelude.{◌≡◌, [], ◌∷◌, IfOk, OnOk, map, string_bytes};
 ghost use Rattle.serde_json.specs.View.{view};
 ghost use Rattle.otel_otlp.specs.Groups as spec;
+ghost use Rattle.otel_otlp.specs.Sorted as sorted;
+ghost use Rattle.otel_otlp.specs.SortedView.{groups_view};
 ghost use Rattle.otel_otlp.specs.Json.{object_of, list_member, IsTextOf};
 
 use crate::common::{instrumentation_scope, resource};
 use crate::object::{put_list, put_text_if_given, to_text};
+use indexmap::IndexMap;
 use opentelemetry::InstrumentationScope;
 use otel_sdk_base::resource::Resource;
 use serde_json::{Map, Value, put};
@@ -52,89 +54,73 @@ pub trait Grouped: Drop {
         ensures items { result.items.now ≡ form.items };
 }
 
-/// Returns `true` if the record belongs to the scope.
-fn is_of<R: Grouped>(scope: &InstrumentationScope, item: &R) -> bool
-    ensures { result ≡ spec.is_of R.form.scope_of scope.now item.now }
-{
-    *item.scope() == *scope
-}
+/// The values of the items of each scope, in the order in which the scopes first appear. An item is
+/// added in constant time.
+type ByScope = IndexMap<InstrumentationScope, Vec<Value>>;
 
-/// Returns the records of the scope, in order.
-fn records_of<R: Grouped>(
+/// Adds the value to the group of the scope.
+fn put_in_group(
+    groups: &mut ByScope,
     alloc: Global,
-    batch: &[R],
     scope: &InstrumentationScope,
-) -> Result<Vec<Value>, AllocError>
-    ensures { IfOk result (λ v. map view v.items
-        ≡ map R.form.value_of (filter (spec.is_of R.form.scope_of scope.now) batch.now)) }
+    value: Value,
+) -> Result<(), AllocError>
+    ensures { OnOk result (groups_view groups.new.entries
+        ≡ sorted.put_in_group (groups_view groups.old.entries) scope.now (view value)) }
 {
-    let mut values = Vec::new(alloc);
-    for item in batch {
-        if is_of(scope, item) {
-            values.push(item.value(alloc)?)?;
-        }
+    if let Some(values) = groups.get_mut(scope) {
+        values.push(value)?;
+        return Ok(());
     }
-    Ok(values)
+    let mut values = Vec::new(alloc);
+    values.push(value)?;
+    groups.insert(scope.clone()?, values)?;
+    Ok(())
 }
 
-/// Returns the records of the scope, with the scope (the protocol's `ScopeSpans`, `ScopeLogs`).
-fn scope_group<R: Grouped>(
+/// Sorts the values of the items by scope.
+fn sort<R: Grouped>(alloc: Global, batch: &[R]) -> Result<ByScope, AllocError>
+    ensures { IfOk result (λ m. groups_view m.entries
+        ≡ sorted.sort R.form.scope_of R.form.value_of batch.now) }
+{
+    let mut groups = IndexMap::new(alloc);
+    for item in batch {
+        let value = item.value(alloc)?;
+        put_in_group(&mut groups, alloc, item.scope(), value)?;
+    }
+    Ok(groups)
+}
+
+/// Returns the values of a group, with its scope (the protocol's `ScopeSpans`, `ScopeLogs`).
+fn scope_group(
     alloc: Global,
     name: &str,
-    batch: &[R],
     scope: &InstrumentationScope,
+    values: Vec<Value>,
 ) -> Result<Value, AllocError>
     ensures { IfOk result (λ v. view v
-        ≡ spec.scope_group R.form.scope_of R.form.value_of name.now batch.now scope.now) }
+        ≡ sorted.scope_group name.now (scope.now, map view values.items)) }
 {
     let mut members = Map::new(alloc);
     let of = instrumentation_scope(alloc, scope)?;
     put(&mut members, alloc, "scope", of)?;
-    let records = records_of(alloc, batch, scope)?;
-    put_list(&mut members, alloc, name, records)?;
+    put_list(&mut members, alloc, name, values)?;
     put_text_if_given(&mut members, alloc, "schemaUrl", scope.schema_url())?;
     Ok(Value::from(members))
 }
 
-/// Returns `true` if one of the records belongs to the scope.
-fn appears<R: Grouped>(scope: &InstrumentationScope, records: &[R]) -> bool
-    ensures { result ≡ list_any (spec.is_of R.form.scope_of scope.now) records.now }
-{
-    records.iter().any(|item| is_of(scope, item))
-}
-
-/// Adds the group of the record's scope, unless an earlier record belongs to that scope.
-fn add_group<R: Grouped>(
-    values: &mut Vec<Value>,
-    alloc: Global,
-    name: &str,
-    batch: &[R],
-    before: &[R],
-    item: &R,
-) -> Result<(), AllocError>
-    ensures { OnOk result (map view values.new.items ≡ map view values.old.items
-        ++ spec.new_group R.form.scope_of R.form.value_of name.now batch.now before.now item.now) }
-{
-    if appears(item.scope(), before) {
-        return Ok(());
-    }
-    let group = scope_group(alloc, name, batch, item.scope())?;
-    values.push(group)?;
-    Ok(())
-}
-
 /// Returns the group of each scope, in the order in which the scopes first appear. Each group lists
-/// its records under `name`.
+/// its items under `name`. Takes time linear in the number of items.
 fn groups<R: Grouped>(alloc: Global, name: &str, batch: &[R]) -> Result<Vec<Value>, AllocError>
     ensures { IfOk result (λ v. map view v.items
         ≡ map (spec.scope_group R.form.scope_of R.form.value_of name.now batch.now)
         (spec.first_scopes R.form.scope_of [] batch.now)) }
 {
-    let mut values = Vec::new(alloc);
-    for (place, item) in batch.iter().enumerate() {
-        add_group(&mut values, alloc, name, batch, &batch[..place], item)?;
+    let mut groups = Vec::new(alloc);
+    for (scope, values) in sort(alloc, batch)? {
+        groups.push(scope_group(alloc, name, &scope, values)?)?;
     }
-    Ok(values)
+    Ok(groups)
 }
 
 /// Returns the groups of the resource (the protocol's `ResourceSpans`, `ResourceLogs`).

@@ -1,6 +1,7 @@
 //! Laws of the definitions, each the contract of a function that does nothing.
 ghost use Rattle.otel_otlp.specs.Lossless.{EqualValuesSaySame, EqualGroupsNameSame};
 ghost use Rattle.otel_otlp.specs.Lossless.{EqualBatchesSaySame, EqualTextsSaySame};
+ghost use Rattle.otel_otlp.specs.Trees.{UncountedTreesAreWhole};
 
 /// States that spans with equal values have the same ids, the parent's too, the same flags, kind,
 /// name, times and status, the same attributes, events and links, the same counts of what was
@@ -26,4 +27,10 @@ pub fn equal_batches_say_same()
 /// [`equal_batches_say_same`].
 pub fn equal_texts_say_same()
     ensures { EqualTextsSaySame }
+{}
+
+/// States that a body or an attribute of a log record is written whole if none of its parts is
+/// counted as cut.
+pub fn uncounted_trees_are_whole()
+    ensures { UncountedTreesAreWhole }
 {}

@@ -1,12 +1,34 @@
 //! Writes lines to a writer. Each line is complete, or a fragment on a line by itself.
 ghost use Rattle.std.specs.Prelude.{◌≡◌, ◌++◌, ◌∷◌, ℕ, List, [], true, false};
-ghost use Rattle.std.specs.Prelude.{IsTrue, OnOk, OnErr, IsErrOf, alloc_error};
-ghost use Rattle.otel_otlp.specs.Exporter.{Writes, Flushes, IsCutOff};
+ghost use Rattle.std.specs.Prelude.{IsTrue, IsOk, OnOk, OnErr, IfErr, IsErrOf, alloc_error, ◌↔◌};
+ghost use Rattle.std.specs.Prelude.{string_bytes};
+ghost use Rattle.otel_otlp.specs.Exporter.{Writes, Flushes, IsCutOff, IsFailure};
 
 use crate::written::write_bytes;
 use otel_sdk_base::error::{OTelSdkError, OTelSdkResult};
 use std::alloc::Global;
-use std::io::Write;
+use std::io::{self, Write};
+
+// Returns the failure with the message, which is empty if out of memory.
+fn failure(alloc: Global, message: &str) -> OTelSdkError
+    ensures { IsFailure result }
+{
+    match String::from_str(alloc, message) {
+        Ok(message) => OTelSdkError::InternalFailure(message),
+        Err(_) => OTelSdkError::InternalFailure(String::new(alloc)),
+    }
+}
+
+// Returns `Ok` if the writer was flushed, and otherwise that it failed.
+fn flush_result(alloc: Global, flushed: io::Result<()>) -> OTelSdkResult
+    ensures same { IsOk result ↔ IsOk flushed }
+    ensures failure { IfErr result IsFailure }
+{
+    match flushed {
+        Ok(()) => Ok(()),
+        Err(_) => Err(failure(alloc, "the writer wasn't flushed")),
+    }
+}
 
 /// A writer of lines, and whether the newline of the last line is pending.
 #[derive(Drop)]
@@ -29,41 +51,42 @@ impl<W: Write> Lines<W> {
         !self.newline_is_pending
     }
 
-    // Writes the text. Returns `true` if the writer accepted all of it. A newline is pending once
-    // the first byte is written.
-    fn write_object(&mut self, text: &str) -> bool
+    // Writes the line: in one call, if the writer takes all of it. Returns `true` if the writer
+    // accepted every byte before its newline. A newline is pending from the first accepted byte
+    // to the last.
+    fn write_object(&mut self, line: &str) -> bool
         requires { self.old.newline_is_pending ≡ false }
-        ensures whole { IsTrue result
-            → Writes W.contents self.old self.new (text.now ++ 10 ∷ []) }
-        ensures cut { result ≡ false → (line : List ℕ) × IsCutOff text.now line
-            × Writes W.contents self.old self.new line }
+        ensures whole { IsTrue result → (text : List ℕ) → line.now ≡ text ++ 10 ∷ []
+            → Writes W.contents self.old self.new line.now }
+        ensures cut { result ≡ false → (text : List ℕ) → line.now ≡ text ++ 10 ∷ []
+            → (cut : List ℕ) × IsCutOff text cut × Writes W.contents self.old self.new cut }
     {
-        let count = write_bytes(&mut self.writer, text.as_bytes());
-        self.newline_is_pending = count > 0;
-        self.newline_is_pending && count == text.len()
+        let count = write_bytes(&mut self.writer, line.as_bytes());
+        self.newline_is_pending = count > 0 && count < line.len();
+        count > 0 && line.len() - count <= 1
     }
 
-    /// Writes the pending newline, if there is one, and then the text as a line.
+    /// Writes the pending newline, if there is one, and then the text as a line. The line is
+    /// written in one call, if the writer takes all of it.
     ///
     /// # Errors
     ///
     /// - `Memory` if out of memory. Nothing is written.
     /// - `InternalFailure` if the writer didn't accept the pending newline or every byte of the
     ///   text. The accepted bytes remain as a truncated line.
-    pub(crate) fn write_line(&mut self, alloc: Global, text: &str) -> OTelSdkResult
+    pub(crate) fn write_line(&mut self, alloc: Global, mut text: String) -> OTelSdkResult
         ensures ok { OnOk result
-            (Writes W.contents self.old self.new (text.now ++ 10 ∷ [])) }
-        ensures err { OnErr result ((line : List ℕ) × IsCutOff text.now line
+            (Writes W.contents self.old self.new (string_bytes text ++ 10 ∷ [])) }
+        ensures err { OnErr result ((line : List ℕ) × IsCutOff (string_bytes text) line
             × Writes W.contents self.old self.new line) }
         ensures memory { IsErrOf result (OTelSdkError.Memory alloc_error)
             → self.new ≡ self.old }
         ensures open { IsErrOf result OTelSdkError.AlreadyShutdown → ⊥ }
     {
-        let message = String::from_str(alloc, "the writer didn't take the line")?;
-        if !self.write_pending_newline() || !self.write_object(text) {
-            return Err(OTelSdkError::InternalFailure(message));
+        text.push('\n')?;
+        if !self.write_pending_newline() || !self.write_object(text.as_str()) {
+            return Err(failure(alloc, "the writer didn't take the line"));
         }
-        self.write_pending_newline();
         Ok(())
     }
 
@@ -71,14 +94,13 @@ impl<W: Write> Lines<W> {
     ///
     /// # Errors
     ///
-    /// `InternalFailure` if the writer failed, or `Memory` if it failed and memory ran out too.
+    /// `InternalFailure` if the writer failed.
     pub(crate) fn flush(&mut self, alloc: Global) -> OTelSdkResult
         ensures { Flushes W.contents result self.old self.new }
     {
-        if self.write_pending_newline() && self.writer.flush().is_ok() {
-            return Ok(());
+        if !self.write_pending_newline() {
+            return Err(failure(alloc, "the writer didn't take the newline"));
         }
-        let message = String::from_str(alloc, "the writer failed")?;
-        Err(OTelSdkError::InternalFailure(message))
+        flush_result(alloc, self.writer.flush())
     }
 }

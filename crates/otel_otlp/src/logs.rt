@@ -4,8 +4,10 @@ ghost use Rattle.std.specs.List.{list_any};
 ghost use Rattle.serde_json.specs.View.{view};
 ghost use Rattle.otel_base.specs.Severity.{number};
 ghost use Rattle.otel_base.specs.View.{tree, pairs_view};
+ghost use Rattle.otel_sdk_base.specs.Attributes.{up_by};
 ghost use Rattle.otel_otlp.specs.Json.{IsTextOf, number_if_given, text_if_given};
 ghost use Rattle.otel_otlp.specs.Logs as spec;
+ghost use Rattle.otel_otlp.specs.Trees.{cut_parts_of_attributes};
 ghost use Rattle.otel_otlp.specs.View.{Adds};
 
 use crate::common::{pair, text_value};
@@ -14,7 +16,7 @@ use crate::object::{
     Members, put_decimal_if_given, put_list_unless_empty, put_number, put_number_if_given,
     put_number_unless_zero, put_span_id, put_text, put_trace_id,
 };
-use crate::trees::tree_value;
+use crate::trees::{MAX_LEVELS, add_cut_parts, tree_value};
 use opentelemetry::logs::{AnyValue, Severity};
 use opentelemetry::trace::TraceFlags;
 use opentelemetry::{InstrumentationScope, Key, StringValue};
@@ -75,7 +77,7 @@ fn put_body(members: &mut Members, alloc: Global, body: &Option<AnyValue>) -> Re
 {
     match body {
         Some(body) => {
-            let value = tree_value(alloc, body)?;
+            let value = tree_value(alloc, body, MAX_LEVELS)?;
             put(members, alloc, "body", value)
         }
         None => Ok(()),
@@ -99,7 +101,7 @@ fn pairs(alloc: Global, attributes: &[(Key, AnyValue)]) -> Result<Vec<Value>, Al
 {
     let mut values = Vec::with_capacity(alloc, attributes.len())?;
     for attribute in attributes {
-        let value = tree_value(alloc, &attribute.1)?;
+        let value = tree_value(alloc, &attribute.1, MAX_LEVELS)?;
         values.push(pair(alloc, attribute.0.as_str(), value)?)?;
     }
     Ok(values)
@@ -151,14 +153,36 @@ fn attributes(alloc: Global, log: &SdkLogRecord) -> Result<Vec<Value>, AllocErro
     Ok(values)
 }
 
-/// Puts the attributes, and the number of attributes that were dropped because of the limit.
+/// Returns the count plus the number of parts of the attributes that are cut.
+fn add_cut_parts_of(count: u32, attributes: &[(Key, AnyValue)]) -> u32
+    ensures { result ≡ up_by count (cut_parts_of_attributes (pairs_view attributes.now)) }
+{
+    let mut counted = count;
+    for attribute in attributes {
+        counted = add_cut_parts(counted, &attribute.1, MAX_LEVELS);
+    }
+    counted
+}
+
+/// Returns the number of attributes that were dropped because of the limit, plus the number of
+/// parts of the attributes and the body that are cut, saturating at `u32::MAX`.
+fn dropped(log: &SdkLogRecord) -> u32
+    ensures { result ≡ spec.dropped log.now }
+{
+    let count = add_cut_parts_of(log.dropped_attributes_count, log.attributes.as_slice());
+    match &log.body {
+        Some(body) => add_cut_parts(count, body, MAX_LEVELS),
+        None => count,
+    }
+}
+
+/// Puts the attributes, and the number of attributes that were dropped and parts that are cut.
 fn put_details(members: &mut Members, alloc: Global, log: &SdkLogRecord) -> Result<(), AllocError>
     ensures { Adds result members.old members.new (spec.details log.now) }
 {
     let values = attributes(alloc, log)?;
     put_list_unless_empty(members, alloc, "attributes", values)?;
-    let dropped = log.dropped_attributes_count;
-    put_number_unless_zero(members, alloc, "droppedAttributesCount", dropped)
+    put_number_unless_zero(members, alloc, "droppedAttributesCount", dropped(log))
 }
 
 /// Puts the span that was active, if there was one.
@@ -218,6 +242,8 @@ impl Grouped for LogData {
 ///
 /// The scopes are in the order in which they first appear, each with its records in order. A
 /// record's target is its last attribute, `log.target`, unless the record already has that key.
+/// In its body and attributes, each list or map inside 32 others is the text `..`, and adds 1 to
+/// the record's `droppedAttributesCount`, saturating at `u32::MAX`.
 ///
 /// # Errors
 ///
@@ -229,7 +255,7 @@ pub fn logs_data(alloc: Global, resource: &Resource, batch: &[LogData]) -> Resul
 }
 
 /// Returns a batch of log records of one resource as one JSON object, without a line break (the
-/// protocol's `LogsData`).
+/// protocol's `LogsData`): the text of [`logs_data`].
 ///
 /// # Errors
 ///

@@ -1,8 +1,24 @@
 //! Writes bytes to a writer, and counts the accepted bytes.
 ghost use Rattle.std.specs.Prelude.{◌≡◌, ◌≤◌, ◌↔◌, length, take, IsTrue};
 ghost use Rattle.std.specs.Io.KnownBytes.{Appends};
+ghost use Rattle.otel_otlp.specs.Written as spec;
 
-use std::io::{ErrorKind, Write};
+use std::io::{self, ErrorKind, Write};
+
+// Returns the number of bytes that the writer accepted in a call, 0 if the call was interrupted.
+// Returns `None` if the writer failed or accepted none.
+fn accepted(answer: io::Result<usize>) -> Option<usize>
+    ensures { result ≡ spec.accepted answer }
+{
+    match answer {
+        Ok(0) => None,
+        Ok(count) => Some(count),
+        Err(error) => match error.kind() {
+            ErrorKind::Interrupted => Some(0),
+            _ => None,
+        },
+    }
+}
 
 /// Writes the bytes until the writer has accepted all of them. Returns the number of accepted
 /// bytes, which is less than all only if the writer failed or accepted none. An interrupted write
@@ -17,14 +33,9 @@ pub(crate) fn write_bytes<W: Write>(writer: &mut W, bytes: &[u8]) -> usize
         if count == bytes.len() {
             return count;
         }
-        match writer.write(&bytes[count..]) {
-            Ok(0) => return count,
-            Ok(n) => count += n,
-            Err(error) => {
-                if error.kind() != ErrorKind::Interrupted {
-                    return count;
-                }
-            }
+        match accepted(writer.write(&bytes[count..])) {
+            Some(more) => count += more,
+            None => return count,
         }
     }
     count

@@ -4,10 +4,13 @@
 #![tactic(auto)]
 
 mod batches;
+mod deep_trees;
 mod failures;
 mod files;
 mod flushes;
 mod lines;
 mod log_files;
 mod log_lines;
+mod many_scopes;
 mod records;
+mod writes;

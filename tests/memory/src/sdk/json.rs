@@ -6,6 +6,7 @@ use opentelemetry::trace::{
 };
 use opentelemetry::{Array, Key, KeyValue, StringValue, Value};
 use otel_otlp::{OtlpJsonSpanExporter, traces_data, traces_text};
+use otel_sdk::error::{OTelSdkError, OTelSdkResult};
 use otel_sdk::resource::Resource;
 use otel_sdk::trace::{Exporter, SpanData};
 use std::alloc::{AllocError, Global};
@@ -97,13 +98,26 @@ fn export<R: Print>(alloc: Global, lines: &Lines<'_, R>) -> Result<(), AllocErro
     Ok(())
 }
 
-/// Calls whose writer fails. They allocate the text of the error.
+/// Which of the answers of an exporter this is. The text of a failure is empty without memory.
+pub fn told(answer: OTelSdkResult) -> &'static str {
+    match answer {
+        Ok(()) => "ok",
+        Err(OTelSdkError::InternalFailure(_)) => "refused",
+        Err(OTelSdkError::Memory(_)) => "no memory",
+        Err(_) => "another error",
+    }
+}
+
+/// Calls whose writer fails.
 fn refusals<R: Print>(alloc: Global, lines: &Lines<'_, R>) -> Result<(), AllocError> {
     let batch = [span(alloc)?];
     let mut exporter = OtlpJsonSpanExporter::new(alloc, closed())?;
-    lines.answer_named("written", exporter.export(&batch));
-    lines.answer_named("flushed", exporter.force_flush());
-    lines.answer_named("shut down", exporter.shutdown());
+    lines.answer(&told(exporter.export(&batch)));
+    lines.free(
+        "OtlpJsonExporter::force_flush",
+        &told(exporter.force_flush()),
+    );
+    lines.free("OtlpJsonExporter::shutdown", &told(exporter.shutdown()));
     Ok(())
 }
 

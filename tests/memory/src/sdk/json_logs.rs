@@ -1,6 +1,6 @@
 //! Log records as lines of JSON.
 use crate::lines::Lines;
-use crate::sdk::json::{closed, resource};
+use crate::sdk::json::{closed, resource, told};
 use opentelemetry::logs::{AnyValue, LogRecord, Severity};
 use opentelemetry::trace::{SpanId, TraceFlags, TraceId};
 use opentelemetry::{InstrumentationScope, Key, StringValue};
@@ -71,13 +71,16 @@ fn export<R: Print>(alloc: Global, lines: &Lines<'_, R>) -> Result<(), AllocErro
     Ok(())
 }
 
-/// Calls whose writer fails. They allocate the text of the error.
+/// Calls whose writer fails.
 fn refusals<R: Print>(alloc: Global, lines: &Lines<'_, R>) -> Result<(), AllocError> {
     let batch = [full(alloc)?];
     let mut exporter = OtlpJsonLogExporter::new(alloc, closed())?;
-    lines.answer_named("written", exporter.export(&batch));
-    lines.answer_named("flushed", exporter.force_flush());
-    lines.answer_named("shut down", exporter.shutdown());
+    lines.answer(&told(exporter.export(&batch)));
+    lines.free(
+        "OtlpJsonExporter::force_flush",
+        &told(exporter.force_flush()),
+    );
+    lines.free("OtlpJsonExporter::shutdown", &told(exporter.shutdown()));
     Ok(())
 }
 
