@@ -16,7 +16,8 @@ use Rattle.otel_sdk.specs.Ended.{AreCollected, AreListed, Collecting, after_end_
 use Rattle.otel_sdk.specs.LiveState.{LiveState, no_spans, with_started, with_changed}
 use Rattle.otel_sdk.specs.Processor.{ProcessorState}
 use Rattle.otel_sdk_span.specs.Span.{SpanState}
-use Rattle.otel_sdk.proofs.EndLemmas.{flipped, stays_listed}
+use Rattle.otel_context.proofs.shared.SpansLemmas.{flipped}
+use Rattle.otel_sdk.proofs.EndLemmas.{stays_listed}
 use Rattle.otel_sdk.proofs.LiveLemmas.{Keeps, keeps-ended, keeps-listed, started-keeps}
 use Rattle.otel_sdk.proofs.LiveLemmas.{all-push, none-listed, changed-keeps, replaced-keeps, ended-listed, get-started, get-replace, same_number}
 
@@ -236,13 +237,13 @@ next_stays_if true a m = refl
 next_stays_if false a m = refl
 
 module _ {E : Type 0} where
-  all_gone : (ns : List ℕ) (c : Collecting E) (n : ℕ)
+  pub all_gone : (ns : List ℕ) (c : Collecting E) (n : ℕ)
       → Both (table.get (fold after_end_of c ns).spans n) (table.get c.spans n)
   all_gone [] c n = inl refl
   all_gone (m ∷ ns) c n = joined _ (table.get (after_end_of c m).spans n) _ (all_gone ns (after_end_of c m) n)
       (one_gone (is_ended (table.get c.spans m)) c.spans m n refl)
 
-  next_stays : (ns : List ℕ) (c : Collecting E) → (fold after_end_of c ns).spans.next_number ≡ c.spans.next_number
+  pub next_stays : (ns : List ℕ) (c : Collecting E) → (fold after_end_of c ns).spans.next_number ≡ c.spans.next_number
   next_stays [] c = refl
   next_stays (m ∷ ns) c = next_stays ns (after_end_of c m) ∙ next_stays_if (is_ended (table.get c.spans m)) c.spans m
 

@@ -147,9 +147,16 @@ module _ {E : Type 0} (accepted : E → List (List SpanRecord)) (shuts_down : E 
       → Applies accepted shuts_down may_start Flush Done l c p l c q
   applies-flush f closed none = λ history parents. (history, parents, (exported_of history parents f (λ t. (closed t).1), none))
 
-  pub applies-flush_part : (error : OTelSdkError) → IsFlushed accepted p q → IsRefusedIfClosed answer p q
+  pub applies-flush_part : (error : OTelSdkError) → answer ≡ Err error → IsFlushed accepted p q → IsRefusedIfClosed answer p q
       → Applies accepted shuts_down may_start Flush (Failed error) l c p l c q
-  applies-flush_part error f closed = λ history parents. (history, parents, exported_of history parents f (λ t. (closed t).1))
+  applies-flush_part error is f closed = λ history parents. (
+    history,
+    parents,
+    (
+      exported_of history parents f (λ t. (closed t).1),
+      λ t. let same = (subst (λ (r : Result (Unit {0}) OTelSdkError). IsRefusedIfClosed r p q) is closed t).0 in cc,
+    ),
+  )
 
   shut_of : (history : LiveState) (parents : SpansState ContextRecord) → p.is_shut_down ≡ false → IsClosed accepted shuts_down p q
       → IsShutDown accepted shuts_down (state_of history parents l c p) (state_of history parents l c q)

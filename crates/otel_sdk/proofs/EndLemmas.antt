@@ -3,14 +3,11 @@ use Rattle.std.proofs.Common.{◌≡◌, ℕ, zero, suc, ◌+◌, ◌-◌, ◌^�
 use Rattle.std.proofs.Common.{take, drop, map, fold, Option, Some, None, refl, sym, ap, subst, ◌∙◌, arith, append_assoc}
 use Rattle.std.specs.Prelude.{◌==◌, if◌then◌else◌, nat_lt}
 use Rattle.std.specs.List.{filter_map, IsDistinct, AllByRecursion, cons_option}
-use Rattle.std.specs.Ordering.{nat_cmp, eq_by_cmp, is_eq}
-use Rattle.std.specs.Cmp.{nat_cmp_total, eq_by_cmp_equiv, unsigned_Decides}
+use Rattle.std.specs.Cmp.{nat_cmp_total}
 use Rattle.std.specs.FinMap as map
-use Rattle.std.specs.declared.cmp.Ordering.{Ordering}
-use Rattle.std.specs.declared.cmp.Ordering.TheVariants.{Less, Equal, Greater}
-use Rattle.std.proofs.lemmas.Cmp.{nat_eq_equiv}
 use Rattle.std.proofs.lemmas.List.{map-append, length-append, append-nil, take_more}
 use Rattle.std.proofs.lemmas.List.Elements.{filter_map-append}
+use Rattle.otel_context.proofs.shared.SpansLemmas.{flipped}
 use Rattle.otel_context.specs.Spans as table
 use Rattle.otel_context.specs.Spans.{SpansState}
 use Rattle.otel_sdk.specs.Ended.{Collecting, Fate, NothingLost, after_end_of, after_end_if, dropped, ended_data, exported}
@@ -23,23 +20,6 @@ use Rattle.otel_sdk_span.specs.Span.{SpanState}
 use Rattle.otel_sdk_span.specs.SpanData.{SpanRecord}
 
 -- ---- the waiting spans after a span was removed from the table
-
-equal_of : (r : Ordering) → is_eq r ≡ true → r ≡ Equal
-equal_of Less e = cc
-equal_of Equal e = refl
-equal_of Greater e = cc
-
-same_bool : (b c : Bool) → (b ≡ true → c ≡ true) → (c ≡ true → b ≡ true) → b ≡ c
-same_bool true c f g = sym (f refl)
-same_bool false true f g = g refl
-same_bool false false f g = refl
-
--- `==` on numbers agrees with their order
-pub flipped : (k q : ℕ) → eq_by_cmp nat_cmp q k ≡ (k == q)
-flipped k q = same_bool (eq_by_cmp nat_cmp q k) (q == k)
-    (λ e. (unsigned_Decides q k).1 (map.nat_cmp-IsAntisymmetric q k (equal_of (nat_cmp q k) e)))
-    (λ e. sym (ap (λ x. eq_by_cmp nat_cmp q x) ((unsigned_Decides q k).0 e)) ∙ (eq_by_cmp_equiv nat_cmp_total).refl q)
-    ∙ nat_eq_equiv.symm q k
 
 module _ (spans : SpansState SpanState) (n : ℕ) where
   get_other : (m : ℕ) → (n == m) ≡ false → table.get (table.take spans n) m ≡ table.get spans m

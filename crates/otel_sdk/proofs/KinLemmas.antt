@@ -18,7 +18,7 @@ use Rattle.otel_sdk.specs.LiveState.{LiveState, no_spans, with_end_of, with_ende
 use Rattle.otel_sdk.specs.Parents.{ComesFrom, HaveParents, IsOwn, IsStartedUnder, IsUnder}
 use Rattle.otel_sdk.specs.Tracer.{parent_of}
 use Rattle.otel_sdk_span.specs.Span.{SpanState, after_end}
-use Rattle.otel_sdk.proofs.EndLemmas.{flipped}
+use Rattle.otel_context.proofs.shared.SpansLemmas.{flipped}
 use Rattle.otel_sdk.proofs.Agreement.{get-changed}
 use Rattle.otel_sdk.proofs.LiveLemmas.{get-replace, get-started, same_number}
 use Rattle.otel_sdk.proofs.ParentLemmas.{end-under}

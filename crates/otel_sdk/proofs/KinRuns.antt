@@ -99,7 +99,7 @@ module _ {E : Type 0} (accepted : E → List (List SpanRecord)) (shuts_down : E 
   fails-kin (Change n c) error a b f k = as_kin a b f.1 k
   fails-kin (End n time) error a b f k = absurd f
   fails-kin Collect error a b f k = as_kin _ b f.1.same k
-  fails-kin Flush error a b f k = as_kin _ b f.same k
+  fails-kin Flush error a b f k = as_kin _ b f.0.same k
   fails-kin Shutdown error a b f k = closes-kin error a b f k
 
   out-kin : (e : SpanEvent) (a b : RunState E) → RunsOut accepted shuts_down may_start e a b → KinOf a → KinOf b
@@ -162,9 +162,9 @@ module _ {E : Type 0} (accepted : E → List (List SpanRecord)) (shuts_down : E 
         history = history;
         parents = parents;
         plays = plays;
-        before = stands.before;
-        was_open = stands.was_open;
-        nothing_lost = stands.lost;
+        before = stands.none_lost.before;
+        was_open = stands.none_lost.was_open;
+        nothing_lost = stands.none_lost.lost;
         have_parents = λ under. (plays-kin accepted shuts_down may_start under (given es) (items_of (accepted exporter)) es os
             (at_start exporter config) (state_of history parents live after p) plays (λ part i. i) begun (no-kin (given es))).parents_are;
       }

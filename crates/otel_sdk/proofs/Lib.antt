@@ -2,9 +2,11 @@ mod Agreement
 mod ApplyLemmas
 mod DrawLemmas
 pub mod EndLemmas
+mod JournalLemmas
 mod KinLemmas
 mod KinRuns
 mod LiveLemmas
+mod LosesNone
 mod Outcomes
 mod ParentLemmas
 mod Rising

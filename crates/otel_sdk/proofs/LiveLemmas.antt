@@ -14,6 +14,7 @@ use Rattle.otel_context.specs.Spans.{SpansState}
 use Rattle.otel_context.specs.SpanCalls.{after_effect}
 use Rattle.otel_sdk.specs.Processor.{ProcessorState}
 use Rattle.otel_sdk.specs.Ended.{AreCollected, AreListed, Collecting, after_end_of, of, ended_data, exported, is_ended, waiting}
+use Rattle.otel_sdk.specs.Ended.{AreHandedOn, EachIsHandedOn, OpenStay}
 use Rattle.otel_sdk.specs.LiveState.{LiveState, with_ended, with_end_of}
 use Rattle.otel_sdk_span.specs.Span.{SpanState, after_end, recording}
 use Rattle.otel_sdk.specs.SpanChange.{change_of}
@@ -22,7 +23,7 @@ use Rattle.otel_sdk_span.specs.SpanData.{SpanRecord}
 use Rattle.otel_sdk.specs.declared.trace.change.SpanChange.{SpanChange}
 use Rattle.otel_sdk.specs.declared.trace.change.SpanChange.TheVariants.{SetAttribute, AddEvent}
 use Rattle.otel_sdk.specs.declared.trace.change.SpanChange.TheVariants.{AddLink, SetStatus, UpdateName}
-use Rattle.otel_sdk.proofs.EndLemmas.{flipped}
+use Rattle.otel_context.proofs.shared.SpansLemmas.{flipped}
 
 -- ---- one number of a table
 
@@ -338,6 +339,71 @@ module _ {E : Type 0} where
       ap (λ (c : Collecting E). table.len c.spans) h.handed_in in
       let fewer = len-folded (take h.count ns) (of p a) in
       omega (arith, same, fewer)
+
+  len-handed_on : (accepted : E → List (List SpanRecord)) (ns : List ℕ) (c d : Collecting E)
+      → EachIsHandedOn accepted ns c d → table.len d.spans ≤ table.len c.spans
+  len-handed_on accepted [] c d e =
+      let same = ap (λ (x : SpansState SpanState). table.len x) e.spans in omega (arith, same)
+  len-handed_on accepted (n ∷ ns) c d e =
+      let rest : table.len d.spans ≤ table.len (after_end_of e.0 n).spans =
+      len-handed_on accepted ns (after_end_of e.0 n) d e.3 in
+      let one : table.len (after_end_of e.0 n).spans ≤ table.len e.0.spans =
+      len-without (is_ended (table.get e.0.spans n)) e.0.spans n in
+      let same : table.len e.0.spans ≡ table.len c.spans =
+      ap (λ (x : SpansState SpanState). table.len x) e.1.spans in
+      omega (arith, rest, one, same)
+
+  pub handed_on-fits : (accepted : E → List (List SpanRecord)) (p q : ProcessorState E) (a b : SpansState SpanState)
+      (ns ms : List ℕ) → AreHandedOn accepted ns ms (of p a) (of q b) → table.len b ≤ table.len a
+  handed_on-fits accepted p q a b ns ms h = len-handed_on accepted (take h.count ns) (of p a) (of q b) h.handed_on
+
+-- ---- a collection keeps the open spans
+
+not_ended : (o : Option SpanState) → is_running o ≡ true → is_ended o ≡ false
+not_ended None e = cc
+not_ended (Some s) e = elim (cases_Bool s.has_ended) [
+  | inl h ↦ let bad : not s.has_ended ≡ false = ap not h in cc
+  | inr h ↦ h
+]
+
+open-without : (b : Bool) (a : SpansState SpanState) (m n : ℕ) → is_ended (table.get a m) ≡ b
+    → is_running (table.get a n) ≡ true → table.get (if b then table.take a m else a) n ≡ table.get a n
+open-without false a m n e runs = refl
+open-without true a m n e runs = elim (cases_Bool (m == n)) [
+  | inl t ↦ let ended : is_ended (table.get a n) ≡ true =
+      ap (λ (k : ℕ). is_ended (table.get a k)) (sym (same_number m n t)) ∙ e in
+      let runs_on : is_ended (table.get a n) ≡ false = not_ended (table.get a n) runs in cc
+  | inr f ↦ map.get-remove nat_cmp_total a.spans m n
+      ∙ ap (λ (b : Bool). cond b None (table.get a n)) (flipped m n ∙ f)
+]
+
+module _ {E : Type 0} where
+  open-folded : (ns : List ℕ) (c : Collecting E) → OpenStay c.spans (fold after_end_of c ns).spans
+  open-folded [] c n runs = refl
+  open-folded (m ∷ ns) c n runs =
+      let one : table.get (after_end_of c m).spans n ≡ table.get c.spans n =
+      open-without (is_ended (table.get c.spans m)) c.spans m n refl runs in
+      open-folded ns (after_end_of c m) n (ap is_running one ∙ runs) ∙ one
+
+  pub collected-open : (p q : ProcessorState E) (a b : SpansState SpanState) (ns ms : List ℕ)
+      → AreCollected ns ms (of p a) (of q b) → OpenStay a b
+  collected-open p q a b ns ms h n runs = ap (λ (c : Collecting E). table.get c.spans n) h.handed_in
+      ∙ open-folded (take h.count ns) (of p a) n runs
+
+  open-each : (accepted : E → List (List SpanRecord)) (ns : List ℕ) (c d : Collecting E)
+      → EachIsHandedOn accepted ns c d → OpenStay c.spans d.spans
+  open-each accepted [] c d e n runs = ap (λ (x : SpansState SpanState). table.get x n) e.spans
+  open-each accepted (m ∷ ns) c d e n runs =
+      let same : table.get e.0.spans n ≡ table.get c.spans n =
+      ap (λ (x : SpansState SpanState). table.get x n) e.1.spans in
+      let now : is_running (table.get e.0.spans n) ≡ true = ap is_running same ∙ runs in
+      let one : table.get (after_end_of e.0 m).spans n ≡ table.get e.0.spans n =
+      open-without (is_ended (table.get e.0.spans m)) e.0.spans m n refl now in
+      open-each accepted ns (after_end_of e.0 m) d e.3 n (ap is_running one ∙ now) ∙ one ∙ same
+
+  pub handed_on-open : (accepted : E → List (List SpanRecord)) (p q : ProcessorState E) (a b : SpansState SpanState)
+      (ns ms : List ℕ) → AreHandedOn accepted ns ms (of p a) (of q b) → OpenStay a b
+  handed_on-open accepted p q a b ns ms h = open-each accepted (take h.count ns) (of p a) (of q b) h.handed_on
 
 pub end-room : (a : SpansState SpanState) (ns : List ℕ) (n t : ℕ) (b : SpansState SpanState) → EndsNow a n t b
     → AreListed a ns → length ns + 1 ≤ table.len a

@@ -14,6 +14,7 @@ use Rattle.otel_sdk_span.specs.Span.{SpanState, after_end, recording, says_nothi
 use Rattle.otel_sdk_span.specs.Span.{with_kept_link, with_link, within}
 use Rattle.otel_sdk_span.specs.SpanData.{SpanRecord}
 use Rattle.otel_sdk_span.specs.declared.limits.SpanLimits.{SpanLimits}
+use Rattle.otel_sdk.specs.Journal.{ids_of}
 use Rattle.otel_sdk.specs.Parents.{IsChild, IsChildIfRecorded, IsInTrace, IsUnder}
 use Rattle.otel_sdk.specs.SpanChange.{change_of}
 use Rattle.otel_sdk.specs.Tracer.{IsTraceId, MayBuild, MayStart, asked, given_data, has_random_id, parent_of, records, silent, span_context_of, without_ids}
@@ -108,7 +109,46 @@ change-context (AddLink context attributes) s = refl
 change-context (SetStatus status) s = refl
 change-context (UpdateName name) s = refl
 
+-- ---- the ids of a span
+
+abbrev parent_ids : SpanRecord → ℕ × Bool
+parent_ids d = (d.parent_span_id, d.parent_span_is_remote)
+
+if-ids : (b : Bool) (g : SpanRecord → SpanRecord) → ((d : SpanRecord) → SameIds d (g d)) → (o : Option SpanRecord)
+    → option_map parent_ids (if b then o else option_map g o) ≡ option_map parent_ids o
+if-ids true g same o = refl
+if-ids false g same None = refl
+if-ids false g same (Some d) = λ i. Some ((same d).parent i, (same d).remote i)
+
+recording-ids : (s : SpanState) (g : SpanRecord → SpanRecord) → ((d : SpanRecord) → SameIds d (g d))
+    → ids_of (recording s g) ≡ ids_of s
+recording-ids s g same = ap (λ (p : Option (ℕ × Bool)). record { context = s.context; parent = p })
+    (if-ids s.has_ended g same s.recorded)
+
+pub change-ids : (c : SpanChange) (s : SpanState) → ids_of (change_of c s) ≡ ids_of s
+change-ids (SetAttribute attribute) s = recording-ids s _ (λ d. record { own = refl; parent = refl; remote = refl })
+change-ids (AddEvent name time attributes) s = recording-ids s _ (λ d. record { own = refl; parent = refl; remote = refl })
+change-ids (AddLink context attributes) s = recording-ids s _ (λ d. link-same s.limits d (record {
+  span_context = context;
+  attributes = attributes_of attributes;
+  dropped_attributes_count = 0;
+}))
+change-ids (SetStatus status) s = recording-ids s _ (λ d. record { own = refl; parent = refl; remote = refl })
+change-ids (UpdateName name) s = recording-ids s _ (λ d. record { own = refl; parent = refl; remote = refl })
+
+pub end-ids : (s : SpanState) (time : ℕ) → ids_of (after_end s time) ≡ ids_of s
+end-ids s time = recording-ids s (λ d. record d { end_time = time }) (λ d. record { own = refl; parent = refl; remote = refl })
+
 -- ---- starts
+
+decided-runs : (b : Bool) (limits : SpanLimits) (d : SpanRecord)
+    → (if b then started limits d else unrecorded d.span_context).has_ended ≡ false
+decided-runs true limits d = refl
+decided-runs false limits d = refl
+
+without_ids-runs : (p : Option SpanContextRecord) → (without_ids p).has_ended ≡ false
+without_ids-runs None = refl
+without_ids-runs (Some p) = refl
 
 decided-under : (b : Bool) (p : Option SpanContextRecord) (limits : SpanLimits) (d : SpanRecord)
     → IsInTrace p d.span_context → IsChild p d → IsUnder p (if b then started limits d else unrecorded d.span_context)
@@ -154,6 +194,20 @@ module _ (answer : Asked → Answer) (random : Bool) (limits : SpanLimits) (scop
   build-under_of (inr (inl e)) =
       subst (λ (s : SpanState). IsUnder (parent_of context) s) (sym e) (without_ids-under (parent_of context))
   build-under_of (inr (inr m)) = start-under m
+
+  build-runs_of : ((span ≡ silent) ⊎ ((span ≡ without_ids (parent_of context))
+      ⊎ MayStart answer random limits scope builder context span)) → span.has_ended ≡ false
+  build-runs_of (inl e) = ap (λ (s : SpanState). s.has_ended) e
+  build-runs_of (inr (inl e)) = ap (λ (s : SpanState). s.has_ended) e ∙ without_ids-runs (parent_of context)
+  build-runs_of (inr (inr m)) =
+      let a : Answer = answer (asked builder context m.0) in
+      ap (λ (s : SpanState). s.has_ended) m.4.1 ∙ decided-runs (records a.decision) limits
+      (given_data scope builder (parent_of context) (span_context_of m.0 m.1 a.decision (has_random_id (parent_of context) random) a.trace_state)
+      a.attributes (unwrap_or builder.start_time m.4.0))
+
+  -- a span that was started hasn't ended
+  pub build-runs : MayBuild answer random limits scope builder context span → span.has_ended ≡ false
+  build-runs h = build-runs_of h.1
 
   pub build-under : MayBuild answer random limits scope builder context span → IsUnder (parent_of context) span
   build-under h = build-under_of h.1

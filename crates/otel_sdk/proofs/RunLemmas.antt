@@ -12,6 +12,7 @@ use Rattle.otel_context.specs.Stack as stack
 use Rattle.otel_context.specs.Stack.{Live}
 use Rattle.otel_sdk.specs.Ended.{Collecting, Fate, NothingLost, after_end_if, after_end_of, ended_data, exported, is_ended, of, waiting}
 use Rattle.otel_sdk_base.specs.Export.{items_of}
+use Rattle.otel_sdk.specs.Journal.{LosesNone}
 use Rattle.otel_sdk.specs.LiveState.{LiveState, with_started, with_changed, with_ended}
 use Rattle.otel_sdk.specs.Processor.{is_sampled}
 use Rattle.otel_sdk_base.specs.Queue.{IsFlushed, counted}
@@ -30,6 +31,7 @@ use Rattle.otel_sdk.specs.declared.trace.program.event.SpanEvent.TheVariants.{Ch
 use Rattle.otel_sdk.specs.declared.trace.program.event.EventOutcome.{EventOutcome}
 use Rattle.otel_sdk.specs.declared.trace.program.event.EventOutcome.TheVariants.{Done, NumbersUsedUp, NotAttached, Failed}
 use Rattle.otel_sdk.proofs.EndLemmas.{flush-loses_nothing, loses_nothing}
+use Rattle.otel_sdk.proofs.LosesNone.{lost-closed, lost-collected, lost-flushed, lost-more, lost-none}
 use Rattle.otel_sdk.proofs.LiveLemmas.{Keeps, keeps-waiting, change-stays}
 use Rattle.otel_sdk.proofs.LiveLemmas.{with_ended-now, with_ended-nothing, changed-keeps, replaced-keeps}
 use Rattle.otel_sdk.proofs.Agreement.{Agree, Both, none-agree, start-keeps, start-keeps-live, start-agree, change-agree, get-replaced, now_ended, end-agree, collect-agree}
@@ -45,7 +47,7 @@ none_running x y (inl e) f = sym (ap is_running e) ∙ f
 none_running x None (inr e) f = refl
 none_running x (Some s) (inr e) f = ap not e.1
 
-running_one : (o : Option SpanState) → is_running o ≡ true → (s : SpanState) × (o ≡ Some s) × (s.has_ended ≡ false)
+pub running_one : (o : Option SpanState) → is_running o ≡ true → (s : SpanState) × (o ≡ Some s) × (s.has_ended ≡ false)
 running_one None e = absurd (cc)
 running_one (Some s) e = (s, refl, not_true s.has_ended e)
 
@@ -53,79 +55,44 @@ same_if_some : (x y : Option SpanState) (s : SpanState) → Both x y → x ≡ S
 same_if_some x y s (inl e) f = sym e ∙ f
 same_if_some x y s (inr e) f = absurd (cc (e.0, f))
 
-module _ {E : Type 0} where
-  open_end : (sampled room : Bool) (d : SpanRecord) (p : ProcessorState E)
-      → (if sampled then (if room then queued d p else counted p) else p).is_shut_down ≡ p.is_shut_down
-  open_end false room d p = refl
-  open_end true true d p = refl
-  open_end true false d p = refl
-
-  open_if : (o : Option SpanRecord) (p : ProcessorState E) → (after_end_if o p).is_shut_down ≡ p.is_shut_down
-  open_if None p = refl
-  open_if (Some d) p = open_end (is_sampled d) (nat_lt (length p.queue) p.config.max_queue_size) d p
-
-  open_folded : (ns : List ℕ) (c : Collecting E) → (fold after_end_of c ns).processor.is_shut_down ≡ c.processor.is_shut_down
-  open_folded [] c = refl
-  open_folded (n ∷ ns) c = open_folded ns (after_end_of c n) ∙ open_if (ended_data (table.get c.spans n)) c.processor
-
 module _ {E : Type 0} (accepted : E → List (List SpanRecord)) (shuts_down : E → E → Type 0) (earlier : List SpanRecord) where
   -- the invariant after each event
   pub record Stands (s : RunState E) : Type 0 where
     pub agree : Agree s.history s.live
-    pub before : ProcessorState E
-    pub was_open : WasOpen shuts_down before s.processor
-    pub lost : NothingLost accepted earlier (waiting s.history.spans s.history.ended)
-        (of before s.live.spans) s.live.ended
+    pub none_lost : LosesNone accepted shuts_down earlier (waiting s.history.spans s.history.ended) s.live s.processor
 
   -- the history and the live spans have the same additional ends
   moved : (h l k m : LiveState) (p : ProcessorState E) (more : List ℕ) → Agree h l → Keeps h.spans k.spans
       → Keeps l.spans m.spans → k.ended ≡ h.ended ++ more → m.ended ≡ l.ended ++ more
       → waiting k.spans more ≡ waiting m.spans more
-      → NothingLost accepted earlier (waiting h.spans h.ended) (of p l.spans) l.ended
-      → NothingLost accepted earlier (waiting k.spans k.ended) (of p m.spans) m.ended
-  moved h l k m p more a kh kl eh el same lost =
-      let fate_spans : List SpanRecord = each (λ (f : Fate). f.span) lost.fates in
-      let whole : waiting k.spans k.ended ≡ waiting h.spans h.ended ++ waiting k.spans more =
+      → LosesNone accepted shuts_down earlier (waiting h.spans h.ended) l p
+      → LosesNone accepted shuts_down earlier (waiting k.spans k.ended) m p
+  moved h l k m p more a kh kl eh el same none_lost =
+      let whole : waiting k.spans k.ended ≡ waiting h.spans h.ended ++ waiting m.spans more =
       ap (λ (ns : List ℕ). waiting k.spans ns) eh
       ∙ filter_map-append (λ (n : ℕ). exported (ended_data (table.get k.spans n))) h.ended more
-      ∙ ap (λ (xs : List SpanRecord). xs ++ waiting k.spans more) (keeps-waiting h.spans k.spans h.ended kh a.ended) in
-      let part : waiting m.spans m.ended ≡ waiting l.spans l.ended ++ waiting m.spans more =
-      ap (λ (ns : List ℕ). waiting m.spans ns) el
-      ∙ filter_map-append (λ (n : ℕ). exported (ended_data (table.get m.spans n))) l.ended more
-      ∙ ap (λ (xs : List SpanRecord). xs ++ waiting m.spans more)
-      (keeps-waiting l.spans m.spans l.ended kl a.listed.ended) in
-      record {
-        fates = lost.fates;
-        ended = whole ∙ ap (λ (xs : List SpanRecord). xs ++ waiting k.spans more) lost.ended
-            ∙ append_assoc fate_spans (waiting l.spans l.ended) (waiting k.spans more)
-            ∙ ap (λ (xs : List SpanRecord). fate_spans ++ (waiting l.spans l.ended ++ xs)) same
-            ∙ ap (λ (xs : List SpanRecord). fate_spans ++ xs) (sym part);
-        received = lost.received;
-        counted = lost.counted;
-      }
+      ∙ (λ i. keeps-waiting h.spans k.spans h.ended kh a.ended i ++ same i) in
+      subst (λ (xs : List SpanRecord). LosesNone accepted shuts_down earlier xs m p) (sym whole)
+      (lost-more accepted shuts_down earlier (waiting h.spans h.ended) l m p more a.listed kl el none_lost)
 
   start-stands : (a : RunState E) (c : ContextRecord) (s : SpanState) → Stands a → Stands (with_child c s a)
   start-stands a c s h = record {
     agree = start-agree a.history a.live s h.agree;
-    before = h.before;
-    was_open = h.was_open;
-    lost = moved a.history a.live (with_started s a.history) (with_started s a.live) h.before [] h.agree
+    none_lost = moved a.history a.live (with_started s a.history) (with_started s a.live) a.processor [] h.agree
         (start-keeps a.history a.live s h.agree) (start-keeps-live a.history a.live s h.agree)
-        (sym (append-nil a.history.ended)) (sym (append-nil a.live.ended)) refl h.lost;
+        (sym (append-nil a.history.ended)) (sym (append-nil a.live.ended)) refl h.none_lost;
   }
 
   stack-stands : (a : RunState E) (contexts : Live) → Stands a → Stands (with_stack contexts a)
-  stack-stands a contexts h = record { agree = h.agree; before = h.before; was_open = h.was_open; lost = h.lost }
+  stack-stands a contexts h = record { agree = h.agree; none_lost = h.none_lost }
 
   change-stands : (a : RunState E) (f : SpanState → SpanState) (n : ℕ) → ((s : SpanState) → s.has_ended ≡ true → f s ≡ s)
       → Stands a → Stands (with_both (with_changed f n) a)
   change-stands a f n stays h = record {
     agree = change-agree f n a.history a.live h.agree stays;
-    before = h.before;
-    was_open = h.was_open;
-    lost = moved a.history a.live (with_changed f n a.history) (with_changed f n a.live) h.before [] h.agree
+    none_lost = moved a.history a.live (with_changed f n a.history) (with_changed f n a.live) a.processor [] h.agree
         (changed-keeps f a.history.spans n stays) (changed-keeps f a.live.spans n stays)
-        (sym (append-nil a.history.ended)) (sym (append-nil a.live.ended)) refl h.lost;
+        (sym (append-nil a.history.ended)) (sym (append-nil a.live.ended)) refl h.none_lost;
   }
 
   end_now : (a : RunState E) (n : ℕ) (s t : SpanState) → table.get a.history.spans n ≡ Some s
@@ -133,13 +100,11 @@ module _ {E : Type 0} (accepted : E → List (List SpanRecord)) (shuts_down : E 
       → Stands (record a { history = now_ended a.history n t; live = now_ended a.live n t })
   end_now a n s t at at' ran ended h = record {
     agree = end-agree a.history a.live n s t h.agree at at' ran ended;
-    before = h.before;
-    was_open = h.was_open;
-    lost = moved a.history a.live (now_ended a.history n t) (now_ended a.live n t) h.before (n ∷ []) h.agree
+    none_lost = moved a.history a.live (now_ended a.history n t) (now_ended a.live n t) a.processor (n ∷ []) h.agree
         (replaced-keeps a.history.spans n t (ap is_ended at ∙ ran))
         (replaced-keeps a.live.spans n t (ap is_ended at' ∙ ran)) refl refl
         (ap (λ (o : Option SpanState). cons_option (exported (ended_data o)) [])
-        (get-replaced a.history.spans n t ∙ sym (get-replaced a.live.spans n t))) h.lost;
+        (get-replaced a.history.spans n t ∙ sym (get-replaced a.live.spans n t))) h.none_lost;
   }
 
   both_are : (a : RunState E) (k m k' m' : LiveState) → k' ≡ k → m' ≡ m → Stands (record a { history = k; live = m })
@@ -171,69 +136,27 @@ module _ {E : Type 0} (accepted : E → List (List SpanRecord)) (shuts_down : E 
   stays_as : (a b : RunState E) → b ≡ a → Stands a → Stands b
   stays_as a b e h = subst (λ (x : RunState E). Stands x) (sym e) h
 
-  -- a processor that is itself the processor before its shutdown
-  as_open : (a : RunState E) → (h : Stands a) → a.processor ≡ h.before
-      → NothingLost accepted earlier (waiting a.history.spans a.history.ended) (of a.processor a.live.spans) a.live.ended
-  as_open a h e = subst (λ (p : ProcessorState E).
-      NothingLost accepted earlier (waiting a.history.spans a.history.ended) (of p a.live.spans) a.live.ended) (sym e) h.lost
-
-  collect-open : (a b : RunState E) → IsCollected a b → (h : Stands a) → a.processor ≡ h.before
-      → Stands (record a { live = b.live; processor = b.processor })
-  collect-open a b got h same = record {
-    agree = collect-agree a.history a.live b.live a.processor b.processor h.agree got.collected;
-    before = b.processor;
-    was_open = (
-      ap (λ (c : Collecting E). c.processor.is_shut_down) got.collected.handed_in
-          ∙ open_folded (take got.collected.count a.live.ended) (of a.processor a.live.spans)
-          ∙ ap (λ (p : ProcessorState E). p.is_shut_down) same ∙ h.was_open.0,
-      inl refl,
-    );
-    lost = loses_nothing accepted earlier (waiting a.history.spans a.history.ended) a.live.ended a.live.ended b.live.ended
-        got.collected.count (of a.processor a.live.spans) (of b.processor b.live.spans) refl got.collected.handed_in
-        got.collected.rest h.agree.listed.distinct (as_open a h same);
-  }
-
   collect-stands : (a b : RunState E) → IsCollected a b → Stands a → Stands b
-  collect-stands a b got h = elim h.was_open.1 [
-    | inl same ↦ stays_as (record a { live = b.live; processor = b.processor }) b got.same (collect-open a b got h same)
-    | inr shut ↦ stays_as a b (got.closed (ap (λ (p : ProcessorState E). p.is_shut_down) shut.2)) h
-  ]
-
-  -- the queue was flushed, and then the processor may have been shut down
-  flushed-stands : (a : RunState E) (f p : ProcessorState E) → IsFlushed accepted a.processor f → (h : Stands a)
-      → a.processor ≡ h.before → WasOpen shuts_down f p → Stands (record a { processor = p })
-  flushed-stands a f p flushed h same is_open = record {
-    agree = h.agree;
-    before = f;
-    was_open = is_open;
-    lost = flush-loses_nothing accepted earlier (waiting a.history.spans a.history.ended) (of a.processor a.live.spans)
-        (of f a.live.spans) a.live.ended (record { flushed = flushed; spans = refl }) (as_open a h same);
-  }
-
-  still_open : (a : RunState E) (f : ProcessorState E) → IsFlushed accepted a.processor f → (h : Stands a)
-      → a.processor ≡ h.before → f.is_shut_down ≡ false
-  still_open a f flushed h same = ap (λ (p : ProcessorState E). p.is_shut_down) flushed.same
-      ∙ ap (λ (p : ProcessorState E). p.is_shut_down) same ∙ h.was_open.0
+  collect-stands a b got h = stays_as (record a { live = b.live; processor = b.processor }) b got.same (record {
+    agree = collect-agree a.history a.live b.live a.processor b.processor h.agree got.collected;
+    none_lost = lost-collected accepted shuts_down earlier (waiting a.history.spans a.history.ended) a.live b.live a.processor b.processor
+        h.agree.listed got.collected
+        (λ t. (ap (λ (s : RunState E). s.live) (got.closed t), ap (λ (s : RunState E). s.processor) (got.closed t))) h.none_lost;
+  })
 
   flush-stands : (a b : RunState E) → IsExported accepted a b → Stands a → Stands b
-  flush-stands a b got h = elim h.was_open.1 [
-    | inl same ↦ stays_as (record a { processor = b.processor }) b got.same
-        (flushed-stands a b.processor b.processor got.flushed h same (still_open a b.processor got.flushed h same, inl refl))
-    | inr shut ↦ stays_as a b (got.closed (ap (λ (p : ProcessorState E). p.is_shut_down) shut.2)) h
-  ]
+  flush-stands a b got h = stays_as (record a { processor = b.processor }) b got.same (record {
+    agree = h.agree;
+    none_lost = lost-flushed accepted shuts_down earlier (waiting a.history.spans a.history.ended) a.live a.processor b.processor
+        got.flushed (λ t. ap (λ (s : RunState E). s.processor) (got.closed t)) h.none_lost;
+  })
 
   shutdown-stands : (a b : RunState E) → IsShutDown accepted shuts_down a b → Stands a → Stands b
-  shutdown-stands a b got h = elim h.was_open.1 [
-    | inl same ↦
-        let f : ProcessorState E = got.closed.flushed in
-        let flushed : IsFlushed accepted a.processor f = got.closed.is_flushed in
-        stays_as (record a { processor = b.processor }) b got.same
-        (flushed-stands a f b.processor flushed h same
-        (still_open a f flushed h same, inr (got.closed.is_empty, got.closed.exporter, got.closed.closed)))
-    | inr shut ↦
-        let is_shut : a.processor.is_shut_down ≡ true = ap (λ (p : ProcessorState E). p.is_shut_down) shut.2 in
-        absurd (cc (is_shut, got.was_open))
-  ]
+  shutdown-stands a b got h = stays_as (record a { processor = b.processor }) b got.same (record {
+    agree = h.agree;
+    none_lost = lost-closed accepted shuts_down earlier (waiting a.history.spans a.history.ended) a.live a.processor b.processor
+        got.was_open got.closed h.none_lost;
+  })
 
   module _ (may_start : BuilderRecord → ContextRecord → SpanState → Type 0) where
     takes-stands : (e : SpanEvent) (a b : RunState E) → Takes accepted shuts_down may_start e a b → Stands a → Stands b
@@ -271,7 +194,7 @@ module _ {E : Type 0} (accepted : E → List (List SpanRecord)) (shuts_down : E 
     fails-stands (Change n c) error a b f h = stays_as a b f.1 h
     fails-stands (End n time) error a b f h = absurd f
     fails-stands Collect error a b f h = collect-stands a b f.1 h
-    fails-stands Flush error a b f h = flush-stands a b f h
+    fails-stands Flush error a b f h = flush-stands a b f.0 h
     fails-stands Shutdown error a b f h = closes-stands error a b f h
 
     out-stands : (e : SpanEvent) (a b : RunState E) → RunsOut accepted shuts_down may_start e a b → Stands a → Stands b
@@ -330,7 +253,5 @@ module _ {E : Type 0} (accepted : E → List (List SpanRecord)) (shuts_down : E 
       → Stands accepted shuts_down (items_of (accepted exporter)) (at_start exporter config)
   start_stands exporter config = record {
     agree = none-agree;
-    before = new_processor exporter config;
-    was_open = (refl, inl refl);
-    lost = record { fates = []; ended = refl; received = refl; counted = refl };
+    none_lost = lost-none accepted shuts_down (items_of (accepted exporter)) exporter config refl;
   }

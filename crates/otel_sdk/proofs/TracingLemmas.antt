@@ -5,9 +5,10 @@ use Rattle.std.specs.FinMap as map
 use Rattle.std.specs.Ordering.{nat_cmp}
 use Rattle.otel_context.specs.Spans as table
 use Rattle.otel_context.specs.Spans.{SpansState}
-use Rattle.otel_context.specs.Stack.{Live, attach}
+use Rattle.otel_context.specs.Stack.{Live, attach, detach}
 use Rattle.otel_context.proofs.shared.SpansLemmas.{HasSameSpans-take_back}
 use Rattle.otel_sdk.specs.Ended.{AreListed, is_ended}
+use Rattle.otel_sdk.specs.Journal.{JournalState, innermost_closed, opened}
 use Rattle.otel_sdk.specs.LiveState.{LiveState, with_started}
 use Rattle.otel_sdk.specs.Processor.{ProcessorState}
 use Rattle.otel_sdk_base.specs.Queue.{IsShutDown}
@@ -18,7 +19,7 @@ use Rattle.std.proofs.lemmas.Bool.{cases_Bool}
 use Rattle.std.specs.List.{AllByRecursion, IsDistinct, list_any}
 use Rattle.std.proofs.lemmas.List.{reverse-append}
 use Rattle.std.proofs.lemmas.List.Sorted.{list_any-IsPermutation, IsPermutation-reverse}
-use Rattle.otel_sdk.specs.Tracing.{TracingState, SameSpans, all_exited_of, at, context_with, next_entered, with_entered, exited_of, innermost_ended, innermost_number, without_innermost}
+use Rattle.otel_sdk.specs.Tracing.{TracingState, SameSpans, all_exited_of, at, context_with, next_entered, with_entered, exited_of, innermost_ended, innermost_number, innermost_of, without_innermost}
 use Rattle.otel_sdk.specs.declared.trace.live.Entered.{Entered}
 
 pub reverse-last : {A : Type 0} (xs : List A) (x : A) → reverse (xs ++ x ∷ []) ≡ x ∷ reverse xs
@@ -94,15 +95,54 @@ taken-fits a b n room e h =
 -- ---- a span that was entered
 
 module _ {P E : Type 0} where
-  pub entered-state : (t : TracingState P E) (span : SpanState) (moment : ℕ) (contexts : Live) (spans : LiveState) (xs ys : List Entered)
-      (e : Entered) (moments : List ℕ) → contexts ≡ attach (context_with span t.spans t.contexts) t.contexts
-      → spans ≡ with_started span t.spans → ys ≡ xs ++ e ∷ [] → reverse xs ≡ t.entered → e ≡ next_entered t.spans t.contexts
-      → moments ≡ t.moments ++ moment ∷ []
-      → record t { contexts = contexts; spans = spans; entered = reverse ys; moments = moments } ≡ with_entered span (at moment t)
-  entered-state t span moment contexts spans xs ys e moments a s y x n m =
-      let entered : reverse ys ≡ next_entered t.spans t.contexts ∷ t.entered =
-      ap (λ (zs : List Entered). reverse zs) y ∙ reverse-last xs e ∙ (λ i. n i ∷ x i) in
-      λ i. record t { contexts = a i; spans = s i; entered = entered i; moments = m i }
+  -- the state of these parts
+  abbrev pub tracing_of : P → Live → JournalState E → List ℕ → ℕ → TracingState P E
+  tracing_of pipeline contexts j moments unrecorded = record {
+    pipeline = pipeline;
+    contexts = contexts;
+    spans = j.spans;
+    entered = j.entered;
+    processor = j.processor;
+    started = j.started;
+    history = j.history;
+    earlier = j.earlier;
+    moments = moments;
+    unrecorded = unrecorded;
+  }
+
+  pub entered-state : (pipeline : P) (contexts after : Live) (j k : JournalState E) (moments ms : List ℕ) (unrecorded : ℕ)
+      (t : TracingState P E) (span : SpanState) (moment : ℕ) → tracing_of pipeline contexts j moments unrecorded ≡ t
+      → after ≡ attach (context_with span j.spans contexts) contexts → k ≡ opened span (next_entered j.spans contexts) j
+      → ms ≡ moments ++ moment ∷ [] → tracing_of pipeline after k ms unrecorded ≡ with_entered span (at moment t)
+  entered-state pipeline contexts after j k moments ms unrecorded t span moment view a o m =
+      (λ i. tracing_of pipeline (a i) (o i) (m i) unrecorded) ∙ ap (λ (x : TracingState P E). with_entered span (at moment x)) view
+
+  pub ended-state : (pipeline : P) (contexts after : Live) (j k : JournalState E) (moments : List ℕ) (unrecorded : ℕ)
+      (t : TracingState P E) (moment : ℕ) (e : Entered) (es : List Entered) → tracing_of pipeline contexts j moments unrecorded ≡ t
+      → Some e ≡ innermost_of es → after ≡ detach e.position contexts → k ≡ innermost_closed moment es j
+      → tracing_of pipeline after k moments unrecorded ≡ innermost_ended moment es t
+  ended-state pipeline contexts after j k moments unrecorded t moment e [] view s a c = absurd (cc)
+  ended-state pipeline contexts after j k moments unrecorded t moment e (x ∷ outer) view s a c =
+      let same : e ≡ x = cc in
+      (λ i. tracing_of pipeline ((a ∙ ap (λ (y : Entered). detach y.position contexts) same) i) (c i) moments unrecorded)
+      ∙ ap (λ (y : TracingState P E). without_innermost moment x outer y) view
+
+  -- the clock gave a moment, and the spans changed
+  pub changed-state : (F : LiveState → LiveState) (pipeline : P) (contexts : Live) (j k : JournalState E) (moments ms : List ℕ)
+      (unrecorded : ℕ) (t : TracingState P E) (moment : ℕ) → tracing_of pipeline contexts j moments unrecorded ≡ t
+      → ms ≡ moments ++ moment ∷ [] → k ≡ record j { spans = F j.spans }
+      → tracing_of pipeline contexts k ms unrecorded ≡ record (at moment t) { spans = F t.spans }
+  changed-state F pipeline contexts j k moments ms unrecorded t moment view m f =
+      (λ i. tracing_of pipeline contexts (f i) (m i) unrecorded)
+      ∙ ap (λ (s : TracingState P E). record (at moment s) { spans = F s.spans }) view
+
+  -- the processor took a step
+  pub processed-state : (pipeline : P) (contexts : Live) (j k : JournalState E) (moments : List ℕ) (unrecorded : ℕ)
+      (t : TracingState P E) → tracing_of pipeline contexts j moments unrecorded ≡ t → k ≡ record j { processor = k.processor }
+      → tracing_of pipeline contexts k moments unrecorded ≡ record t { processor = k.processor }
+  processed-state pipeline contexts j k moments unrecorded t view f =
+      ap (λ (x : JournalState E). tracing_of pipeline contexts x moments unrecorded) f
+      ∙ ap (λ (s : TracingState P E). record s { processor = k.processor }) view
 
   pub all-empty : (moment : ℕ) (l : List Entered) (t : TracingState P E) → t.entered ≡ l → (all_exited_of moment l t).entered ≡ []
   all-empty moment [] t e = e
@@ -135,10 +175,3 @@ module _ {P E : Type 0} where
   -- the clock gave a moment
   pub at-read : (t u : TracingState P E) (m : ℕ) (ms : List ℕ) → t ≡ u → ms ≡ t.moments ++ m ∷ [] → record t { moments = ms } ≡ at m u
   at-read t u m ms v e = ap (λ (xs : List ℕ). record t { moments = xs }) e ∙ ap (λ (s : TracingState P E). at m s) v
-
-  -- the clock gave a moment, and the spans changed
-  pub changed-at : (F : LiveState → LiveState) (t u : TracingState P E) (m : ℕ) (ms : List ℕ) (spans : LiveState) → t ≡ u
-      → ms ≡ t.moments ++ m ∷ [] → spans ≡ F t.spans
-      → record t { spans = spans; moments = ms } ≡ record (at m u) { spans = F u.spans }
-  changed-at F t u m ms spans v e f =
-      (λ i. record t { spans = f i; moments = e i }) ∙ ap (λ (s : TracingState P E). record (at m s) { spans = F s.spans }) v

@@ -6,6 +6,7 @@ use Rattle.std.specs.List.{filter_map, AllByRecursion, IsDistinct}
 use Rattle.otel_context.specs.Spans as table
 use Rattle.otel_context.specs.Spans.{SpansState}
 use Rattle.otel_sdk.specs.Processor.{ProcessorState, after_end, is_sampled}
+use Rattle.otel_sdk.specs.SpanEnd.{is_running}
 use Rattle.otel_sdk_base.specs.Queue.{IsFlushed, cause, received_of}
 use Rattle.otel_sdk_base.specs.declared.error.OTelSdkError.{OTelSdkError}
 use Rattle.otel_sdk_span.specs.Span.{SpanState}
@@ -46,6 +47,11 @@ waiting spans numbers =
 pub record AreListed (spans : SpansState SpanState) (numbers : List ℕ) : Type 0 where
   pub ended : AllByRecursion (λ number. is_ended (table.get spans number) ≡ true) numbers
   pub distinct : IsDistinct ◌==◌ numbers
+
+-- each span of the old table that hasn't ended is in the new one, unchanged
+abbrev pub OpenStay : (old new : SpansState SpanState) → Type 0
+OpenStay old new = (number : ℕ) → is_running (table.get old number) ≡ true
+    → table.get new number ≡ table.get old number
 
 -- a sampled span that was collected, and whether it was dropped because the queue was full
 pub record Fate : Type 0 where

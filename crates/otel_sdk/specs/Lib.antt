@@ -1,5 +1,6 @@
 pub mod Ended
 pub mod IdGenerator
+pub mod Journal
 pub mod LiveState
 pub mod ParentBased
 pub mod Parents

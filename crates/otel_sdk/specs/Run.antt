@@ -187,6 +187,7 @@ module _ {E : Type 0} where
     Fails (End number time) error old new = ⊥
     Fails Collect error old new = (error ≡ cause new.processor) × IsCollected old new
     Fails Flush error old new = IsExported accepted old new
+        × (IsTrue old.processor.is_shut_down → error ≡ AlreadyShutdown)
     Fails Shutdown error old new = FailsToClose accepted shuts_down error old new
 
     -- no number was left for the span, and nothing changed

@@ -6,6 +6,7 @@ use Rattle.std.specs.Result.{result_map_both}
 use Rattle.std.specs.Option.{unwrap_or}
 use Rattle.std.specs.List.{list_any}
 use Rattle.otel_context.specs.Context.{ContextRecord, span_number, with_span}
+use Rattle.otel_context.specs.Spans as table
 use Rattle.otel_context.specs.Spans.{HasSameSpans}
 use Rattle.otel_context.specs.Stack as stack
 use Rattle.otel_context.specs.Stack.{Live}
@@ -13,12 +14,14 @@ use Rattle.otel_context.specs.declared.span.spans.SpanCause.{SpanCause}
 use Rattle.otel_context.specs.declared.span.spans.SpanCause.TheVariants as cause_of
 use Rattle.opentelemetry.specs.SpanBuilder.{BuilderRecord}
 use Rattle.otel_sdk.specs.Ended.{AreCollected, of}
+use Rattle.otel_sdk.specs.Journal.{AllArrived, EndsOnce, LosesNone, found, sampled_of}
 use Rattle.otel_sdk.specs.LiveState.{LiveState, with_started, with_changed, with_ended}
 use Rattle.otel_sdk.specs.Processor.{ProcessorState}
 use Rattle.otel_sdk.specs.declared.trace.live.Entered.{Entered}
 use Rattle.otel_sdk.specs.declared.trace.tracing.Attached.{Attached}
 use Rattle.otel_sdk.specs.declared.trace.tracing.NotEntered.{NotEntered}
 use Rattle.otel_sdk.specs.declared.trace.tracing.NotEntered.TheVariants.{NumbersUsedUp, PositionsUsedUp, Memory}
+use Rattle.otel_sdk_base.specs.Export.{items_of}
 use Rattle.otel_sdk_base.specs.Queue.{IsForceFlushed, IsShutDown, cause, one_more}
 use Rattle.otel_sdk_base.specs.declared.error.OTelSdkError.{OTelSdkError}
 use Rattle.otel_sdk_base.specs.declared.error.OTelSdkError.TheVariants as sdk
@@ -27,15 +30,19 @@ use Rattle.otel_sdk_span.specs.SpanData.{SpanRecord}
 use Rattle.otel_base.specs.KeyValue.{Attribute}
 
 -- the pipeline that starts spans, the contexts that are attached, the spans that no processor has
--- taken, the spans that were entered and not exited (the innermost first), the processor, the
--- moments that the clock gave (the oldest first), and how often a span couldn't be entered or an
--- error couldn't be recorded
+-- taken, the spans that were entered and not exited (the innermost first), the processor, every
+-- span that was entered as it started, every span that was exited as it was at its end (both in
+-- order), the batches that the exporter had accepted before, the moments that the clock gave (the
+-- oldest first), and how often a span couldn't be entered or an error couldn't be recorded
 pub record TracingState (P E : Type 0) : Type 0 where
   pub pipeline : P
   pub contexts : Live
   pub spans : LiveState
   pub entered : List Entered
   pub processor : ProcessorState E
+  pub started : List SpanState
+  pub history : List SpanState
+  pub earlier : List (List SpanRecord)
   pub moments : List ℕ
   pub unrecorded : ℕ
 
@@ -63,6 +70,11 @@ is_entered number entered = list_any (λ e. e.number == number) entered
 abbrev pub innermost_number : List Entered → Option ℕ
 innermost_number [] = None
 innermost_number (e ∷ outer) = Some e.number
+
+-- the innermost of these spans, if there is one
+abbrev pub innermost_of : List Entered → Option Entered
+innermost_of [] = None
+innermost_of (e ∷ outer) = Some e
 
 -- the number of the next span, and the position at which it will be attached
 abbrev pub next_entered : LiveState → Live → Entered
@@ -107,6 +119,7 @@ module _ {P E : Type 0} where
     contexts = stack.attach (context_with span t.spans t.contexts) t.contexts;
     spans = with_started span t.spans;
     entered = next_entered t.spans t.contexts ∷ t.entered;
+    started = t.started ++ span ∷ [];
   }
 
   -- One of the spans that may start from the builder, at the clock's moment and under the current
@@ -130,6 +143,7 @@ module _ {P E : Type 0} where
     contexts = stack.detach e.position t.contexts;
     spans = with_ended e.number moment t.spans;
     entered = outer;
+    history = t.history ++ found (table.get (with_ended e.number moment t.spans).spans e.number);
   }
 
   -- the innermost of these spans, if there is one, ended at the moment and was detached
@@ -271,6 +285,18 @@ module _ {P E : Type 0} where
     pub collects : Collects (all_exited moment old) between
     pub rest : IsErrAnd answer (λ error. StopsAt error between new)
         ⊎ GoesOn (IsShutDown accepted shuts_down (done_of answer)) between new
+
+  -- Nothing that was entered is lost.
+  pub record LosesNoSpan (accepted : E → List (List SpanRecord)) (shuts_down : E → E → Type 0)
+      (t : TracingState P E) : Type 0 where
+    pub once : EndsOnce t.started t.history t.spans.spans t.entered
+    pub none_lost : LosesNone accepted shuts_down (items_of t.earlier) (sampled_of t.history)
+        t.spans t.processor
+
+  -- Every span that was entered has ended, and has arrived or was counted.
+  abbrev pub HasArrived : (E → List (List SpanRecord)) → (E → E → Type 0) → TracingState P E → Type 0
+  HasArrived accepted shuts_down t =
+      AllArrived accepted shuts_down t.started t.history t.earlier t.processor
 
   -- Nothing is entered, ended or queued, and the processor is closed.
   pub record IsDone (t : TracingState P E) : Type 0 where

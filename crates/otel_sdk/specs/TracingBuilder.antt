@@ -14,13 +14,17 @@ pub record BuilderParts (S G E : Type 0) : Type 0 where
   pub config : Limits
 
 -- nothing is attached, started, entered or queued, and the clock wasn't read
-abbrev pub at_start : {P E : Type 0} → P → E → Limits → TracingState P E
-at_start pipeline exporter config = record {
+abbrev pub at_start : {P E : Type 0} → (E → List (List SpanRecord)) → P → E → Limits
+    → TracingState P E
+at_start accepted pipeline exporter config = record {
   pipeline = pipeline;
   contexts = [];
   spans = no_spans;
   entered = [];
   processor = new_processor exporter config;
+  started = [];
+  history = [];
+  earlier = accepted exporter;
   moments = [];
   unrecorded = 0;
 }
@@ -32,4 +36,5 @@ pub record IsBuilt {S G E : Type 0} (accepted : E → List (List SpanRecord))
     : Type 0 where
   pub exporter : E
   pub same : accepted exporter ≡ accepted parts.exporter
-  pub state : t ≡ at_start (tracer_of (provider_of parts.provider) scope) exporter parts.config
+  pub state : t
+      ≡ at_start accepted (tracer_of (provider_of parts.provider) scope) exporter parts.config

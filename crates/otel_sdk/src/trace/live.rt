@@ -1,6 +1,6 @@
 //! The spans of a program until a processor collects them.
 ghost use Rattle.std.specs.Prelude.{◌≡◌, ◌<◌, ◌≤◌, false, [], OnOk, OnErr, IfOk, IfErr, IsErr};
-ghost use Rattle.std.specs.Prelude.{IsTrue, None, Some, option_copied};
+ghost use Rattle.std.specs.Prelude.{IsErrOf, IsTrue, None, Some, option_copied};
 ghost use Rattle.std.specs.Vec.{vec_capacity};
 ghost use Rattle.otel_context.specs.Context.{with_span};
 ghost use Rattle.otel_context.specs.Spans.{get, used_up};
@@ -9,11 +9,13 @@ ghost use Rattle.otel_context.specs.declared.span.spans.SpanCause.TheVariants.{N
 ghost use Rattle.otel_sdk.specs.SpanChange.{change_of};
 ghost use Rattle.otel_sdk.specs.LiveState.{no_spans, with_started, with_changed, with_ended};
 ghost use Rattle.otel_sdk_base.specs.Queue.{cause};
-ghost use Rattle.otel_sdk.specs.Ended.{of, AreCollected};
+ghost use Rattle.otel_sdk_base.specs.declared.error.OTelSdkError.TheVariants.{AlreadyShutdown};
+ghost use Rattle.otel_sdk.specs.Ended.{of, AreCollected, AreHandedOn, LosesNothing, OpenStay};
 ghost use Rattle.otel_sdk.specs.Tracing.{SameSpans, context_with, next_entered};
 
 use crate::trace::change::{SpanChange, change_in, end_in};
 use crate::trace::processor::batch::BatchSpanProcessor;
+use crate::trace::processor::simple::SimpleSpanProcessor;
 use opentelemetry::Context;
 use opentelemetry::context::ContextStack;
 use opentelemetry::trace::{SpanCause, SpanRefused, Spans};
@@ -174,6 +176,7 @@ impl LiveSpans {
         span: SdkSpan,
     ) -> Result<Entered, SpanCause>
         requires { newest_position stack.old.live < last_position }
+        ensures fresh { get self.old.spans self.old.spans.next_number ≡ None }
         ensures entered { IfOk result (λ e. e ≡ next_entered self.old stack.old.live) }
         ensures started { OnOk result (self.new ≡ with_started span self.old) }
         ensures attached { OnOk result (stack.new.live
@@ -225,7 +228,7 @@ impl LiveSpans {
         }
     }
 
-    /// Passes the ended spans to the processor, in the order of their ends.
+    /// Passes the ended spans to the processor, in the order of their ends. The open spans stay.
     ///
     /// # Errors
     ///
@@ -238,6 +241,9 @@ impl LiveSpans {
     ) -> OTelSdkResult
         ensures collected { AreCollected self.old.ended self.new.ended
             (of processor.old self.old.spans) (of processor.new self.new.spans) }
+        ensures nothing_lost { LosesNothing E.accepted self.old.ended self.new.ended
+            (of processor.old self.old.spans) (of processor.new self.new.spans) }
+        ensures open_stay { OpenStay self.old.spans self.new.spans }
         ensures ok { OnOk result (self.new.ended ≡ []) }
         ensures open { OnOk result (processor.old.is_shut_down ≡ false) }
         ensures refused { IfErr result (λ error. error ≡ cause processor.new) }
@@ -245,5 +251,30 @@ impl LiveSpans {
             → (self.new ≡ self.old) × (processor.new ≡ processor.old) }
     {
         processor.collect(&mut self.spans, &mut self.ended)
+    }
+
+    /// Flushes the processor, and then passes the ended spans to it, in the order of their ends,
+    /// with a flush after each. The open spans stay.
+    ///
+    /// # Errors
+    ///
+    /// - `AlreadyShutdown` if the processor was shut down. Nothing changes.
+    /// - Otherwise `Memory` if out of memory, or the error of the first flush that fails. The spans
+    ///   that the processor didn't take stay.
+    pub fn collect_each<E: SpanExporter>(
+        &mut self,
+        processor: &mut SimpleSpanProcessor<E>,
+    ) -> OTelSdkResult
+        ensures handed_on { AreHandedOn E.accepted self.old.ended self.new.ended
+            (of processor.old self.old.spans) (of processor.new self.new.spans) }
+        ensures nothing_lost { LosesNothing E.accepted self.old.ended self.new.ended
+            (of processor.old self.old.spans) (of processor.new self.new.spans) }
+        ensures open_stay { OpenStay self.old.spans self.new.spans }
+        ensures ok { OnOk result (self.new.ended ≡ []) }
+        ensures exported { OnOk result (processor.new.queue ≡ []) }
+        ensures closed { IsTrue processor.old.is_shut_down → IsErrOf result AlreadyShutdown
+            × (self.new ≡ self.old) × (processor.new ≡ processor.old) }
+    {
+        processor.collect_each(&mut self.spans, &mut self.ended)
     }
 }

@@ -9,16 +9,27 @@ use otel_sdk_base::error::{OTelSdkError, OTelSdkResult};
 use otel_sdk_base::resource::Resource;
 use otel_sdk_span::SpanData;
 use std::rc::Rc;
+use thiserror::Error;
 
 /// The reason why a processor failed at the end of a span. Not in the Rust crate.
 ///
 /// See [`SpanProcessor::on_end`].
-#[derive(Debug, Drop)]
+#[derive(Debug, Drop, Error)]
+#[error("{error}")]
 pub struct EndRefused {
     /// The span, or `None` if the processor accepted it and only its export failed.
     pub span: Option<SpanData>,
     /// The cause of the failure.
     pub error: OTelSdkError,
+}
+
+/// Drops the span, if there is one.
+impl From<EndRefused> for OTelSdkError {
+    ghost from_gives = { λ refused converted. converted ≡ refused.error };
+
+    fn from(refused: EndRefused) -> OTelSdkError {
+        refused.error
+    }
 }
 
 /// Receives ended spans, and passes the sampled ones to an exporter (the Rust crate's

@@ -2,6 +2,7 @@
 ghost use Rattle.std.specs.Prelude.{◌≡◌, IfOk, Some, None};
 ghost use Rattle.std.specs.Rc.{rc_value};
 ghost use Rattle.otel_sdk_span.specs.SpanLimits.{default_limits};
+ghost use Rattle.otel_sdk.specs.ParentBased.{after_parent};
 ghost use Rattle.otel_sdk.specs.Tracer as spec;
 
 use crate::trace::tracer::{SdkTracer, TracerPipeline};
@@ -79,7 +80,7 @@ where
     ) -> TracerProviderBuilder<ParentBased<Sampler>, RandomIdGenerator<R>, SystemClock<R>>
         ensures limits { result.limits ≡ default_limits }
         ensures resource { result.resource ≡ None }
-        ensures root { result.sampler.root ≡ Sampler.AlwaysOn }
+        ensures sampler { result.sampler ≡ after_parent Sampler.AlwaysOn }
     {
         TracerProviderBuilder {
             resource: None,

@@ -1,5 +1,5 @@
 //! The tracer of the SDK.
-ghost use Rattle.std.specs.Prelude.{◌≡◌, IfOk, option_copied};
+ghost use Rattle.std.specs.Prelude.{◌≡◌, false, IfOk, option_copied};
 ghost use Rattle.std.specs.Option.{unwrap_or};
 ghost use Rattle.opentelemetry.specs.View.{builder_of};
 ghost use Rattle.otel_sdk.specs.Tracer as spec;
@@ -39,7 +39,8 @@ pub trait Pipeline: Drop {
         builder: SpanBuilder,
         parent: &Context,
     ) -> Result<SdkSpan, AllocError>
-        ensures { IfOk result (may_start self.now (builder_of builder) parent.now) };
+        ensures started { IfOk result (may_start self.now (builder_of builder) parent.now) }
+        ensures running { IfOk result (λ span. span.has_ended ≡ false) };
 
     /// Returns the clock's moment, in nanoseconds since 1970.
     fn now(&self) -> u64;
@@ -59,6 +60,26 @@ impl<P> Model for SdkTracer<P> {
     ghost Value = { P };
 
     ghost view = { λ t. t.pipeline };
+}
+
+impl<P: Pipeline> SdkTracer<P> {
+    /// Starts a span from a builder under a parent context, as [`Tracer::build_with_context`].
+    ///
+    /// # Errors
+    ///
+    /// `AllocError` if out of memory. The builder is dropped.
+    pub(crate) fn start(
+        &self,
+        alloc: Global,
+        builder: SpanBuilder,
+        parent: &Context,
+    ) -> Result<SdkSpan, AllocError>
+        ensures started { IfOk result
+            (P.may_start self.now (builder_of builder) parent.now) }
+        ensures running { IfOk result (λ span. span.has_ended ≡ false) }
+    {
+        self.pipeline.build_with_context(alloc, builder, parent)
+    }
 }
 
 impl<P: Pipeline> Tracer for SdkTracer<P> {

@@ -6,7 +6,7 @@ ghost use Rattle.opentelemetry.specs.SpanBuilder.{from_name};
 ghost use Rattle.opentelemetry.specs.View.{builder_of};
 ghost use Rattle.otel_sdk.specs.Tracing as spec;
 ghost use Rattle.otel_sdk.specs.Tracing.{AttachesContext, Enters, EntersNone, Exits, Runs};
-ghost use Rattle.otel_sdk.specs.Tracing.{innermost_ended, innermost_number};
+ghost use Rattle.otel_sdk.specs.Tracing.{LosesNoSpan, innermost_ended, innermost_number};
 ghost use Rattle.otel_sdk.specs.declared.trace.tracing.NotEntered.TheVariants.{NumbersUsedUp};
 ghost use Rattle.otel_sdk.specs.declared.trace.tracing.NotEntered.TheVariants.{PositionsUsedUp};
 
@@ -15,16 +15,17 @@ mod carry;
 mod current;
 mod errors;
 mod export;
+mod journal;
 mod moments;
 mod work;
 
-use crate::trace::live::{Entered, LiveSpans};
-use crate::trace::processor::batch::BatchSpanProcessor;
+use crate::trace::live::Entered;
 use crate::trace::tracer::{Pipeline, SdkTracer};
 pub use builder::TracingBuilder;
+use journal::Journal;
 use moments::Moments;
 use opentelemetry::context::ContextStack;
-use opentelemetry::trace::{SpanBuilder, SpanCause, Tracer};
+use opentelemetry::trace::{SpanBuilder, SpanCause};
 use opentelemetry::{Context, StringValue};
 use otel_sdk_base::error::OTelSdkError;
 use otel_sdk_span::SpanExporter;
@@ -117,21 +118,17 @@ pub struct Attached {
 /// tracing.flush()
 /// ```
 #[derive(Drop)]
-pub struct Tracing<P, E> {
+pub struct Tracing<P, E: SpanExporter> {
     alloc: Global,
     tracer: SdkTracer<P>,
     stack: ContextStack,
-    live: LiveSpans,
-    // The outermost first.
-    entered: Vec<Entered>,
-    processor: BatchSpanProcessor<E>,
+    journal: Journal<E>,
     moments: Moments,
     unrecorded: u64,
 }
 
-impl<P, E> Model for Tracing<P, E> {
+impl<P, E: SpanExporter> Model for Tracing<P, E> {
     ghost use Rattle.std.specs.Coded.{codes};
-    ghost use Rattle.std.specs.Prelude.{reverse};
     ghost use Rattle.otel_context.specs.View.{context_code};
     ghost use Rattle.otel_sdk.specs.LiveState.{live_code};
     ghost use Rattle.otel_sdk.specs.Tracing.{TracingState};
@@ -139,14 +136,22 @@ impl<P, E> Model for Tracing<P, E> {
 
     ghost Value = { TracingState P E };
 
-    ghost coded = { Prim.hlevel (codes, context_code, live_code span.the_row.coded) };
+    ghost coded = { Prim.hlevel (
+      codes,
+      context_code,
+      live_code span.the_row.coded,
+      span.the_row.coded,
+    ) };
 
     ghost view = { λ t. record {
       pipeline = t.tracer;
       contexts = t.stack.live;
-      spans = t.live;
-      entered = reverse t.entered.items;
-      processor = t.processor;
+      spans = t.journal.spans;
+      entered = t.journal.entered;
+      processor = t.journal.processor;
+      started = t.journal.started;
+      history = t.journal.history;
+      earlier = t.journal.earlier;
       moments = t.moments;
       unrecorded = t.unrecorded;
     } };
@@ -207,16 +212,11 @@ impl<P: Pipeline, E: SpanExporter> Tracing<P, E> {
         if self.stack.newest_position() == LAST_POSITION {
             return Err(NotEntered::PositionsUsedUp);
         }
-        self.entered.reserve(1)?;
         let now = self.moments.read(&self.tracer);
         let builder = starting_at(now, builder);
         let current = self.stack.current();
-        let span = self
-            .tracer
-            .build_with_context(self.alloc, builder, current)?;
-        let entered = self.live.start_attached(&mut self.stack, span)?;
-        self.entered.push_reserved(entered);
-        Ok(entered)
+        let span = self.tracer.start(self.alloc, builder, current)?;
+        Ok(self.journal.enter(&mut self.stack, span)?)
     }
 
     /// Ends the span at the clock's moment, and detaches it. Spans that were entered inside it and
@@ -226,18 +226,11 @@ impl<P: Pipeline, E: SpanExporter> Tracing<P, E> {
         ensures { Exits entered.number self.old self.new }
     {
         let number = entered.number;
-        if !self.is_entered(number) {
+        if !self.journal.is_entered(number) {
             return;
         }
         let now = self.moments.read(&self.tracer);
         self.exit_to(number, now);
-    }
-
-    /// Returns whether the span with the number is entered.
-    fn is_entered(&self, number: u64) -> bool
-        ensures { result ≡ spec.is_entered number self.now.entered }
-    {
-        self.entered.iter().any(|e| e.number == number)
     }
 
     /// Ends and detaches each span up to the one with the number, the innermost first.
@@ -256,8 +249,7 @@ impl<P: Pipeline, E: SpanExporter> Tracing<P, E> {
         ensures number { result ≡ innermost_number self.old.entered }
         ensures ended { self.new ≡ innermost_ended now self.old.entered self.old }
     {
-        let innermost = self.entered.pop()?;
-        self.live.end(innermost.number, now);
+        let innermost = self.journal.end_innermost(now)?;
         drop(self.stack.pop_id(innermost.position));
         Some(innermost.number)
     }
@@ -326,7 +318,7 @@ impl<P: Pipeline, E: SpanExporter> Tracing<P, E> {
     pub fn open_spans(&self) -> usize
         ensures { result ≡ length self.now.entered }
     {
-        self.entered.len()
+        self.journal.open_spans()
     }
 
     /// Returns how often [`Tracing::in_span`] couldn't enter a span, and [`Tracing::try_in_span`]
@@ -342,13 +334,20 @@ impl<P: Pipeline, E: SpanExporter> Tracing<P, E> {
     pub fn dropped_spans(&self) -> u64
         ensures { result ≡ self.now.processor.dropped }
     {
-        self.processor.dropped_spans()
+        self.journal.processor().dropped_spans()
     }
 
     /// Returns the exporter.
     pub fn exporter(&self) -> &E
         ensures { result.now ≡ self.now.processor.exporter }
     {
-        self.processor.exporter()
+        self.journal.processor().exporter()
+    }
+
+    /// States that no span which was entered is lost. Does nothing at run time.
+    pub fn loses_no_span(&self)
+        ensures { LosesNoSpan E.accepted E.shuts_down self.now }
+    {
+        self.journal.is_sound();
     }
 }

@@ -2,8 +2,8 @@
 use crate::processor::{Planned, report};
 use opentelemetry::trace::{Span, SpanContext, Spans};
 use otel_sdk::trace::{
-    BatchConfigBuilder, BatchSpanProcessor, InMemorySpanExporter, SdkSpan, SimpleSpanProcessor,
-    SpanLimits, SpanProcessor,
+    BatchConfigBuilder, BatchSpanProcessor, InMemorySpanExporter, LiveSpans, SdkSpan,
+    SimpleSpanProcessor, SpanLimits, SpanProcessor,
 };
 use std::alloc::Global;
 use std::test::Fail;
@@ -18,30 +18,18 @@ fn recording(alloc: Global, number: u64, flags: u8) -> Result<SdkSpan, Fail> {
     )?)
 }
 
-/// Ends the span with the number, and lists the number if the span hadn't ended.
-fn end(spans: &mut Spans<SdkSpan>, ended: &mut Vec<u64>, number: u64) -> Result<(), Fail> {
-    if let Some(span) = spans.get_mut(number) {
-        if !span.has_ended() {
-            ended.push(number)?;
-            span.end_with_timestamp(9);
-        }
-    }
-    Ok(())
-}
-
-/// Makes the calls of a script: `s`, `r` and `d` start the next span, from number 1 on, as sampled,
-/// as only recorded, and as neither; `e1` ends the span 1, `c` collects, `f` flushes, and `x` shuts
-/// down. Returns the errors, and the number of spans left in the table.
+/// Makes the calls of a script: `s`, `r` and `d` start the next span as sampled, as only recorded,
+/// and as neither; `e1` ends the first span, `c` collects, `f` flushes, and `x` shuts down. Returns
+/// the errors, and the number of spans left in the table.
 fn played(
     alloc: Global,
     processor: &mut BatchSpanProcessor<Planned>,
     script: &'static str,
 ) -> Result<(String, usize), Fail> {
     let mut errors = String::new(alloc);
-    let mut spans = Spans::starting_at(alloc, 1);
-    let mut ended = Vec::new(alloc);
+    let mut live = LiveSpans::new(alloc);
     for call in script.split(' ') {
-        let next = spans.next_number();
+        let next = live.spans().next_number() + 1;
         let started = match call.as_bytes() {
             [b's'] => Some(recording(alloc, next, 3)?),
             [b'r'] => Some(recording(alloc, next, 2)?),
@@ -49,16 +37,16 @@ fn played(
             _ => None,
         };
         if let Some(span) = started {
-            if spans.insert(span).is_err() {
+            if live.start(span).is_err() {
                 return Err(Fail::from("no room for the span"));
             }
         }
         let error = match call.as_bytes() {
-            [b'c'] => processor.collect(&mut spans, &mut ended).err(),
+            [b'c'] => live.collect(processor).err(),
             [b'f'] => processor.force_flush().err(),
             [b'x'] => processor.shutdown().err(),
             [b'e', number] => {
-                end(&mut spans, &mut ended, (*number - b'0') as u64)?;
+                live.end((*number - b'1') as u64, 9);
                 None
             }
             _ => None,
@@ -67,7 +55,7 @@ fn played(
             report(&mut errors, &error)?;
         }
     }
-    Ok((errors, spans.len()))
+    Ok((errors, live.spans().len()))
 }
 
 /// The limits of the queue and of a batch, the exporter's plan, the calls; the batches that the
@@ -155,6 +143,7 @@ const RUNS: &[Row] = &[
     ),
     (4, 2, "+", "f c c s e1 e1 c f", "[1]", "", 0, 0, 0),
     (4, 2, "+", "s s e2 e1 c f", "[2 1]", "", 0, 0, 0),
+    (4, 2, "++", "s s e2 c f e1 c f", "[2][1]", "", 0, 0, 0),
     (4, 2, "+", "s r d e1 e2 e3 c f", "[1]", "", 0, 0, 0),
     (4, 2, "+", "s e2 s e2 c f", "[2]", "", 0, 0, 1),
     (2, 4, "+", "s s s e1 e2 e3 c f", "[1 2]", "", 0, 1, 0),
@@ -190,44 +179,59 @@ fn an_ended_span_is_taken_by_its_number(rt: HostRuntime) -> Result<(), Fail> {
     assert!(rt; processor.on_end_of(&mut spans, 0).is_ok());
     assert!(rt; processor.on_end_of(&mut spans, 1).is_ok());
     assert_eq!(rt; (processor.queued_spans(), spans.len()), (0, 1));
-    let mut ended = Vec::new(alloc);
-    end(&mut spans, &mut ended, 0)?;
+    if let Some(span) = spans.get_mut(0) {
+        span.end_with_timestamp(9);
+    }
     assert!(rt; processor.on_end_of(&mut spans, 0).is_ok());
     assert_eq!(rt; (processor.queued_spans(), spans.len()), (1, 0));
-    assert!(rt; processor.collect(&mut spans, &mut ended).is_ok());
-    assert!(rt; ended.is_empty());
+    assert!(rt; processor.on_end_of(&mut spans, 0).is_ok());
     assert_eq!(rt; processor.queued_spans(), 1);
     Ok(())
 }
 
-/// A table of three sampled spans that have ended, from number 1 on, and their numbers.
-fn three_ended(alloc: Global) -> Result<(Spans<SdkSpan>, Vec<u64>), Fail> {
-    let mut spans = Spans::starting_at(alloc, 1);
-    let mut ended = Vec::new(alloc);
-    for number in 1..4 {
-        if spans.insert(recording(alloc, number, 1)?).is_err() {
+/// Three sampled spans, with the span ids 1, 2 and 3.
+fn three_started(alloc: Global) -> Result<LiveSpans, Fail> {
+    let mut live = LiveSpans::new(alloc);
+    for id in 1..4 {
+        if live.start(recording(alloc, id, 1)?).is_err() {
             return Err(Fail::from("no room for the span"));
         }
-        end(&mut spans, &mut ended, number)?;
     }
-    Ok((spans, ended))
+    Ok(live)
+}
+
+/// Three sampled spans that have ended in order, with the span ids 1, 2 and 3.
+fn three_ended(alloc: Global) -> Result<LiveSpans, Fail> {
+    let mut live = three_started(alloc)?;
+    for number in 0..3 {
+        live.end(number, 9);
+    }
+    Ok(live)
 }
 
 #[test]
 fn each_ended_span_is_exported_by_itself(rt: HostRuntime) -> Result<(), Fail> {
     let alloc = rt.alloc();
-    let (mut spans, mut ended) = three_ended(alloc)?;
+    let mut live = three_ended(alloc)?;
     let mut processor = SimpleSpanProcessor::new(alloc, Planned::new(alloc, "+-+++"));
-    assert!(rt; processor.collect(&mut spans, &mut ended).is_err());
+    assert!(rt; live.collect_each(&mut processor).is_err());
     assert_eq!(rt; processor.exporter().log.as_str(), "[1][2]!");
     assert_eq!(rt;
-        (ended.len(), spans.len(), processor.queued_spans()),
+        (
+            live.ended().len(),
+            live.spans().len(),
+            processor.queued_spans()
+        ),
         (1, 1, 1)
     );
-    assert!(rt; processor.collect(&mut spans, &mut ended).is_ok());
+    assert!(rt; live.collect_each(&mut processor).is_ok());
     assert_eq!(rt; processor.exporter().log.as_str(), "[1][2]![2][3]");
     assert_eq!(rt;
-        (ended.len(), spans.len(), processor.queued_spans()),
+        (
+            live.ended().len(),
+            live.spans().len(),
+            processor.queued_spans()
+        ),
         (0, 0, 0)
     );
     assert_eq!(rt; processor.dropped_spans(), 0);
@@ -235,9 +239,31 @@ fn each_ended_span_is_exported_by_itself(rt: HostRuntime) -> Result<(), Fail> {
 }
 
 #[test]
+fn an_open_span_is_exported_after_its_end(rt: HostRuntime) -> Result<(), Fail> {
+    let alloc = rt.alloc();
+    let mut live = three_started(alloc)?;
+    let mut processor = SimpleSpanProcessor::new(alloc, Planned::new(alloc, "+++"));
+    live.end(1, 9);
+    assert!(rt; live.collect_each(&mut processor).is_ok());
+    assert_eq!(rt; processor.exporter().log.as_str(), "[2]");
+    assert_eq!(rt; (live.ended().len(), live.spans().len()), (0, 2));
+    live.end(2, 9);
+    live.end(0, 9);
+    assert!(rt; live.collect_each(&mut processor).is_ok());
+    assert_eq!(rt; processor.exporter().log.as_str(), "[2][3][1]");
+    assert_eq!(rt; (live.ended().len(), live.spans().len()), (0, 0));
+    Ok(())
+}
+
+#[test]
 fn an_ended_span_is_exported_by_its_number(rt: HostRuntime) -> Result<(), Fail> {
     let alloc = rt.alloc();
-    let (mut spans, mut ended) = three_ended(alloc)?;
+    let mut spans = Spans::starting_at(alloc, 1);
+    for number in 1..4 {
+        let mut span = recording(alloc, number, 1)?;
+        span.end_with_timestamp(9);
+        assert!(rt; spans.insert(span).is_ok());
+    }
     let mut processor = SimpleSpanProcessor::new(alloc, Planned::new(alloc, "-++"));
     assert!(rt; processor.on_end_of(&mut spans, 2).is_err());
     assert_eq!(rt; (spans.len(), processor.queued_spans()), (2, 1));
@@ -246,7 +272,9 @@ fn an_ended_span_is_exported_by_its_number(rt: HostRuntime) -> Result<(), Fail> 
     assert_eq!(rt; processor.exporter().log.as_str(), "[2]![2][1]");
     assert!(rt; processor.shutdown().is_ok());
     assert!(rt; processor.on_end_of(&mut spans, 3).is_err());
-    assert!(rt; processor.collect(&mut spans, &mut ended).is_err());
-    assert_eq!(rt; (spans.len(), ended.len()), (1, 3));
+    assert_eq!(rt; spans.len(), 1);
+    let mut live = three_ended(alloc)?;
+    assert!(rt; live.collect_each(&mut processor).is_err());
+    assert_eq!(rt; (live.spans().len(), live.ended().len()), (3, 3));
     Ok(())
 }

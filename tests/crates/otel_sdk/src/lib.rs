@@ -2,9 +2,10 @@
 //! calls succeed, printed texts, and worked cases.
 #![tactic(auto)]
 
-// Depends on: test_support
+// Depends on: anyhow test_support
 
 mod ended;
+mod errors;
 mod exporter;
 mod id_generator;
 mod processor;

@@ -70,6 +70,44 @@ fn exported(rt: HostRuntime, app: &mut App) -> Result<String, Fail> {
 }
 
 #[test]
+fn counted_spans_are_the_same_each_time(rt: HostRuntime) -> Result<(), Fail> {
+    let builder = Tracing::builder(rt).counted(5);
+    let exporter = InMemorySpanExporter::new(rt.alloc());
+    let mut tracing = builder.with_exporter(exporter).build(rt.alloc(), "cart")?;
+    let serve = tracing.enter("serve")?;
+    let price = tracing.enter("price")?;
+    tracing.exit(price);
+    tracing.exit(serve);
+    tracing.flush()?;
+    let spans = tracing.exporter().get_finished_spans()?;
+    assert_eq!(rt; spans.len(), 2);
+    let (price, serve) = (&spans[0], &spans[1]);
+    assert_eq!(rt;
+        (
+            last(serve.parent_span_id),
+            last(serve.span_context.span_id())
+        ),
+        (0, 1)
+    );
+    assert_eq!(rt;
+        (
+            last(price.parent_span_id),
+            last(price.span_context.span_id())
+        ),
+        (1, 2)
+    );
+    assert_eq!(rt;
+        (
+            price.start_time - serve.start_time,
+            price.end_time - serve.start_time
+        ),
+        (5, 10)
+    );
+    assert_eq!(rt; serve.end_time - serve.start_time, 15);
+    Ok(())
+}
+
+#[test]
 fn spans_nest(rt: HostRuntime) -> Result<(), Fail> {
     let mut app = app(rt)?;
     let open = app.in_span(

@@ -7,8 +7,8 @@ use opentelemetry::trace::{
 };
 use otel_sdk::error::OTelSdkResult;
 use otel_sdk::trace::{
-    BatchSpanProcessor, EndRefused, Exporter, FinishedSpans, InMemorySpanExporter, SdkSpan,
-    SimpleSpanProcessor, SpanData, SpanLimits, SpanProcessor,
+    BatchSpanProcessor, EndRefused, Exporter, FinishedSpans, InMemorySpanExporter, LiveSpans,
+    SdkSpan, SimpleSpanProcessor, SpanData, SpanLimits, SpanProcessor,
 };
 use otel_waterfall::WaterfallExporter;
 use std::alloc::{AllocError, Global};
@@ -122,14 +122,27 @@ fn end_numbered<R: Print>(alloc: Global, lines: &Lines<'_, R>) -> Result<(), All
     Ok(())
 }
 
+/// Two sampled spans that have ended, the second one first.
+fn ended_live(alloc: Global) -> Result<LiveSpans, AllocError> {
+    let mut live = LiveSpans::new(alloc);
+    for _ in 0..2 {
+        let span = SdkSpan::new(alloc, span(alloc)?, SpanLimits::default())?;
+        if live.start(span).is_err() {
+            return Err(AllocError);
+        }
+    }
+    live.end(1, 9);
+    live.end(0, 9);
+    Ok(live)
+}
+
 fn collect<R: Print>(alloc: Global, lines: &Lines<'_, R>) -> Result<(), AllocError> {
-    let mut spans = ended_spans(alloc)?;
-    let mut ended = vec![in alloc; 1, 0]?;
+    let mut live = ended_live(alloc)?;
     let mut processor = processor(alloc);
-    let answer = processor.collect(&mut spans, &mut ended);
+    let answer = live.collect(&mut processor);
     let taken = if answer.is_ok() { 2 } else { 0 };
     lines.answer_named("collected", answer);
-    lines.due(processor.queued_spans() == taken && spans.len() == ended.len());
+    lines.due(processor.queued_spans() == taken && live.spans().len() == live.ended().len());
     Ok(())
 }
 
@@ -144,13 +157,13 @@ fn export_numbered<R: Print>(alloc: Global, lines: &Lines<'_, R>) -> Result<(), 
 }
 
 fn export_each<R: Print>(alloc: Global, lines: &Lines<'_, R>) -> Result<(), AllocError> {
-    let mut spans = ended_spans(alloc)?;
-    let mut ended = vec![in alloc; 1, 0]?;
-    let mut processor = SimpleSpanProcessor::new(alloc, InMemorySpanExporter::new(alloc));
-    let answer = processor.collect(&mut spans, &mut ended);
+    let mut live = ended_live(alloc)?;
+    let mut processor = simple(alloc);
+    let answer = live.collect_each(&mut processor);
     let left = if answer.is_ok() { 0 } else { 2 };
     lines.answer_named("collected", answer);
-    lines.due(spans.len() == ended.len() && processor.queued_spans() + ended.len() <= left);
+    let listed = live.ended().len();
+    lines.due(live.spans().len() == listed && processor.queued_spans() + listed <= left);
     Ok(())
 }
 

@@ -1,20 +1,19 @@
 //! The builder of a `Tracing`.
 ghost use Rattle.std.specs.Prelude.{◌≡◌, IfOk, None};
 ghost use Rattle.opentelemetry.specs.Scope.{scope_of_name};
+ghost use Rattle.otel_sdk.specs.ParentBased.{after_parent};
 ghost use Rattle.otel_sdk.specs.Tracer.{with_id_generator, with_resource, with_sampler};
 ghost use Rattle.otel_sdk.specs.TracingBuilder.{IsBuilt};
 ghost use Rattle.otel_sdk_base.specs.Queue.{default_limits as default_batches};
 ghost use Rattle.otel_sdk_span.specs.SpanLimits.{default_limits};
 
 use super::Tracing;
+use super::journal::Journal;
 use super::moments::Moments;
-use crate::trace::live::LiveSpans;
-use crate::trace::processor::SpanProcessor;
-use crate::trace::processor::batch::BatchSpanProcessor;
 use crate::trace::tracer::TracerPipeline;
 use crate::trace::{
-    IdGenerator, ParentBased, RandomIdGenerator, Sampler, SdkTracerProvider, ShouldSample,
-    TracerProviderBuilder,
+    CountedClock, CountedIdGenerator, IdGenerator, InMemorySpanExporter, ParentBased,
+    RandomIdGenerator, Sampler, SdkTracerProvider, ShouldSample, TracerProviderBuilder,
 };
 use opentelemetry::StringValue;
 use opentelemetry::context::ContextStack;
@@ -55,7 +54,8 @@ pub type StandardPipeline<R> = TracerPipeline<
     SystemClock<R>,
 >;
 
-impl<R> Tracing<StandardPipeline<R>, ()>
+// The builder's type doesn't depend on the exporter named here.
+impl<R> Tracing<StandardPipeline<R>, InMemorySpanExporter>
 where
     R: RandomSource + std::time::Clock + Copy + Drop,
 {
@@ -66,7 +66,7 @@ where
     ) -> TracingBuilder<ParentBased<Sampler>, RandomIdGenerator<R>, SystemClock<R>, ()>
         ensures limits { result.provider.limits ≡ default_limits }
         ensures resource { result.provider.resource ≡ None }
-        ensures root { result.provider.sampler.root ≡ Sampler.AlwaysOn }
+        ensures sampler { result.provider.sampler ≡ after_parent Sampler.AlwaysOn }
         ensures batches { result.config ≡ default_batches }
     {
         TracingBuilder {
@@ -134,6 +134,19 @@ impl<S: ShouldSample, G: IdGenerator, C: Clock, E: Drop> TracingBuilder<S, G, C,
         }
     }
 
+    /// Counts ids up from 1, and lets each reading of the clock be `step` nanoseconds later than the
+    /// one before, so that every run gives the same spans. Use it in tests and examples.
+    pub fn counted(self, step: u64) -> TracingBuilder<S, CountedIdGenerator, CountedClock, E>
+        ensures { result ≡ record {
+          provider = with_id_generator result.provider.id_generator self.provider;
+          exporter = self.exporter;
+          config = self.config;
+        } }
+    {
+        self.with_id_generator(CountedIdGenerator::new())
+            .with_clock(CountedClock::new(step))
+    }
+
     /// Sets the resource: the entity that the spans describe.
     ///
     /// # Errors
@@ -191,19 +204,16 @@ impl<S: ShouldSample, G: IdGenerator, C: Clock, E: SpanExporter> TracingBuilder<
     {
         let TracingBuilder {
             provider,
-            exporter,
+            mut exporter,
             config,
         } = self;
         let provider = provider.build(alloc)?;
-        let mut processor = BatchSpanProcessor::new(alloc, exporter, config);
-        processor.set_resource(provider.shared_resource()?);
+        exporter.set_resource(provider.shared_resource()?);
         Ok(Tracing {
             alloc,
             tracer: provider.tracer(alloc, StringValue::from(name))?,
             stack: ContextStack::new(alloc)?,
-            live: LiveSpans::new(alloc),
-            entered: Vec::new(alloc),
-            processor,
+            journal: Journal::new(alloc, exporter, config),
             moments: Moments::new(),
             unrecorded: 0,
         })

@@ -98,7 +98,7 @@ impl<P: Pipeline, E: SpanExporter> Tracing<P, E> {
         ensures err { OnErr result (self.new ≡ self.old) }
     {
         match self.stack.current().span_number() {
-            Some(number) => self.live.change(self.alloc, number, change),
+            Some(number) => self.journal.change(self.alloc, number, change),
             None => {
                 drop(change);
                 Ok(())

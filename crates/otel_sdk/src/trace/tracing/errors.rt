@@ -118,8 +118,8 @@ impl<P: Pipeline, E: SpanExporter> Tracing<P, E> {
         let status = Status::error(text.clone()?);
         let attributes = exception(self.alloc, text)?;
         let event = SpanChange::AddEvent(StringValue::from("exception"), now, attributes);
-        self.live.change(self.alloc, number, event)?;
-        self.live
+        self.journal.change(self.alloc, number, event)?;
+        self.journal
             .change(self.alloc, number, SpanChange::SetStatus(status))
     }
 }

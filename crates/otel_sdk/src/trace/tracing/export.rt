@@ -1,10 +1,10 @@
 //! How ended spans get from a `Tracing` to its exporter.
 ghost use Rattle.std.specs.Prelude.{◌≡◌, ℕ, [], length, IfOk, IfErr, OnOk};
-ghost use Rattle.otel_sdk.specs.Tracing.{Collects, Flushes, IsDone, ShutsDown, all_exited};
+ghost use Rattle.otel_sdk.specs.Tracing.{Collects, Flushes, HasArrived, IsDone};
+ghost use Rattle.otel_sdk.specs.Tracing.{ShutsDown, all_exited};
 ghost use Rattle.otel_sdk_base.specs.Queue.{cause};
 
 use super::Tracing;
-use crate::trace::processor::SpanProcessor;
 use crate::trace::tracer::Pipeline;
 use otel_sdk_base::error::{OTelSdkError, OTelSdkResult};
 use otel_sdk_span::SpanExporter;
@@ -23,13 +23,13 @@ impl<P: Pipeline, E: SpanExporter> Tracing<P, E> {
             ((self.new.spans.ended ≡ []) × (self.new.processor.queue ≡ [])) }
     {
         self.collect()?;
-        self.processor.force_flush()
+        self.journal.force_flush()
     }
 
     /// Ends every open span, the innermost first, exports every span as [`Tracing::flush`] does,
-    /// and shuts the exporter down. Returns the number of spans that were open. Then each ended
-    /// span that is sampled has been accepted by the exporter, or was dropped by a full queue and
-    /// counted.
+    /// and shuts the exporter down. Returns the number of spans that were open. Then every
+    /// span that was entered has ended, and each sampled one has been accepted by the exporter,
+    /// once, or was dropped by a full queue and counted.
     ///
     /// # Errors
     ///
@@ -39,11 +39,13 @@ impl<P: Pipeline, E: SpanExporter> Tracing<P, E> {
         ensures shuts_down { ShutsDown E.accepted E.shuts_down result self.old self.new }
         ensures count { IfOk result (λ count. count ≡ length self.old.entered) }
         ensures done { OnOk result (IsDone self.new) }
+        ensures arrived { OnOk result (HasArrived E.accepted E.shuts_down self.new) }
     {
-        let open = self.entered.len();
+        let open = self.journal.open_spans();
         self.exit_all();
         self.collect()?;
-        self.processor.shutdown()?;
+        self.journal.shutdown()?;
+        self.journal.is_sound();
         Ok(open)
     }
 
@@ -61,6 +63,6 @@ impl<P: Pipeline, E: SpanExporter> Tracing<P, E> {
         ensures ok { OnOk result (self.new.spans.ended ≡ []) }
         ensures refused { IfErr result (λ error. error ≡ cause self.new.processor) }
     {
-        self.live.collect(&mut self.processor)
+        self.journal.collect()
     }
 }

@@ -36,7 +36,7 @@ impl Moments {
         ensures { self.new ≡ self.old ++ result ∷ [] }
     {
         let now = tracer.pipeline.now();
-        self.given = self.given.and(&[now]);
+        self.given = self.given.and_one(&now);
         now
     }
 }

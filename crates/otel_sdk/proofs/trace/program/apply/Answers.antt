@@ -75,7 +75,7 @@ pub returns-in-Err-force_flush : goal.returns-in-Err-force_flush
 returns-in-Err-force_flush g c = rw c.in-Flush.is (applies-flush_part g.E.Exporter.accepted g.E.Exporter.shuts_down
     (g.P.Pipeline.may_start c.args.tracer.now)
     c.args.live.now c.args.stack.now.live c.args.processor.now c.force_flush.new.self c.force_flush.result
-    c.in-Err-force_flush.error c.force_flush.ensures.0 c.force_flush.ensures.3)
+    c.in-Err-force_flush.error c.in-Err-force_flush.is c.force_flush.ensures.0 c.force_flush.ensures.3)
 
 pub returns-in-Ok-shutdown : goal.returns-in-Ok-shutdown
 returns-in-Ok-shutdown g c = rw c.in-Shutdown.is (applies-shutdown g.E.Exporter.accepted g.E.Exporter.shuts_down

@@ -64,7 +64,11 @@ impl<E: SpanExporter> BatchSpanProcessor<E> {
     ///   table, and their numbers in the list.
     ///
     /// [`SpanProcessor::shutdown`]: crate::trace::SpanProcessor::shutdown
-    pub fn collect(&mut self, spans: &mut Spans<SdkSpan>, ended: &mut Vec<u64>) -> OTelSdkResult
+    pub(crate) fn collect(
+        &mut self,
+        spans: &mut Spans<SdkSpan>,
+        ended: &mut Vec<u64>,
+    ) -> OTelSdkResult
         ensures collected { AreCollected ended.old.items ended.new.items
             (spec.of self.old spans.old) (spec.of self.new spans.new) }
         ensures nothing_lost { IsDistinct ◌==◌ ended.old.items

@@ -71,7 +71,11 @@ impl<E: SpanExporter> SimpleSpanProcessor<E> {
     /// - `AlreadyShutdown` after [`SpanProcessor::shutdown`]. Nothing changes.
     /// - Otherwise `Memory` if out of memory, or the error of the first flush that fails. The spans
     ///   that weren't collected stay in the table, and their numbers in the list.
-    pub fn collect(&mut self, spans: &mut Spans<SdkSpan>, ended: &mut Vec<u64>) -> OTelSdkResult
+    pub(crate) fn collect_each(
+        &mut self,
+        spans: &mut Spans<SdkSpan>,
+        ended: &mut Vec<u64>,
+    ) -> OTelSdkResult
         ensures handed_on { AreHandedOn E.accepted ended.old.items ended.new.items
             (spec.of self.old spans.old) (spec.of self.new spans.new) }
         ensures nothing_lost { IsDistinct ◌==◌ ended.old.items

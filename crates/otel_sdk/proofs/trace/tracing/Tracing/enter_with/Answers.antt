@@ -1,5 +1,4 @@
-use Rattle.std.proofs.Common.{◌∙◌, List, ap, refl, rules, sym}
-use Rattle.otel_sdk.specs.Tracing.{Enters, TracingState}
+use Rattle.std.proofs.Common.{refl, rules, sym}
 use Rattle.otel_sdk.proofs.TracingLemmas.{entered-state}
 use Rattle.otel_sdk.proofs.trace.tracing.Tracing.enter_with.Goals as goal
 
@@ -9,7 +8,7 @@ returns-clause-entered g c = rw (sym c.self.view_is) (record {
   span = c.in_ok-span.span;
   started = search rules;
   is_next = search rules;
-  state = entered-state _ c.in_ok-span.span c.read-now.result c.start_attached.new.stack.live c.start_attached.new.self
-      c.self.inside.entered.items c.push_reserved.new.self.items c.in_ok-entered.entered c.read-now.new.self
-      (search rules) (search rules) (search rules) refl (search rules) c.read-now.ensures;
+  state = entered-state _ c.self.inside.stack.live c.enter.new.stack.live c.self.inside.journal c.enter.new.self
+      c.self.inside.moments c.read-now.new.self c.self.inside.unrecorded _ c.in_ok-span.span c.read-now.result refl
+      (search rules) (search rules) c.read-now.ensures;
 })

@@ -1,5 +1,6 @@
 use Rattle.std.proofs.Common.{inl, inr, refl, rules, sym}
 use Rattle.otel_sdk.specs.Tracing.{Flushes, GoesOn, StopsAt}
+use Rattle.otel_sdk.proofs.TracingLemmas.{processed-state}
 use Rattle.otel_sdk.proofs.trace.tracing.Tracing.flush.Goals as goal
 
 pub returns-in_err-collect-clause-flushes : goal.returns-in_err-collect-clause-flushes
@@ -13,5 +14,10 @@ pub returns-clause-flushes : goal.returns-clause-flushes
 returns-clause-flushes g c = record {
   between = c.collect.new.self;
   collects = c.collect.ensures.collected;
-  rest = inr (record { collected = search rules; step = rw (sym c.self.view_is) c.force_flush.ensures; same = rw (sym c.self.view_is) refl });
+  rest = inr (record {
+    collected = search rules;
+    step = rw (sym c.self.view_is) c.force_flush.ensures.flushed;
+    same = processed-state _ c.self.inside.stack.live c.self.inside.journal c.force_flush.new.self c.self.inside.moments
+        c.self.inside.unrecorded _ c.self.view_is c.force_flush.ensures.same;
+  });
 }

@@ -2,7 +2,7 @@ use Rattle.std.proofs.Common.{rules, subst}
 use Rattle.otel_sdk.specs.Ended.{NothingLost, of}
 use Rattle.otel_sdk.specs.Processor.{ProcessorState}
 use Rattle.otel_sdk.proofs.EndLemmas.{handed_on_part, handed_on-loses_nothing, handed_on-listed}
-use Rattle.otel_sdk.proofs.trace.processor.simple.SimpleSpanProcessor.collect.Goals as goal
+use Rattle.otel_sdk.proofs.trace.processor.simple.SimpleSpanProcessor.collect_each.Goals as goal
 
 pub returns-clause-nothing_lost : goal.returns-clause-nothing_lost
 returns-clause-nothing_lost g c = λ d earlier ends h.
