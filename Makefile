@@ -50,8 +50,8 @@ prove:
 
 example:
 	@program=$$(tests/tools/programs.py path otel_service) && spans=crates/otel_service/out/spans.jsonl && rm -f "$$spans" \
-		&& for input in examples/service /dev/null; do "$$program" --fixed --waterfall < "$$input" || exit; done \
-		&& "$$program" "$$spans" < examples/service > /dev/null && echo "the spans as lines of JSON: $$spans" >&2
+		&& for input in examples/service /dev/null; do "$$program" --headers --fixed --waterfall < "$$input" || exit; done \
+		&& "$$program" --headers "$$spans" < examples/service > /dev/null && echo "the spans as lines of JSON: $$spans" >&2
 
 example-c:
 	@archive=$$(tests/tools/programs.py archive) && room=$$(mktemp -d) && trap 'rm -rf "$$room"' EXIT \

@@ -1,230 +1,169 @@
-//! The service, and the spans of its requests.
-use crate::failure::Failure;
-use crate::headers;
-use crate::work::{LoadCart, Price};
-use log::info;
-use opentelemetry::baggage::{Baggage, BaggageMetadata};
-use opentelemetry::context::ContextStack;
-use opentelemetry::logs::Logger;
-use opentelemetry::propagation::{PropagationError, TextMapCompositePropagator};
-use opentelemetry::trace::{Span, SpanBody, SpanKind, Spans, Tracer};
-use opentelemetry::{Context, Key, StringValue};
-use otel_appender_log::OpenTelemetryLogBridge;
-use otel_sdk::error::OTelSdkResult;
-use otel_sdk::trace::{
-    BatchSpanProcessor, Clock, Pipeline, SdkSpan, SdkTracer, SpanExporter, SpanProcessor,
-};
-use std::alloc::{AllocError, Global};
-use std::collections::HashMap;
-use std::io::{self, Write};
+//! The service, and its work on a request.
 
-/// The dependencies of the service.
+use anyhow::{Context, Result, bail, ensure};
+use bytes::{BufMut, Bytes};
+use http::{HeaderMap, HeaderName, HeaderValue, Request, StatusCode};
+use http_server::{Config, Connection, Reason, Response, State};
+use opentelemetry::logs::LoggerProvider;
+use opentelemetry::trace::{SpanBuilder, SpanKind, Status};
+use opentelemetry::{KeyValue, Value};
+use otel_appender_log::OpenTelemetryLogBridge;
+use otel_http::{HeaderExtractor, HeaderInjector};
+use otel_otlp::OtlpJsonLogExporter;
+use otel_propagators::W3cPropagator;
+use otel_sdk::logs::{SdkLogger, SdkLoggerProvider, SimpleLogProcessor};
+use otel_sdk::trace::{Clock, Pipeline, SpanExporter, Tracing};
+use std::alloc::{AllocError, Global};
+use std::hash::RandomState;
+use std::io::{self, Read, Stderr, Write};
+
+/// The name of the service.
+pub const NAME: &str = "otel_service";
+
+/// The number of requests whose spans are exported together.
+const BATCH: u64 = 170;
+
+/// A service that answers requests.
 #[derive(Drop)]
-pub struct Service<'a, P, C, L> {
+pub struct Service<P, E: SpanExporter, C> {
     /// The allocator.
     pub alloc: Global,
-    /// Starts the spans.
-    pub tracer: SdkTracer<P>,
-    /// Reads the moments at which spans end.
-    pub clock: C,
+    /// Starts and exports the spans.
+    pub tracing: Tracing<P, E>,
     /// Reads and writes the headers.
-    pub propagator: &'a TextMapCompositePropagator,
-    /// Takes the log lines.
-    pub log: OpenTelemetryLogBridge<L>,
+    pub propagator: W3cPropagator,
+    /// Writes the log lines to standard error, as JSON.
+    pub log: OpenTelemetryLogBridge<SdkLogger<SimpleLogProcessor<OtlpJsonLogExporter<Stderr>>, C>>,
+    /// The number of requests that were answered.
+    pub requests: u64,
 }
 
-/// The headers that the service sends on.
-#[derive(Drop)]
-pub struct Sent {
-    headers: HashMap<String, String>,
-}
-
-/// The results of a request's span: the headers to send on, and the numbers of the child spans, in
-/// the order of their ends.
-#[derive(Drop)]
-pub struct Answer {
-    sent: Sent,
-    children: Vec<u64>,
-}
-
-/// The work of a request, in its span.
-#[derive(Drop)]
-struct Request<'a, P, C, L> {
-    service: &'a Service<'a, P, C, L>,
-}
-
-impl<P: Pipeline, C: Clock, L: Logger> SpanBody<SdkSpan> for Request<'_, P, C, L> {
-    type Out = Result<Answer, Failure>;
-
-    ghost may_leave = { λ _ _ _ _ _ _ _. Unit {0} };
-
-    fn call(
-        self,
-        stack: &mut ContextStack,
-        spans: &mut Spans<SdkSpan>,
-        context: Context,
-    ) -> Result<Answer, Failure> {
-        let children = self.service.run_steps(stack, spans, &context)?;
-        let sent = self.service.send(&context)?;
-        let log = self.service.log.sink(&context);
-        info!(log; target: "otel_service", "served");
-        Ok(Answer { sent, children })
-    }
-}
-
-impl<P: Pipeline, C: Clock, L: Logger> Service<'_, P, C, L> {
-    /// Serves a request: does its work in a span, sets the headers to send on, and hands the spans
-    /// to the exporter. The span's parent is the span that the request's headers name. If they name
-    /// none, the span starts a new trace.
+impl<P: Pipeline, E: SpanExporter, C: Clock> Service<P, E, C> {
+    /// Answers the requests of standard input, and exports their spans. The log lines have the time
+    /// of the clock.
     ///
     /// # Errors
     ///
-    /// `NoMemory` if out of memory; `Io` if the spans can't be written. They stay queued.
-    pub fn serve<E: SpanExporter>(
-        &self,
-        received: &HashMap<String, String>,
-        processor: &mut BatchSpanProcessor<E>,
-    ) -> Result<Sent, Failure> {
-        let parent = self
-            .propagator
-            .extract_with_context(self.alloc, &Context::new(), received)?;
-        let mut spans = Spans::new(self.alloc);
-        let Answer { sent, children } = self.work(&parent, &mut spans)?;
-        export(processor, spans, children)?;
-        Ok(sent)
-    }
-
-    /// Does the work of a request in a span under the parent, and ends the span. Its number is the
-    /// last one.
-    fn work(&self, parent: &Context, spans: &mut Spans<SdkSpan>) -> Result<Answer, Failure> {
-        let mut stack = ContextStack::new(self.alloc)?;
-        let builder = self
-            .tracer
-            .span_builder(StringValue::from("serve"))
-            .with_kind(SpanKind::Server);
-        let request = Request { service: self };
-        let (answer, number) = self
-            .tracer
-            .in_span_with_builder_and_context(
-                self.alloc, &mut stack, spans, builder, parent, request,
-            )?;
-        let Answer { sent, mut children } = answer?;
-        self.end(spans, number);
-        children.push(number)?;
-        Ok(Answer { sent, children })
-    }
-
-    /// Runs the steps of a request, each in a span under the request's. Returns their numbers.
-    fn run_steps(
-        &self,
-        stack: &mut ContextStack,
-        spans: &mut Spans<SdkSpan>,
-        context: &Context,
-    ) -> Result<Vec<u64>, Failure> {
-        let mut numbers = Vec::new(self.alloc);
-        let alloc = self.alloc;
-        let step = LoadCart {
+    /// The reason why the input isn't read, an answer isn't written, or the spans aren't exported.
+    pub fn serve(rt: HostRuntime, is_http: bool, tracing: Tracing<P, E>, clock: C) -> Result<()> {
+        let alloc = rt.alloc();
+        let lines = SimpleLogProcessor::new(alloc, OtlpJsonLogExporter::new(alloc, rt.stderr())?)?;
+        let loggers = SdkLoggerProvider::builder(rt).with_log_processor(lines);
+        let loggers = loggers.with_clock(clock).build(alloc)?;
+        let mut service = Service {
             alloc,
-            clock: &self.clock,
+            tracing,
+            propagator: W3cPropagator::new(alloc)?,
+            log: OpenTelemetryLogBridge::new(alloc, loggers.logger(alloc, NAME.into())?),
+            requests: 0,
         };
-        numbers.push(self.run_step(stack, spans, context, "load cart", step)?)?;
-        let step = Price {
-            alloc,
-            clock: &self.clock,
-        };
-        numbers.push(self.run_step(stack, spans, context, "price", step)?)?;
-        Ok(numbers)
+        let answered = service.answer_input(rt, is_http);
+        service.tracing.shutdown().context("some spans are lost")?;
+        answered
     }
 
-    /// Runs a step in a span under the request's, and ends the span. Returns its number.
-    fn run_step<B: SpanBody<SdkSpan, Out = Result<(), AllocError>>>(
-        &self,
-        stack: &mut ContextStack,
-        spans: &mut Spans<SdkSpan>,
-        context: &Context,
-        name: &'static str,
-        step: B,
-    ) -> Result<u64, Failure>
-        requires { B.can_call step }
-    {
-        let name = StringValue::from(name);
-        let (done, number) = self
-            .tracer
-            .in_span_with_context(self.alloc, stack, spans, name, context, step)?;
-        done?;
-        self.end(spans, number);
-        Ok(number)
-    }
-
-    /// Ends the span with the number.
-    fn end(&self, spans: &mut Spans<SdkSpan>, number: u64) {
-        let now = self.clock.now();
-        if let Some(span) = spans.get_mut(number) {
-            span.end(now);
+    /// Answers the requests of standard input, until it ends or a request is refused.
+    fn answer_input(&mut self, rt: HostRuntime, is_http: bool) -> Result<()> {
+        if !is_http {
+            return self.answer_lines(rt.stdin(), &mut rt.stdout());
         }
-    }
-
-    /// Returns the headers that carry the context, with the service's name in its baggage.
-    fn send(&self, context: &Context) -> Result<Sent, PropagationError> {
-        let context = with_service_name(self.alloc, context)?;
-        let mut headers = HashMap::new(self.alloc);
-        self.propagator.inject_context(&context, &mut headers)?;
-        Ok(Sent { headers })
-    }
-}
-
-/// Hands the spans with these numbers to the exporter, in order.
-fn export<E: SpanExporter>(
-    processor: &mut BatchSpanProcessor<E>,
-    mut spans: Spans<SdkSpan>,
-    mut ended: Vec<u64>,
-) -> OTelSdkResult {
-    processor.collect(&mut spans, &mut ended)?;
-    processor.force_flush()
-}
-
-/// Inserts a copy of the member into the baggage. A full baggage is unchanged.
-fn insert_copy(
-    baggage: &mut Baggage,
-    key: &Key,
-    value: &StringValue,
-    metadata: &BaggageMetadata,
-) -> Result<(), AllocError> {
-    drop(baggage.insert_with_metadata(key.clone()?, value.clone()?, metadata.clone()?)?);
-    Ok(())
-}
-
-/// Returns the context with the service's name in its baggage. A full baggage is unchanged.
-fn with_service_name(alloc: Global, context: &Context) -> Result<Context, AllocError> {
-    let mut baggage = Baggage::new(alloc);
-    if let Some(given) = context.baggage() {
-        for (key, (value, metadata)) in given {
-            insert_copy(&mut baggage, key, value, metadata)?;
+        let mut peer = Connection::new(self.alloc, RandomState::new(&rt)?, Config::default());
+        http_server::serve(&mut peer, self, &mut rt.stdin(), &mut rt.stdout())?;
+        if let State::Closing(Reason::Refused(refusal)) = peer.state() {
+            bail!("a request is refused: {refusal:?}");
         }
+        Ok(())
     }
-    drop(baggage.insert(Key::from("service"), StringValue::from("otel service"))?);
-    context.with_baggage(alloc, baggage)
-}
 
-impl Sent {
-    /// Writes the headers in ascending order of their names. A header that isn't one line is left
-    /// out, and a line with its name is written to `errors` (see [`headers::write`]).
+    /// Answers requests of the path `/cart` whose headers are lines. Empty lines separate them, and
+    /// their answers. Empty input is a request without headers. Other lines are ignored.
     ///
     /// # Errors
     ///
-    /// `OutOfMemory` if out of memory, or the error of the first write that fails. Earlier lines
-    /// may have been written.
-    pub fn write<W: Write, E: Write>(
-        &self,
-        alloc: Global,
-        output: &mut W,
-        errors: &mut E,
-    ) -> io::Result<()> {
-        let mut lines = Vec::new(alloc);
-        for (name, value) in &self.headers {
-            lines.push((name.as_str(), value.as_str()))?;
+    /// The reason why the input isn't read, or an answer isn't written or made.
+    pub fn answer_lines(&mut self, input: impl Read + Drop, output: &mut impl Write) -> Result<()> {
+        let text = io::read_to_string(self.alloc, input)?;
+        let mut headers = HeaderMap::new(self.alloc);
+        for line in text.trim_ascii().lines() {
+            if let Some((name, value)) = line.split_once(':')
+                && let Ok(name) = HeaderName::from_bytes(self.alloc, name.as_bytes())
+                && let Ok(value) = HeaderValue::from_str(self.alloc, value.trim_ascii())
+            {
+                headers.append(name, value)?;
+            } else if line.is_empty() && !headers.is_empty() {
+                output.write_all(&self.answer("/cart", &headers)?)?;
+                writeln!(output)?;
+                headers.clear();
+            }
         }
-        lines.sort()?;
-        headers::write(output, errors, &lines)
+        Ok(output.write_all(&self.answer("/cart", &headers)?)?)
+    }
+
+    /// Answers the request under the span that its headers name. Returns the headers that are sent
+    /// on, as lines.
+    ///
+    /// # Errors
+    ///
+    /// The reason why the request isn't served, which its span shows.
+    pub fn answer(&mut self, path: &str, headers: &HeaderMap) -> Result<Vec<u8>> {
+        let received = HeaderExtractor::new(self.alloc, headers)?;
+        let caller = self.tracing.receive(&self.propagator, &received)?;
+        let builder = SpanBuilder::from_name("serve".into());
+        let span = self.tracing.enter_with(builder.with_kind(SpanKind::Server));
+        let lines = self.work(path);
+        if let Err(error) = &lines {
+            let text = error.to_string(self.alloc);
+            let text = text.unwrap_or(String::new(self.alloc));
+            log::error!(self.log.sink(self.tracing.context()); target: NAME, "{text}");
+            drop(self.tracing.record_error(error));
+            drop(self.tracing.set_status(Status::error(text.into())));
+        }
+        if let Ok(span) = span {
+            self.tracing.exit(span);
+        }
+        self.tracing.detach(caller);
+        self.requests = self.requests.wrapping_add(1);
+        if self.requests % BATCH == 0 {
+            drop(self.tracing.flush());
+        }
+        lines
+    }
+
+    /// Does the work of a request in two spans. Returns the headers that are sent on.
+    fn work(&mut self, path: &str) -> Result<Vec<u8>> {
+        let load = self.tracing.enter("load cart")?;
+        if let Some(baggage) = self.tracing.context().baggage()
+            && let Some(user) = baggage.get("userId")
+        {
+            let user = KeyValue::new("user.id".into(), Value::from(user.clone()?));
+            self.tracing.set_attribute(user)?;
+        }
+        self.tracing
+            .add_event("cache miss".into(), Vec::new(self.alloc))?;
+        self.tracing.exit(load);
+        let price = self.tracing.enter("price")?;
+        self.tracing.exit(price);
+        ensure!(path == "/cart", "no price for {path}");
+        let text = format!(in self.alloc; "served {path}")?;
+        log::info!(self.log.sink(self.tracing.context()); target: NAME, "{text}");
+        let mut sent = HeaderInjector::new(HeaderMap::new(self.alloc));
+        self.tracing.send(&self.propagator, &mut sent)?;
+        let mut lines = Vec::new(self.alloc);
+        for (name, value) in &sent.headers {
+            writeln!(lines, "{}: {}", name.as_str(), value.to_str()?)?;
+        }
+        Ok(lines)
+    }
+}
+
+impl<P: Pipeline, E: SpanExporter, C: Clock> http_server::Service for Service<P, E, C> {
+    ghost answers = { λ _ _ _ _. Unit {0} };
+
+    fn call(&mut self, request: &Request<Bytes>, answer: &mut Response) -> Result<(), AllocError> {
+        match self.answer(request.uri().path(), request.headers()) {
+            Ok(lines) => drop(answer.body.put_slice(&lines)),
+            Err(_) => answer.status = StatusCode::INTERNAL_SERVER_ERROR,
+        }
+        Ok(())
     }
 }
