@@ -1,39 +1,26 @@
-#![tactic(auto)]
-
 use otel_propagators::W3cPropagator;
-use otel_sdk::error::OTelSdkError;
-use otel_sdk::trace::{CountedClock, CountedIdGenerator, Pipeline, SpanExporter, Tracing};
+use otel_sdk::error::OTelSdkResult;
+use otel_sdk::trace::{Pipeline, SpanExporter, Tracing};
 use otel_waterfall::WaterfallExporter;
-use std::alloc::Global;
 use std::collections::HashMap;
 
-/// Continues the trace of the headers with two spans, and updates them to send them on.
-fn serve<P: Pipeline, E: SpanExporter>(
-    alloc: Global,
-    tracing: &mut Tracing<P, E>,
-    headers: &mut HashMap<String, String>,
-) -> Result<(), OTelSdkError> {
-    let propagator = W3cPropagator::new(alloc)?;
-    tracing.receive(&propagator, headers)?;
-    let serve = tracing.enter("serve")?;
-    let price = tracing.enter("price")?;
-    tracing.send(&propagator, headers)?;
-    tracing.exit(price);
-    tracing.exit(serve);
-    tracing.flush()
+fn serve<P: Pipeline, E: SpanExporter>(rt: HostRuntime, tr: &mut Tracing<P, E>) -> OTelSdkResult {
+    let propagator = W3cPropagator::new(rt.alloc())?;
+    let caller = format!(in rt.alloc(); "00-0af7651916cd43dd8448eb211c80319c-b7ad6b7169203331-01")?;
+    let mut headers = HashMap::new(rt.alloc());
+    headers.insert(format!(in rt.alloc(); "traceparent")?, caller)?;
+    tr.receive(&propagator, &headers)?;
+    let serve = tr.enter("serve")?;
+    let price = tr.enter("price")?;
+    tr.send(&propagator, &mut headers)?;
+    tr.exit(price);
+    tr.exit(serve);
+    println!(rt; "{:?}", headers.get("traceparent"))?;
+    tr.flush()
 }
 
-fn main(rt: HostRuntime) -> Result<(), OTelSdkError> {
-    let alloc = rt.alloc();
-    let mut tracing = Tracing::builder(rt)
-        .with_exporter(WaterfallExporter::new(alloc, rt.stdout()))
-        .with_id_generator(CountedIdGenerator::new())
-        .with_clock(CountedClock::new(2_000_000))
-        .build(alloc, "cart")?;
-    let mut headers = HashMap::new(alloc);
-    let caller = format!(in alloc; "00-0af7651916cd43dd8448eb211c80319c-b7ad6b7169203331-01")?;
-    headers.insert(format!(in alloc; "traceparent")?, caller)?;
-    serve(alloc, &mut tracing, &mut headers)?;
-    println!(rt; "{:?}", headers.get("traceparent"))?;
-    Ok(())
+fn main(rt: HostRuntime) -> OTelSdkResult {
+    let builder = Tracing::builder(rt).counted(2_000_000);
+    let builder = builder.with_exporter(WaterfallExporter::new(rt.alloc(), rt.stdout()));
+    serve(rt, &mut builder.build(rt.alloc(), "cart")?)
 }
