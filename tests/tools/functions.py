@@ -11,7 +11,8 @@ def words(text, dropped):
 
 def owner_of(header):
     """The name of a trait or an `impl` in the path of its functions, such as TraceState, TraceStateClone or
-    HashMapStringInjector."""
+    HashMapStringInjector. An `impl` of a trait for a type parameter is AnyStampedRecord, and an `impl` of some instances of a type
+    is SdkLoggerProvider+SystemClock+R."""
     kind, rest = re.match(r"(?:pub(?:\(\w+\))? )?(impl|trait)\b\s*(.*)", header, re.S).groups()
     if kind == "trait":
         return re.match(r"\w+", rest)[0]
@@ -21,9 +22,10 @@ def owner_of(header):
         end = depth.index(0) + 1
         dropped, rest = re.findall(r"[<,]\s*(?:const )?(\w+)", rest[:end]), rest[end:]
     trait, is_for, of = re.split(r"\bwhere\b|\{", rest)[0].partition(" for ")
-    if not is_for or trait.strip() == "Drop":
-        return words(of or trait, dropped)
-    return words(of, dropped) + words(trait, dropped)
+    if is_for and trait.strip() != "Drop":
+        return (words(of, dropped) or "Any") + words(trait, dropped)
+    name, *given = re.findall(r"\w+", re.sub(r"'\w+|\w+::", "", of or trait).replace("()", "unit"))
+    return "+".join((name, *given)) if set(given) - {*dropped} else name
 
 
 class Function:
