@@ -17,6 +17,7 @@
 #   make mutants                    the same for all wrong bodies, from nothing; CRATE=C of one crate
 #   make vectors                    compares answers with recorded ones of the Rust crate
 #   make otlp                       reads lines of JSON with another implementation
+#   make b3                         exchanges headers of B3 with Zipkin's libraries
 #   make c                          calls the library from C
 #   make misuse                     checks that misuse doesn't compile; CASE=NAME one case
 #   make memory                     runs programs out of memory: each allocation fails in turn
@@ -40,7 +41,7 @@ GIVEN := $(if $(filter -,$(INPUT)),,< "$(INPUT)")
 CRATES := $(patsubst crates/%/src,%,$(wildcard crates/*/src))
 IS_CRATE = @$(if $(filter $(CRATE),$(CRATES)),true,echo 'make $@: name a crate, as in `make $@ CRATE=otel_ids`: $(CRATES)' >&2; exit 2)
 
-.PHONY: run prove example example-c test check tests edit mutants vectors otlp c misuse memory long calls new-crate fuzz documents bench
+.PHONY: run prove example example-c test check tests edit mutants vectors otlp b3 c misuse memory long calls new-crate fuzz documents bench
 
 run:
 	@program=$$(tests/tools/programs.py path otel_carry) && "$$program" $(GIVEN)
@@ -80,6 +81,9 @@ vectors:
 
 otlp:
 	@tests/tools/progress.py --part otlp tests/otlp/run
+
+b3:
+	@tests/tools/progress.py --part b3 tests/b3/run
 
 c:
 	@tests/tools/progress.py --part 'calls from C' tests/c/run

@@ -37,16 +37,16 @@ tracestate_pair s = (tracestate_key, header s.trace_state)
 -- ---- which pairs count at a key
 
 -- no pair of the other members counts
-no_value : (ps : Pairs) (k : List ℕ) → All (λ (p : List ℕ × List ℕ). lower p.0 ≢ k) ps → last_value ps k ≡ None
+pub no_value : (ps : Pairs) (k : List ℕ) → All (λ (p : List ℕ × List ℕ). lower p.0 ≢ k) ps → last_value ps k ≡ None
 no_value [] k h = refl
 no_value (p ∷ ps) k h =
     ap (λ o. option_or o (if bytes_eq (lower p.0) k then Some p.1 else None)) (no_value ps k (All-tail (λ (q : List ℕ × List ℕ). lower q.0 ≢ k) p ps h))
     ∙ ap (λ b. if b then Some p.1 else None) (differs (lower p.0) k (All-head (λ (q : List ℕ × List ℕ). lower q.0 ≢ k) p ps h))
 
-skip_front : (ps qs : Pairs) (k : List ℕ) → last_value ps k ≡ None → last_value (ps ++ qs) k ≡ last_value qs k
+pub skip_front : (ps qs : Pairs) (k : List ℕ) → last_value ps k ≡ None → last_value (ps ++ qs) k ≡ last_value qs k
 skip_front ps qs k h = last_value-append ps qs k ∙ ap (option_or (last_value qs k)) h ∙ option_or-none (last_value qs k)
 
-skip_back : (ps qs : Pairs) (k : List ℕ) → last_value qs k ≡ None → last_value (ps ++ qs) k ≡ last_value ps k
+pub skip_back : (ps qs : Pairs) (k : List ℕ) → last_value qs k ≡ None → last_value (ps ++ qs) k ≡ last_value ps k
 skip_back ps qs k h = last_value-append ps qs k ∙ ap (λ o. option_or o (last_value ps k)) h
 
 -- ---- the texts that a composite of both sets
@@ -108,7 +108,7 @@ module _ (context : ContextRecord) (old m : TextMap) where
 
 -- ---- validity, as a test and as a proposition
 
-invalid_fails : (s : SpanContextRecord) → (IsValidSpanContext s → ⊥) → is_valid s ≡ false
+pub invalid_fails : (s : SpanContextRecord) → (IsValidSpanContext s → ⊥) → is_valid s ≡ false
 invalid_fails s v = by (cases_Bool (is_valid s))
   where
     by : (is_valid s ≡ true) ⊎ (is_valid s ≡ false) → is_valid s ≡ false

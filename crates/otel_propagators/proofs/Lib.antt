@@ -7,3 +7,6 @@ pub mod PutMembers
 pub mod PieceReads
 pub mod Carried
 pub mod Kept
+pub mod B3Reads
+pub mod B3Setting
+pub mod B3Back

@@ -5,4 +5,6 @@ pub mod BaggageReading
 pub mod BaggagePieces
 pub mod BaggagePropagator
 pub mod W3cPropagator
+pub mod B3
+pub mod B3Laws
 pub mod Laws

@@ -1,5 +1,6 @@
 //! Laws of the headers. Each function does nothing: its contract is the law. Not in the Rust crate.
 ghost use Rattle.otel_propagators.specs.BaggageReading.{BaggageReads, ReadsBaggage};
+ghost use Rattle.otel_propagators.specs.B3Laws.{MultiComesBack, NoSpanIsSent, SingleComesBack};
 ghost use Rattle.otel_propagators.specs.Laws.{ComesBackInTurn, ComesBackTogether, CompositeSets};
 ghost use Rattle.otel_propagators.specs.Laws.{ComesBackByW3c, IsContext};
 ghost use Rattle.otel_propagators.specs.TraceParent.{OneParent, ParentLength, ParentReads};
@@ -60,4 +61,18 @@ pub fn baggage_reading()
     ensures reads { BaggageReads }
     // Whatever is read from a text is a baggage.
     ensures limits { ReadsBaggage }
+{}
+
+/// States that a context with a valid span context that is injected as B3, in either form, is
+/// restored if it is extracted again, into any context: a remote span context with the same ids and
+/// the same flag `sampled`, and the same debug flag, which sets `sampled` too. Other flags and the
+/// trace state are lost. The propagator may be a member of a composite, beside members with other
+/// keys.
+pub fn b3_there_and_back()
+    // The header `b3` is read whatever the carrier had.
+    ensures single { SingleComesBack }
+    // An older `b3` or `x-b3-flags` of the carrier would count instead.
+    ensures multi { MultiComesBack }
+    // Without a valid span context nothing is set.
+    ensures no_span { NoSpanIsSent }
 {}

@@ -1,4 +1,5 @@
 //! Carriers, propagators and composites of them.
+mod b3;
 pub mod carriers;
 mod composites;
 pub mod headers;
@@ -9,6 +10,7 @@ use crate::lines::Lines;
 use std::alloc::Global;
 
 pub fn play<R: Print>(alloc: Global, lines: &Lines<'_, R>) {
+    b3::play(alloc, lines);
     carriers::play(alloc, lines);
     composites::play(alloc, lines);
     headers::play(alloc, lines);

@@ -3,6 +3,7 @@
 
 // Depends on: test_support
 
+mod b3;
 mod baggage;
 mod service;
 mod there_and_back;
