@@ -38,7 +38,7 @@ fn end_of_chars(text: &str, length: u32) -> usize
 /// # Errors
 ///
 /// `AllocError` if out of memory. The text is dropped.
-fn cut_text(alloc: Global, length: u32, text: StringValue) -> Result<StringValue, AllocError>
+pub fn cut_text(alloc: Global, length: u32, text: StringValue) -> Result<StringValue, AllocError>
     ensures { IfOk result (λ cut. cut ≡ take_chars length text) }
 {
     let end = end_of_chars(text.as_str(), length);

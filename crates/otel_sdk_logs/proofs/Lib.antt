@@ -1,2 +1,3 @@
+mod Cuts
 pub mod Lists
 pub mod Shutdowns

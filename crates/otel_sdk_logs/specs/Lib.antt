@@ -1,3 +1,4 @@
+pub mod Cuts
 pub mod Attributes
 pub mod LogRecord
 pub mod Processor

@@ -6,12 +6,15 @@ use Rattle.otel_base.specs.AnyValue.{Tree}
 use Rattle.otel_base.specs.InstrumentationScope.{Scope}
 use Rattle.otel_base.specs.View.{tree_code}
 use Rattle.otel_ids.specs.SpanContext.{SpanContextRecord, IsValidSpanContext}
-use Rattle.otel_sdk_logs.specs.Attributes.{Held, with_one, with_all}
+use Rattle.otel_sdk_logs.specs.Attributes.{Held, default_limits, with_one_within}
+use Rattle.otel_sdk_logs.specs.Attributes.{with_all_within}
+use Rattle.otel_sdk_logs.specs.declared.limits.LogRecordLimits.{LogRecordLimits}
 use Rattle.otel_sdk_logs.specs.declared.record.TraceContext.{TraceContext}
 
 -- A log record: the event's name, the target, the times at which the event happened and was
 -- observed, the severity as a text and as a number, the body, the attributes in order, the number
--- of dropped attributes, and the span that was active (OpenTelemetry logs data model).
+-- of dropped attributes, the limits on them, and the span that was active (OpenTelemetry logs data
+-- model).
 pub record LogState : Type 0 where
   pub event_name : Option (List ℕ)
   pub target : Option (List ℕ)
@@ -22,6 +25,7 @@ pub record LogState : Type 0 where
   pub body : Option Tree
   pub attributes : List (List ℕ × Tree)
   pub dropped_attributes : ℕ
+  pub limits : LogRecordLimits
   pub trace_context : Option TraceContext
 
 -- A log record with the scope of its logger.
@@ -29,7 +33,7 @@ pub record LogEntry : Type 0 where
   pub log : LogState
   pub scope : Scope
 
--- a record with nothing set
+-- a record with nothing set and the default limits
 abbrev pub empty : LogState
 empty = record {
   event_name = None;
@@ -41,8 +45,13 @@ empty = record {
   body = None;
   attributes = [];
   dropped_attributes = 0;
+  limits = default_limits;
   trace_context = None;
 }
+
+-- a record with nothing set and these limits
+abbrev pub empty_within : LogRecordLimits → LogState
+empty_within limits = record empty { limits = limits }
 
 -- the attributes of the record, with the number of dropped attributes
 abbrev pub held_by : LogState → Held
@@ -55,11 +64,12 @@ holding log held =
 
 -- the same record after the attribute is set
 abbrev pub with_attribute : LogState → List ℕ → Tree → LogState
-with_attribute log key value = holding log (with_one (held_by log) (key, value))
+with_attribute log key value =
+    holding log (with_one_within log.limits (held_by log) (key, value))
 
 -- the same record after each of the attributes is set in turn
 abbrev pub with_attributes : LogState → List (List ℕ × Tree) → LogState
-with_attributes log given = holding log (with_all (held_by log) given)
+with_attributes log given = holding log (with_all_within log.limits (held_by log) given)
 
 -- the same record with this span as the active one
 abbrev pub with_trace_context : LogState → ℕ → ℕ → Option ℕ → LogState
@@ -76,6 +86,11 @@ abbrev pub observed : ℕ → LogState → LogState
 observed now log = record log {
   observed_timestamp = Some (unwrap_or log.observed_timestamp now);
 }
+
+-- A logger: the scope and the limits that its records get.
+pub record LoggerParts : Type 0 where
+  pub scope : Scope
+  pub limits : LogRecordLimits
 
 -- The entry is made from the record and the scope with some time that the clock may show.
 abbrev pub IsEmitted : LogState → Scope → LogEntry → Type 0
@@ -102,14 +117,20 @@ trace_context_code = code_by (ℕ × (ℕ × Option ℕ))
     (λ c. (c.trace_id, (c.span_id, c.trace_flags)))
     (λ p. record { trace_id = p.0; span_id = p.1.0; trace_flags = p.1.1 }) (λ _. refl)
 
+abbrev limits_code : Coded LogRecordLimits
+limits_code = code_by (ℕ × Option ℕ) (coded× coded_ℕ number_code)
+    (λ l. (l.max_attributes_per_record, l.max_attribute_length))
+    (λ p. record { max_attributes_per_record = p.0; max_attribute_length = p.1 }) (λ _. refl)
+
 abbrev pub log_state_code : Coded LogState
 log_state_code =
     code_by (Option (List ℕ) × (Option (List ℕ) × (Option ℕ × (Option ℕ × (Option (List ℕ)
-    × (Option ℕ × (Option Tree × (List (List ℕ × Tree) × (ℕ × Option TraceContext)))))))))
+    × (Option ℕ × (Option Tree × (List (List ℕ × Tree)
+    × (ℕ × (LogRecordLimits × Option TraceContext))))))))))
     (coded× texts_code (coded× texts_code (coded× number_code (coded× number_code
     (coded× texts_code (coded× number_code (coded× (coded_option tree_code)
     (coded× (coded_list (coded× (coded_list coded_ℕ) tree_code))
-    (coded× coded_ℕ (coded_option trace_context_code))))))))))
+    (coded× coded_ℕ (coded× limits_code (coded_option trace_context_code)))))))))))
     (λ r. (
       r.event_name,
       (
@@ -120,7 +141,10 @@ log_state_code =
             r.observed_timestamp,
             (
               r.severity_text,
-              (r.severity_number, (r.body, (r.attributes, (r.dropped_attributes, r.trace_context)))),
+              (
+                r.severity_number,
+                (r.body, (r.attributes, (r.dropped_attributes, (r.limits, r.trace_context)))),
+              ),
             ),
           ),
         ),
@@ -136,5 +160,6 @@ log_state_code =
       body = p.1.1.1.1.1.1.0;
       attributes = p.1.1.1.1.1.1.1.0;
       dropped_attributes = p.1.1.1.1.1.1.1.1.0;
-      trace_context = p.1.1.1.1.1.1.1.1.1;
+      limits = p.1.1.1.1.1.1.1.1.1.0;
+      trace_context = p.1.1.1.1.1.1.1.1.1.1;
     }) (λ _. refl)

@@ -1,14 +1,13 @@
-//! Attributes with unique keys and a limit.
+//! Attributes with unique keys within limits.
 ghost use Rattle.std.specs.Prelude.{◌≡◌, ◌<◌, ◌≤◌, ◌+◌, IfOk, OnOk, OnErr, length, vec_len, vec_capacity};
 ghost use Rattle.otel_base.specs.View.{tree, pairs_view};
 ghost use Rattle.otel_sdk_logs.specs.Attributes as spec;
 
+use crate::cutting::{cut, cut_all};
+use crate::limits::LogRecordLimits;
 use opentelemetry::Key;
 use opentelemetry::logs::AnyValue;
-use std::alloc::AllocError;
-
-// The maximum number of attributes of a record (OpenTelemetry specification, "Attribute Limits").
-const MAX_ATTRIBUTES: usize = 128;
+use std::alloc::{AllocError, Global};
 
 type Pairs = Vec<(Key, AnyValue)>;
 
@@ -34,16 +33,16 @@ fn put(held: &mut Pairs, key: Key, value: AnyValue)
 }
 
 // Sets the attribute, and returns whether it was kept.
-fn set(held: &mut Pairs, key: Key, value: AnyValue) -> bool
+fn set(held: &mut Pairs, limit: u32, key: Key, value: AnyValue) -> bool
     requires { vec_len held.old < vec_capacity held.old }
-    ensures kept { result ≡ spec.keeps (pairs_view held.old.items) (key, tree value) }
+    ensures kept { result ≡ spec.keeps limit (pairs_view held.old.items) (key, tree value) }
     ensures set { pairs_view held.new.items
-        ≡ spec.set (pairs_view held.old.items) (key, tree value) }
+        ≡ spec.set limit (pairs_view held.old.items) (key, tree value) }
     ensures len { vec_len held.new ≤ vec_len held.old + 1 }
     ensures capacity { vec_capacity held.new ≡ vec_capacity held.old }
 {
     let is_held = place(held, key.as_str()).is_some();
-    if !is_held && held.len() >= MAX_ATTRIBUTES {
+    if !is_held && held.len() >= limit as usize {
         return false;
     }
     put(held, key, value);
@@ -51,14 +50,15 @@ fn set(held: &mut Pairs, key: Key, value: AnyValue) -> bool
 }
 
 // Sets the attribute, or counts it if it isn't kept.
-fn set_counted(held: &mut Pairs, dropped: &mut u32, key: Key, value: AnyValue)
+fn set_counted(held: &mut Pairs, limit: u32, dropped: &mut u32, key: Key, value: AnyValue)
     requires { vec_len held.old < vec_capacity held.old }
     ensures set { spec.held (pairs_view held.new.items) dropped.new
-        ≡ spec.with_one (spec.held (pairs_view held.old.items) dropped.old) (key, tree value) }
+        ≡ spec.with_one limit (spec.held (pairs_view held.old.items) dropped.old)
+        (key, tree value) }
     ensures len { vec_len held.new ≤ vec_len held.old + 1 }
     ensures capacity { vec_capacity held.new ≡ vec_capacity held.old }
 {
-    if !set(held, key, value) {
+    if !set(held, limit, key, value) {
         *dropped = dropped.saturating_add(1);
     }
 }
@@ -74,42 +74,53 @@ pub(crate) fn copy_all(held: &Pairs) -> Result<Pairs, AllocError>
     Ok(held.clone()?)
 }
 
-/// Sets the attribute, or counts it if it isn't kept.
+/// Truncates the attribute and sets it, or counts it if it isn't kept.
 ///
 /// # Errors
 ///
 /// `AllocError` if out of memory. Nothing changes; the attribute is dropped.
 pub(crate) fn set_one(
+    alloc: Global,
+    limits: LogRecordLimits,
     held: &mut Pairs,
     dropped: &mut u32,
     key: Key,
     value: AnyValue,
 ) -> Result<(), AllocError>
     ensures ok { OnOk result (spec.held (pairs_view held.new.items) dropped.new
-        ≡ spec.with_one (spec.held (pairs_view held.old.items) dropped.old) (key, tree value)) }
+        ≡ spec.with_one_within limits (spec.held (pairs_view held.old.items) dropped.old)
+        (key, tree value)) }
     ensures err { OnErr result (held.new.items ≡ held.old.items) }
     ensures uncounted { OnErr result (dropped.new ≡ dropped.old) }
 {
+    let value = cut(alloc, limits.max_attribute_length, value)?;
     held.reserve(1)?;
-    set_counted(held, dropped, key, value);
+    set_counted(held, limits.max_attributes_per_record, dropped, key, value);
     Ok(())
 }
 
-/// Sets each of the attributes in turn, and counts the attributes that aren't kept.
+/// Truncates each of the attributes and sets it in turn, and counts each that isn't kept.
 ///
 /// # Errors
 ///
 /// `AllocError` if out of memory. Nothing changes; the attributes are dropped.
-pub(crate) fn set_all(held: &mut Pairs, dropped: &mut u32, given: Pairs) -> Result<(), AllocError>
+pub(crate) fn set_all(
+    alloc: Global,
+    limits: LogRecordLimits,
+    held: &mut Pairs,
+    dropped: &mut u32,
+    given: Pairs,
+) -> Result<(), AllocError>
     ensures ok { OnOk result (spec.held (pairs_view held.new.items) dropped.new
-        ≡ spec.with_all (spec.held (pairs_view held.old.items) dropped.old)
+        ≡ spec.with_all_within limits (spec.held (pairs_view held.old.items) dropped.old)
         (pairs_view given.items)) }
     ensures err { OnErr result (held.new.items ≡ held.old.items) }
     ensures uncounted { OnErr result (dropped.new ≡ dropped.old) }
 {
-    held.reserve(given.len())?;
-    for (key, value) in given {
-        set_counted(held, dropped, key, value);
+    let truncated = cut_all(alloc, limits.max_attribute_length, given)?;
+    held.reserve(truncated.len())?;
+    for (key, value) in truncated {
+        set_counted(held, limits.max_attributes_per_record, dropped, key, value);
     }
     Ok(())
 }

@@ -4,9 +4,11 @@
 #![tactic(auto)]
 
 mod attributes;
+mod cutting;
 mod export;
 mod in_memory_exporter;
 mod intake;
+mod limits;
 mod logger;
 mod processor;
 mod provider;
@@ -15,6 +17,7 @@ mod record;
 pub use export::{LogData, LogExporter};
 pub use in_memory_exporter::{EmittedLogs, InMemoryLogExporter};
 pub use intake::RecordIntake;
+pub use limits::LogRecordLimits;
 pub use logger::SdkLogger;
 pub use otel_sdk_base::{BatchConfig, BatchConfigBuilder};
 pub use processor::LogProcessor;

@@ -19,7 +19,7 @@ use std::rc::Rc;
 
 /// Emits the log records of one library or module (the Rust crate's `SdkLogger`).
 ///
-/// Contracts see its scope.
+/// Contracts see its scope, and the limits of its records.
 ///
 /// See [`crate::SdkLoggerProvider`].
 #[derive(Drop)]
@@ -30,11 +30,14 @@ pub struct SdkLogger<P, C> {
 
 impl<P, C> Model for SdkLogger<P, C> {
     ghost use Rattle.std.specs.Rc.{rc_value};
-    ghost use Rattle.otel_base.specs.InstrumentationScope.{Scope};
+    ghost use Rattle.otel_sdk_logs.specs.LogRecord.{LoggerParts};
 
-    ghost Value = { Scope };
+    ghost Value = { LoggerParts };
 
-    ghost view = { λ l. rc_value l.scope };
+    ghost view = { λ l. record {
+      scope = rc_value l.scope;
+      limits = (rc_value l.provider).limits;
+    } };
 }
 
 impl<P, C: Clock> SdkLogger<P, C> {
@@ -55,7 +58,7 @@ impl<P, C: Clock> SdkLogger<P, C> {
     ///
     /// `AllocError` if the scope's reference count is at its limit.
     fn data_of(&self, mut emitted: SdkLogRecord) -> Result<LogData, AllocError>
-        ensures { IfOk result (IsEmitted emitted self.now) }
+        ensures { IfOk result (IsEmitted emitted self.now.scope) }
     {
         let observed_time = self.observed_time(emitted.observed_timestamp);
         emitted.observed_timestamp = Some(observed_time);
@@ -82,7 +85,7 @@ fn in_context(mut emitted: SdkLogRecord, context: &Context) -> SdkLogRecord
 impl<P: RecordIntake, C: Clock> SdkLogger<P, C> {
     /// Hands the record to the provider's processor, or counts it.
     fn hand_over(&self, emitted: SdkLogRecord)
-        ensures { IsHandedOver (IsEmitted emitted self.now) P.is_taken P.is_counted }
+        ensures { IsHandedOver (IsEmitted emitted self.now.scope) P.is_taken P.is_counted }
     {
         match self.data_of(emitted) {
             Ok(given) => self.provider.hand_in(given),
@@ -96,7 +99,7 @@ impl<P: RecordIntake, C: Clock> SdkLogger<P, C> {
     pub fn emit_in(&self, context: &Context, emitted: SdkLogRecord)
         ensures { is_telemetry_suppressed context.now ≡ false → IsHandedOver (λ entry.
             (made : LogState) × IsInSpan (span_context context.now) emitted made
-            × IsEmitted made self.now entry) P.is_taken P.is_counted }
+            × IsEmitted made self.now.scope entry) P.is_taken P.is_counted }
     {
         if !context.is_telemetry_suppressed() {
             self.hand_over(in_context(emitted, context));
@@ -125,23 +128,23 @@ where
     P: RecordIntake,
 {
     ghost use Rattle.std.specs.Prelude.{◌≡◌};
-    ghost use Rattle.otel_sdk_logs.specs.LogRecord.{empty};
+    ghost use Rattle.otel_sdk_logs.specs.LogRecord.{empty_within};
 
     type LogRecord = SdkLogRecord;
 
-    ghost may_create = { λ _ log. log ≡ empty };
+    ghost may_create = { λ logger log. log ≡ empty_within logger.limits };
 
     ghost may_enable = { λ _ _ _ _ _. Unit {0} };
 
-    /// Creates a record with nothing set. Never allocates.
+    /// Creates a record with nothing set and the provider's limits. Never allocates.
     fn create_log_record(&self, alloc: Global) -> Result<SdkLogRecord, AllocError> {
-        Ok(SdkLogRecord::new(alloc))
+        Ok(SdkLogRecord::with_limits(alloc, self.provider.limits))
     }
 
     /// Hands the record to the provider's processor. Sets the observed time to now, unless it is
     /// already set. Knows no context: see [`SdkLogger::emit_in`].
     fn emit(&self, emitted: SdkLogRecord)
-        ensures { IsHandedOver (IsEmitted emitted self.now)
+        ensures { IsHandedOver (IsEmitted emitted self.now.scope)
             P.RecordIntake.is_taken P.RecordIntake.is_counted }
     {
         self.hand_over(emitted);

@@ -2,9 +2,11 @@
 ghost use Rattle.std.specs.Prelude.{◌≡◌, ◌⊎◌, true, IfOk, Some, None, option_map};
 ghost use Rattle.std.specs.Option.{option_map_or, unwrap_or};
 ghost use Rattle.otel_sdk_base.specs.Resource.{merge, with_defaults};
+ghost use Rattle.otel_sdk_logs.specs.Attributes.{default_limits};
 
 use crate::export::LogData;
 use crate::intake::RecordIntake;
+use crate::limits::LogRecordLimits;
 use crate::logger::SdkLogger;
 use crate::processor::LogProcessor;
 use opentelemetry::logs::{LoggerProvider, Severity};
@@ -24,6 +26,7 @@ pub(crate) struct LoggerProviderInner<P, C> {
     pub resource: Rc<Resource>,
     pub processor: RefCell<P>,
     pub clock: C,
+    pub limits: LogRecordLimits,
     pub dropped_records: Cell<u64>,
 }
 
@@ -69,13 +72,13 @@ impl<P: LogProcessor, C> LoggerProviderInner<P, C> {
     }
 }
 
-/// Makes the loggers of the SDK, which share its processor and clock (the Rust crate's
+/// Makes the loggers of the SDK, which share its processor, clock and limits (the Rust crate's
 /// `SdkLoggerProvider`).
 ///
 /// A record that is emitted while the processor is at work, for example from within its exporter,
 /// is dropped and counted.
 ///
-/// Contracts see its resource.
+/// Contracts see its resource and its limits.
 ///
 /// ```
 /// let provider = SdkLoggerProvider::builder(rt)
@@ -90,23 +93,28 @@ pub struct SdkLoggerProvider<P, C> {
 
 impl<P, C> Model for SdkLoggerProvider<P, C> {
     ghost use Rattle.std.specs.Rc.{rc_value};
-    ghost use Rattle.otel_sdk_base.specs.Resource.{Parts};
+    ghost use Rattle.otel_sdk_logs.specs.Provider.{ProviderState};
 
-    ghost Value = { Parts };
+    ghost Value = { ProviderState };
 
-    ghost view = { λ p. rc_value (rc_value p.inner).resource };
+    ghost view = { λ p. record {
+      resource = rc_value (rc_value p.inner).resource;
+      limits = (rc_value p.inner).limits;
+    } };
 }
 
 impl<R: std::time::Clock + Copy + Drop> SdkLoggerProvider<(), SystemClock<R>> {
-    /// Returns a builder with the defaults: the clock is the system's. A processor must be set.
-    /// Never allocates.
+    /// Returns a builder with the defaults: the clock is the system's, and the limits are
+    /// [`LogRecordLimits::default`]. A processor must be set. Never allocates.
     pub fn builder(rt: R) -> LoggerProviderBuilder<(), SystemClock<R>>
-        ensures { result.resource ≡ None }
+        ensures limits { result.limits ≡ default_limits }
+        ensures resource { result.resource ≡ None }
     {
         LoggerProviderBuilder {
             resource: None,
             processor: (),
             clock: SystemClock::new(rt),
+            limits: LogRecordLimits::default(),
         }
     }
 }
@@ -114,7 +122,7 @@ impl<R: std::time::Clock + Copy + Drop> SdkLoggerProvider<(), SystemClock<R>> {
 impl<P: LogProcessor, C: Clock> SdkLoggerProvider<P, C> {
     /// Returns the resource, the entity that the telemetry describes.
     pub fn resource(&self) -> &Resource
-        ensures { result.now ≡ self.now }
+        ensures { result.now ≡ self.now.resource }
     {
         &self.inner.resource
     }
@@ -168,7 +176,8 @@ impl<P: LogProcessor, C: Clock> LoggerProvider for SdkLoggerProvider<P, C> {
 
     type Logger = SdkLogger<P, C>;
 
-    ghost may_give = { λ _ scope logger. logger ≡ scope };
+    ghost may_give = { λ provider scope logger.
+        logger ≡ record { scope = scope; limits = provider.limits } };
 
     /// Returns a logger with the given scope.
     ///
@@ -195,7 +204,7 @@ impl<P: LogProcessor, C: Clock> LoggerProvider for SdkLoggerProvider<P, C> {
 
 /// Builds a logger provider (the Rust crate's `LoggerProviderBuilder`, with one processor).
 ///
-/// Contracts see its processor, and its resource if one is given.
+/// Contracts see its processor, its limits, and its resource if one is given.
 ///
 /// See [`SdkLoggerProvider`].
 #[derive(Drop)]
@@ -203,6 +212,7 @@ pub struct LoggerProviderBuilder<P, C> {
     resource: Option<Resource>,
     processor: P,
     clock: C,
+    limits: LogRecordLimits,
 }
 
 impl<P, C> Model for LoggerProviderBuilder<P, C> {
@@ -213,18 +223,24 @@ impl<P, C> Model for LoggerProviderBuilder<P, C> {
     ghost view = { λ b. record {
       processor = b.processor;
       resource = b.resource;
+      limits = b.limits;
     } };
 }
 
 impl<C: Clock> LoggerProviderBuilder<(), C> {
     /// Sets the processor, which receives the records and hands them to an exporter.
     pub fn with_log_processor<P: LogProcessor>(self, processor: P) -> LoggerProviderBuilder<P, C>
-        ensures { result ≡ record { processor = processor; resource = self.resource } }
+        ensures { result ≡ record {
+          processor = processor;
+          resource = self.resource;
+          limits = self.limits;
+        } }
     {
         LoggerProviderBuilder {
             resource: self.resource,
             processor,
             clock: self.clock,
+            limits: self.limits,
         }
     }
 }
@@ -244,6 +260,7 @@ impl<P: Drop, C: Clock> LoggerProviderBuilder<P, C> {
             resource: given,
             processor,
             clock,
+            limits,
         } = self;
         let resource = match given {
             Some(old) => old.merge(resource)?,
@@ -253,6 +270,7 @@ impl<P: Drop, C: Clock> LoggerProviderBuilder<P, C> {
             resource: Some(resource),
             processor,
             clock,
+            limits,
         })
     }
 
@@ -264,7 +282,41 @@ impl<P: Drop, C: Clock> LoggerProviderBuilder<P, C> {
             resource: self.resource,
             processor: self.processor,
             clock,
+            limits: self.limits,
         }
+    }
+
+    /// Sets all limits of records.
+    pub fn with_log_record_limits(self, limits: LogRecordLimits) -> Self
+        ensures { result ≡ record self { limits = limits } }
+    {
+        LoggerProviderBuilder { limits, ..self }
+    }
+
+    /// Sets the maximum number of attributes per record.
+    pub fn with_max_attributes_per_record(self, limit: u32) -> Self
+        ensures { result ≡ record self {
+          limits = record self.limits { max_attributes_per_record = limit };
+        } }
+    {
+        let limits = LogRecordLimits {
+            max_attributes_per_record: limit,
+            ..self.limits
+        };
+        LoggerProviderBuilder { limits, ..self }
+    }
+
+    /// Sets the maximum length of a text in an attribute, in characters.
+    pub fn with_max_attribute_length(self, limit: u32) -> Self
+        ensures { result ≡ record self {
+          limits = record self.limits { max_attribute_length = Some limit };
+        } }
+    {
+        let limits = LogRecordLimits {
+            max_attribute_length: Some(limit),
+            ..self.limits
+        };
+        LoggerProviderBuilder { limits, ..self }
     }
 }
 
@@ -275,12 +327,16 @@ impl<P: LogProcessor, C: Clock> LoggerProviderBuilder<P, C> {
     ///
     /// `AllocError` if out of memory. The builder is dropped.
     pub fn build(self, alloc: Global) -> Result<SdkLoggerProvider<P, C>, AllocError>
-        ensures { IfOk result (λ p. p ≡ unwrap_or self.resource with_defaults) }
+        ensures { IfOk result (λ p. p ≡ record {
+          resource = unwrap_or self.resource with_defaults;
+          limits = self.limits;
+        }) }
     {
         let LoggerProviderBuilder {
             resource,
             mut processor,
             clock,
+            limits,
         } = self;
         let resource = match resource {
             Some(resource) => resource,
@@ -293,6 +349,7 @@ impl<P: LogProcessor, C: Clock> LoggerProviderBuilder<P, C> {
             resource,
             processor: RefCell::new(processor),
             clock,
+            limits,
             dropped_records: Cell::new(0),
         };
         Ok(SdkLoggerProvider {

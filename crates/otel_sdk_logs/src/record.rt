@@ -4,6 +4,7 @@ ghost use Rattle.otel_base.specs.View.{tree, pairs_view};
 ghost use Rattle.otel_sdk_logs.specs.LogRecord as spec;
 
 use crate::attributes::{copy_all, set_all, set_one};
+use crate::limits::LogRecordLimits;
 use opentelemetry::logs::{AnyValue, LogRecord, Severity};
 use opentelemetry::trace::{SpanId, TraceFlags, TraceId};
 use opentelemetry::{Key, StringValue};
@@ -27,7 +28,8 @@ pub struct TraceContext {
 /// A log record, as processors and exporters get it (the Rust crate's `SdkLogRecord`).
 ///
 /// Its attributes have unique keys. Setting an existing key replaces the value in place. An
-/// attribute with a new key is dropped and counted if the record already has 128 attributes.
+/// attribute with a new key is dropped and counted if the record already has the maximum number.
+/// A value is truncated when it is added, if its length is limited.
 ///
 /// ```
 /// let mut record = SdkLogRecord::new(alloc);
@@ -54,6 +56,7 @@ pub struct SdkLogRecord {
     pub dropped_attributes_count: u32,
     /// The span that was active.
     pub trace_context: Option<TraceContext>,
+    limits: LogRecordLimits,
 }
 
 impl Model for SdkLogRecord {
@@ -76,14 +79,22 @@ impl Model for SdkLogRecord {
       body = option_map tree r.body;
       attributes = pairs_view r.attributes.items;
       dropped_attributes = r.dropped_attributes_count;
+      limits = r.limits;
       trace_context = r.trace_context;
     } };
 }
 
 impl SdkLogRecord {
-    /// Creates a record with nothing set. Never allocates.
+    /// Creates a record with nothing set and the default limits. Never allocates.
     pub fn new(alloc: Global) -> SdkLogRecord
         ensures { result ≡ spec.empty }
+    {
+        SdkLogRecord::with_limits(alloc, LogRecordLimits::default())
+    }
+
+    /// Creates a record with nothing set and the given limits. Never allocates.
+    pub fn with_limits(alloc: Global, limits: LogRecordLimits) -> SdkLogRecord
+        ensures { result ≡ spec.empty_within limits }
     {
         SdkLogRecord {
             event_name: None,
@@ -96,6 +107,7 @@ impl SdkLogRecord {
             attributes: Vec::new(alloc),
             dropped_attributes_count: 0,
             trace_context: None,
+            limits,
         }
     }
 }
@@ -132,6 +144,7 @@ impl Clone for SdkLogRecord {
             attributes: copy_all(&self.attributes)?,
             dropped_attributes_count: self.dropped_attributes_count,
             trace_context: self.trace_context,
+            limits: self.limits,
         })
     }
 }
@@ -194,35 +207,37 @@ impl LogRecord for SdkLogRecord {
         self.body = Some(body);
     }
 
-    /// Sets each attribute in turn. An existing key keeps its place, and a new one goes last, up to
-    /// 128 attributes.
+    /// Truncates each attribute and sets it in turn. An existing key keeps its place, and a new one
+    /// goes last, up to the limit.
     ///
     /// # Errors
     ///
     /// `AllocError` if out of memory. The record is unchanged; the attributes are dropped.
     fn add_attributes(
         &mut self,
-        _alloc: Global,
+        alloc: Global,
         attributes: Vec<(Key, AnyValue)>,
     ) -> Result<(), AllocError> {
+        let limits = self.limits;
         let dropped = &mut self.dropped_attributes_count;
-        set_all(&mut self.attributes, dropped, attributes)
+        set_all(alloc, limits, &mut self.attributes, dropped, attributes)
     }
 
-    /// Sets the attribute. An existing key keeps its place, and a new one goes last, up to 128
-    /// attributes.
+    /// Truncates the attribute and sets it. An existing key keeps its place, and a new one goes
+    /// last, up to the limit.
     ///
     /// # Errors
     ///
     /// `AllocError` if out of memory. The record is unchanged; the attribute is dropped.
     fn add_attribute(
         &mut self,
-        _alloc: Global,
+        alloc: Global,
         key: Key,
         value: AnyValue,
     ) -> Result<(), AllocError> {
+        let limits = self.limits;
         let dropped = &mut self.dropped_attributes_count;
-        set_one(&mut self.attributes, dropped, key, value)
+        set_one(alloc, limits, &mut self.attributes, dropped, key, value)
     }
 
     /// Sets the span, replacing an earlier one.

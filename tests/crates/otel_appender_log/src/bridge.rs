@@ -9,6 +9,7 @@ use otel_appender_log::{
 use otel_examples::recording::RecordingLogger;
 use otel_sdk_logs::SdkLogRecord;
 use std::alloc::{AllocError, Global};
+use std::fmt;
 use std::process::Abort;
 use std::test::Fail;
 
@@ -202,10 +203,39 @@ fn only_records_that_the_logger_wants(rt: HostRuntime) -> Result<(), Fail> {
     info!(logger; "3");
     warn!(logger; "4");
     error!(logger; "5");
+    assert_eq!(rt; bridge.dropped_records(), 0);
     let emitted = bridge.into_logger().into_emitted();
     assert_eq!(rt; emitted.len(), 2);
     assert!(rt; emitted[0].body == Some(AnyValue::from("4")));
     assert!(rt; emitted[1].body == Some(AnyValue::from("5")));
+    Ok(())
+}
+
+/// A text that can't be printed.
+#[derive(Drop)]
+struct Silent;
+
+impl fmt::Display for Silent {
+    fn fmt<W: fmt::Write>(&self, _f: &mut fmt::Formatter<W>) -> fmt::Result {
+        Err(fmt::Error)
+    }
+}
+
+#[test]
+fn a_record_that_does_not_print_is_counted_once(rt: HostRuntime) -> Result<(), Fail> {
+    let alloc = rt.alloc();
+    let bridge = bridge(alloc, Severity::Info)?;
+    let context = Context::new();
+    let sink = bridge.sink(&context);
+    for count in 1..4 {
+        let metadata = Metadata::new(Level::Info, "t");
+        sink.log(&log::Record::new(metadata, Silent, (), ()));
+        assert_eq!(rt; bridge.dropped_records(), count);
+    }
+    let unwanted = Metadata::new(Level::Debug, "t");
+    sink.log(&log::Record::new(unwanted, Silent, (), ()));
+    assert_eq!(rt; bridge.dropped_records(), 3);
+    assert!(rt; bridge.into_logger().into_emitted().is_empty());
     Ok(())
 }
 

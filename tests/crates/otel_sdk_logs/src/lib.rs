@@ -4,6 +4,7 @@
 // Depends on: test_support
 
 mod exporter;
+mod limits;
 mod processor;
 mod provider;
 mod record;

@@ -4,8 +4,10 @@ use opentelemetry::logs::{AnyValue, LogRecord};
 use opentelemetry::{InstrumentationScope, Key, StringValue};
 use otel_sdk::error::{OTelSdkError, OTelSdkResult};
 use otel_sdk::logs::{
-    BatchConfig, BatchLogProcessor, LogData, LogProcessor, SdkLogRecord, SimpleLogProcessor,
+    BatchConfig, BatchLogProcessor, LogData, LogProcessor, LogRecordLimits, SdkLogRecord,
+    SimpleLogProcessor,
 };
+use otel_sdk::resource::Resource;
 use otel_sdk::trace::Exporter;
 use std::alloc::{AllocError, Global};
 use std::cell::Cell;
@@ -20,6 +22,12 @@ pub fn play<R: Print>(alloc: Global, lines: &Lines<'_, R>) {
     }
     if lines.begin("sdk-log-record-add-attributes") {
         lines.end(add(alloc, lines));
+    }
+    if lines.begin("sdk-log-record-cut-attribute") {
+        lines.end(cut_one(alloc, lines));
+    }
+    if lines.begin("sdk-log-record-cut-attributes") {
+        lines.end(cut_all(alloc, lines));
     }
     if lines.begin("batch-log-processor-new") {
         let made = BatchLogProcessor::new(alloc, Sizes::new(alloc, true), BatchConfig::default());
@@ -60,9 +68,11 @@ impl Sizes {
 }
 
 impl Exporter<LogData> for Sizes {
+    ghost use Rattle.otel_sdk_base.specs.Export.{any_calls};
+
     ghost accepted = { λ _. [] };
 
-    ghost shuts_down = { λ _ _. Unit {0} };
+    ghost calls = { any_calls };
 
     fn export(&mut self, batch: &[LogData]) -> OTelSdkResult {
         if !self.accepts.get() {
@@ -78,6 +88,10 @@ impl Exporter<LogData> for Sizes {
 
     fn shutdown(&mut self) -> OTelSdkResult {
         Ok(())
+    }
+
+    fn set_resource(&mut self, resource: Rc<Resource>) {
+        drop(resource);
     }
 }
 
@@ -100,6 +114,33 @@ fn add<R: Print>(alloc: Global, lines: &Lines<'_, R>) -> Result<(), AllocError> 
     let mut given = Vec::new(alloc);
     given.push((Key::from("k"), AnyValue::Int(1)))?;
     let mut record = SdkLogRecord::new(alloc);
+    let answer = record.add_attributes(alloc, given);
+    added(lines, &record, answer);
+    Ok(())
+}
+
+/// A record whose values are truncated to two characters.
+fn short(alloc: Global) -> SdkLogRecord {
+    let limits = LogRecordLimits {
+        max_attribute_length: Some(2),
+        ..LogRecordLimits::default()
+    };
+    SdkLogRecord::with_limits(alloc, limits)
+}
+
+fn cut_one<R: Print>(alloc: Global, lines: &Lines<'_, R>) -> Result<(), AllocError> {
+    let bytes = AnyValue::bytes(alloc, &[1, 2, 3])?;
+    let items = AnyValue::list(alloc, vec![in alloc; AnyValue::from("value"), bytes]?)?;
+    let value = AnyValue::map(alloc, vec![in alloc; (Key::from("j"), items)]?)?;
+    let mut record = short(alloc);
+    let answer = record.add_attribute(alloc, Key::from("k"), value);
+    added(lines, &record, answer);
+    Ok(())
+}
+
+fn cut_all<R: Print>(alloc: Global, lines: &Lines<'_, R>) -> Result<(), AllocError> {
+    let given = vec![in alloc; (Key::from("k"), AnyValue::from("value"))]?;
+    let mut record = short(alloc);
     let answer = record.add_attributes(alloc, given);
     added(lines, &record, answer);
     Ok(())

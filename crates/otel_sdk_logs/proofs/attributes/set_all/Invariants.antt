@@ -9,6 +9,6 @@ invariant-loop-key l =
     let now : Held = record { attributes = pairs_view l.held.items; dropped = l.dropped } in
     let first : Held = record { attributes = pairs_view l.initial.held.items; dropped = l.initial.dropped } in
     record {
-      set : now ≡ spec.with_all first (pairs_view l.yielded);
+      set : now ≡ spec.with_all l.limits.max_attributes_per_record first (pairs_view l.yielded);
       room : vec_len l.held + length l.key-iterator.rest.items ≤ vec_capacity l.held;
     }
