@@ -31,7 +31,7 @@ pub struct HeaderInjector {
 fn name_of(alloc: Global, key: &str) -> Result<HeaderName, PropagationError>
     ensures ok { IfOk result (λ name. name ≡ lower key.now) }
     ensures refused { IsTrue (is_refused result) → ¬ (IsFieldName key.now) }
-    ensures refuses { ¬ (IsFieldName key.now) → IsErr result }
+    ensures refuses { ¬ (IsFieldName key.now) → IsTrue (is_refused result) }
 {
     match HeaderName::from_bytes(alloc, key.as_bytes()) {
         Ok(name) => Ok(name),
@@ -69,7 +69,7 @@ fn replace(
 ) -> Result<(), PropagationError>
     ensures ok { OnOk result (headers.new ≡ insert headers.old name value) }
     ensures refused { IsTrue (is_refused result) → RefusesInsert headers.old name }
-    ensures refuses { RefusesInsert headers.old name → IsErr result }
+    ensures refuses { RefusesInsert headers.old name → IsTrue (is_refused result) }
     ensures err { OnErr result (headers.new ≡ headers.old) }
 {
     match headers.insert(name, value) {
