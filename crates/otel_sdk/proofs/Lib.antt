@@ -2,6 +2,7 @@ mod Agreement
 mod ApplyLemmas
 mod DrawLemmas
 pub mod EndLemmas
+mod EnvLemmas
 mod JournalLemmas
 mod KinLemmas
 mod KinRuns

@@ -1,4 +1,10 @@
 pub mod Ended
+pub mod EnvConfig
+pub mod EnvExport
+pub mod EnvLimits
+pub mod EnvPropagators
+pub mod EnvSampler
+pub mod EnvTexts
 pub mod IdGenerator
 pub mod Journal
 pub mod LiveState

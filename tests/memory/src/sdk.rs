@@ -1,5 +1,6 @@
 //! Resources, samplers, tracers and spans, and the path of spans to an exporter.
 mod attributes;
+mod env;
 mod export;
 mod json;
 mod json_logs;
@@ -13,6 +14,7 @@ mod tracing;
 use crate::lines::Lines;
 use opentelemetry::trace::{SpanContext, SpanId, SpanKind, TraceFlags, TraceId, TraceState};
 use opentelemetry::{Context, Key, KeyValue, StringValue, Value};
+use otel_sdk::env::EnvSampler;
 use otel_sdk::resource::{Resource, ResourceBuilder};
 use otel_sdk::trace::{ParentBased, Sampler, ShouldSample};
 use std::alloc::{AllocError, Global};
@@ -32,6 +34,7 @@ pub fn play<R: Print>(rt: HostRuntime, lines: &Lines<'_, R>) {
     }
     attributes::play(alloc, lines);
     resources(alloc, lines);
+    env::play(rt, lines);
     tracer::play(rt, lines);
     spans::play(alloc, lines);
     export::play(alloc, lines);
@@ -90,6 +93,9 @@ fn asked<R: Print>(alloc: Global, lines: &Lines<'_, R>) -> Result<(), AllocError
     let sampler = ParentBased::new(Sampler::TraceIdRatioBased(0.5));
     let answer = sampler.should_sample(alloc, &parent, trace_id, "s", kind, &[], &[]);
     lines.free_ok("ParentBased::should_sample", answer);
+    let sampler = EnvSampler::ParentBased(Sampler::TraceIdRatioBased(0.5));
+    let answer = sampler.should_sample(alloc, &parent, trace_id, "s", kind, &[], &[]);
+    lines.free_ok("EnvSampler::should_sample", answer);
     Ok(())
 }
 

@@ -5,6 +5,7 @@
 // Depends on: anyhow test_support
 
 mod ended;
+mod env;
 mod errors;
 mod exporter;
 mod id_generator;

@@ -1,0 +1,132 @@
+-- What the environment says of the whole SDK, of resources and of exporters.
+use Rattle.std.specs.Prelude.{◌≡◌, ℕ, Bool, true, false, not, ◌||◌, List, [], ◌∷◌, ◌++◌}
+use Rattle.std.specs.Prelude.{Option, Some, None, is_some, map, codes, refl, if◌then◌else◌}
+use Rattle.std.specs.Char.{to_ascii_lowercase}
+use Rattle.std.specs.Option.{unwrap_or}
+use Rattle.std.specs.Str.{bytes_eq}
+use Rattle.otel_sdk_base.specs.ResourceTexts.{fault}
+use Rattle.otel_sdk.specs.EnvTexts.{Variables, is_unset, text_of, warned, warning, number_or, number_warnings}
+use Rattle.otel_sdk.specs.declared.env.export.EnvEndpoint.{EnvEndpoint}
+use Rattle.otel_sdk.specs.declared.env.export.EnvEndpoint.TheVariants.{Base, Exact}
+use Rattle.otel_sdk.specs.declared.env.export.EnvExporter.{EnvExporter}
+use Rattle.otel_sdk.specs.declared.env.export.EnvExporter.TheVariants as to
+use Rattle.otel_sdk.specs.declared.env.export.EnvOtlp.{EnvOtlp}
+use Rattle.otel_sdk.specs.declared.env.warning.EnvWarning.{EnvWarning}
+use Rattle.otel_sdk.specs.declared.env.warning.Instead.TheVariants.{Nothing, False, Otlp, HttpJson}
+
+-- ---- whether the SDK is disabled
+
+-- whether the text is `true`, or `false`, in any case
+abbrev pub is_true : List ℕ → Bool
+is_true text = bytes_eq (map to_ascii_lowercase text) (codes "true")
+
+abbrev pub is_false : List ℕ → Bool
+is_false text = bytes_eq (map to_ascii_lowercase text) (codes "false")
+
+abbrev pub is_switch : List ℕ → Bool
+is_switch text = is_true text || is_false text
+
+abbrev pub is_disabled : Variables → Bool
+is_disabled vars = is_true (text_of (codes "OTEL_SDK_DISABLED") vars)
+
+abbrev pub disabled_warnings : Variables → List EnvWarning
+disabled_warnings vars = warned (is_switch (text_of (codes "OTEL_SDK_DISABLED") vars))
+    (codes "OTEL_SDK_DISABLED") (text_of (codes "OTEL_SDK_DISABLED") vars) False
+
+-- ---- resources
+
+abbrev pub service_name : Variables → List ℕ
+service_name vars = text_of (codes "OTEL_SERVICE_NAME") vars
+
+abbrev pub resource_attributes : Variables → List ℕ
+resource_attributes vars = text_of (codes "OTEL_RESOURCE_ATTRIBUTES") vars
+
+-- the warning about a list with a faulty piece, none of whose attributes counts
+abbrev pub resource_warnings : Variables → List EnvWarning
+resource_warnings vars = warned (not (is_some (fault (resource_attributes vars))))
+    (codes "OTEL_RESOURCE_ATTRIBUTES") (resource_attributes vars) Nothing
+
+-- ---- exporters
+
+-- the exporter of the name
+abbrev pub named : List ℕ → Option EnvExporter
+named text =
+    if bytes_eq text (codes "otlp") then Some to.Otlp
+    else (if bytes_eq text (codes "console") then Some to.Console
+    else (if bytes_eq text (codes "none") then Some to.Nothing else None))
+
+-- the exporter that the variable names, or OTLP
+abbrev pub exporter : List ℕ → Variables → EnvExporter
+exporter name vars = unwrap_or (named (text_of name vars)) to.Otlp
+
+abbrev pub exporter_warnings : List ℕ → Variables → List EnvWarning
+exporter_warnings name vars =
+    warned (is_some (named (text_of name vars))) name (text_of name vars) Otlp
+
+-- ---- OTLP
+
+-- the text, or the default if it is empty
+abbrev pub given_or : List ℕ → List ℕ → List ℕ
+given_or text default = if is_unset text then default else text
+
+-- the endpoint of a signal: its own as it is, or the one of all signals as a base
+abbrev pub endpoint : List ℕ → Variables → EnvEndpoint
+endpoint own vars =
+    if is_unset (text_of own vars)
+    then Base (given_or (text_of (codes "OTEL_EXPORTER_OTLP_ENDPOINT") vars)
+    (codes "http://localhost:4318"))
+    else Exact (text_of own vars)
+
+-- the headers of a signal: its own, or the ones of all signals
+abbrev pub headers : List ℕ → Variables → List ℕ
+headers own vars =
+    given_or (text_of own vars) (text_of (codes "OTEL_EXPORTER_OTLP_HEADERS") vars)
+
+-- where a signal is sent, whose own endpoint and headers have these names
+abbrev pub otlp : List ℕ → List ℕ → Variables → EnvOtlp
+otlp endpoint_name headers_name vars = record {
+  endpoint = endpoint endpoint_name vars;
+  headers = headers headers_name vars;
+}
+
+-- where spans, and log records, are sent
+abbrev pub otlp_traces : Variables → EnvOtlp
+otlp_traces vars = otlp (codes "OTEL_EXPORTER_OTLP_TRACES_ENDPOINT")
+    (codes "OTEL_EXPORTER_OTLP_TRACES_HEADERS") vars
+
+abbrev pub otlp_logs : Variables → EnvOtlp
+otlp_logs vars = otlp (codes "OTEL_EXPORTER_OTLP_LOGS_ENDPOINT")
+    (codes "OTEL_EXPORTER_OTLP_LOGS_HEADERS") vars
+
+abbrev pub timeout_millis : Variables → ℕ
+timeout_millis vars = number_or (codes "OTEL_EXPORTER_OTLP_TIMEOUT") 0 10000 vars
+
+abbrev pub timeout_warnings : Variables → List EnvWarning
+timeout_warnings vars = number_warnings (codes "OTEL_EXPORTER_OTLP_TIMEOUT") 0 10000 vars
+
+-- there is only one protocol
+abbrev pub protocol_warnings : Variables → List EnvWarning
+protocol_warnings vars =
+    let text = text_of (codes "OTEL_EXPORTER_OTLP_PROTOCOL") vars in
+    warned (bytes_eq text (codes "http/json")) (codes "OTEL_EXPORTER_OTLP_PROTOCOL") text HttpJson
+
+-- the warnings about the time and the protocol
+abbrev pub otlp_warnings : Variables → List EnvWarning
+otlp_warnings vars = timeout_warnings vars ++ protocol_warnings vars
+
+-- ---- worked rows
+abbrev one : List ℕ → List ℕ → Variables
+one name text = (name, text) ∷ []
+
+disabled_example : (is_disabled (one (codes "OTEL_SDK_DISABLED") (codes "TRUE")) ≡ true)
+    × (disabled_warnings (one (codes "OTEL_SDK_DISABLED") (codes "TRUE")) ≡ [])
+    × (is_disabled (one (codes "OTEL_SDK_DISABLED") (codes "1")) ≡ false)
+    × (disabled_warnings (one (codes "OTEL_SDK_DISABLED") (codes "1"))
+    ≡ warning (codes "OTEL_SDK_DISABLED") (codes "1") False ∷ [])
+disabled_example = (refl, refl, refl, refl)
+
+endpoint_example : (endpoint (codes "T") [] ≡ Base (codes "http://localhost:4318"))
+    × (endpoint (codes "T") (one (codes "OTEL_EXPORTER_OTLP_ENDPOINT") (codes "http://h"))
+    ≡ Base (codes "http://h"))
+    × (endpoint (codes "T") (one (codes "T") (codes "http://h/a")) ≡ Exact (codes "http://h/a"))
+endpoint_example = (refl, refl, refl)

@@ -1,0 +1,293 @@
+//! Reads whether the SDK is disabled, the resource, and where to export.
+ghost use Rattle.std.specs.Prelude.{◌≡◌, ◌++◌, IfOk, OnOk};
+ghost use Rattle.otel_sdk.specs.EnvExport as spec;
+ghost use Rattle.otel_sdk.specs.EnvTexts.{variables_of};
+
+use super::texts::{number_or, text_of};
+use super::warning::{EnvWarning, Instead, warn};
+use opentelemetry::StringValue;
+use otel_sdk_base::resource::Resource;
+use std::alloc::{AllocError, Global};
+
+/// The exporter that a variable names. It is for the caller, who makes the exporter.
+#[derive(Clone, Copy, Debug, PartialEq, Eq)]
+pub enum EnvExporter {
+    /// `otlp`: to a collector.
+    Otlp,
+    /// `console`: to the standard output.
+    Console,
+    /// `none`: nowhere.
+    Nothing,
+}
+
+/// The address of a collector.
+#[derive(Debug, Drop)]
+pub enum EnvEndpoint {
+    /// The address of all signals, to whose path `/v1/traces` or `/v1/logs` is joined.
+    Base(StringValue),
+    /// The address of one signal, which is taken as it is.
+    Exact(StringValue),
+}
+
+/// Where a signal is sent by OTLP, as the variables say it.
+#[derive(Debug, Drop)]
+pub struct EnvOtlp {
+    /// The address of the collector.
+    pub endpoint: EnvEndpoint,
+    /// The text of the headers to add, a list `key=value,..` that isn't checked here.
+    pub headers: StringValue,
+}
+
+/// Returns a copy of the text.
+///
+/// # Errors
+///
+/// `AllocError` if out of memory.
+fn kept(alloc: Global, text: &str) -> Result<StringValue, AllocError>
+    ensures { IfOk result (λ copy. copy ≡ text.now) }
+{
+    Ok(StringValue::from(String::from_str(alloc, text)?))
+}
+
+/// Returns whether the text is `true`, in any case.
+fn is_true(text: &str) -> bool
+    ensures { result ≡ spec.is_true text.now }
+{
+    text.eq_ignore_ascii_case("true")
+}
+
+/// Returns whether the text is `false`, in any case.
+fn is_false(text: &str) -> bool
+    ensures { result ≡ spec.is_false text.now }
+{
+    text.eq_ignore_ascii_case("false")
+}
+
+/// Returns whether the text is `true` or `false`, in any case.
+fn is_switch(text: &str) -> bool
+    ensures { result ≡ spec.is_switch text.now }
+{
+    is_true(text) || is_false(text)
+}
+
+/// Returns whether the SDK is disabled.
+///
+/// # Errors
+///
+/// `AllocError` if out of memory.
+pub(super) fn is_disabled(
+    alloc: Global,
+    vars: &[(String, String)],
+    warnings: &mut Vec<EnvWarning>,
+) -> Result<bool, AllocError>
+    ensures disabled { IfOk result (λ b. b ≡ spec.is_disabled (variables_of vars.now)) }
+    ensures warnings { OnOk result (warnings.new.items ≡ warnings.old.items
+        ++ spec.disabled_warnings (variables_of vars.now)) }
+{
+    let name = "OTEL_SDK_DISABLED";
+    let text = text_of(vars, name);
+    warn(alloc, warnings, is_switch(text), name, text, Instead::False)?;
+    Ok(is_true(text))
+}
+
+/// Returns the name of the service.
+///
+/// # Errors
+///
+/// `AllocError` if out of memory.
+pub(super) fn service_name(
+    alloc: Global,
+    vars: &[(String, String)],
+) -> Result<StringValue, AllocError>
+    ensures { IfOk result (λ name. name ≡ spec.service_name (variables_of vars.now)) }
+{
+    kept(alloc, text_of(vars, "OTEL_SERVICE_NAME"))
+}
+
+/// Returns the list of the resource's attributes.
+///
+/// # Errors
+///
+/// `AllocError` if out of memory.
+pub(super) fn resource_attributes(
+    alloc: Global,
+    vars: &[(String, String)],
+    warnings: &mut Vec<EnvWarning>,
+) -> Result<StringValue, AllocError>
+    ensures text { IfOk result (λ text. text
+        ≡ spec.resource_attributes (variables_of vars.now)) }
+    ensures warnings { OnOk result (warnings.new.items ≡ warnings.old.items
+        ++ spec.resource_warnings (variables_of vars.now)) }
+{
+    let name = "OTEL_RESOURCE_ATTRIBUTES";
+    let text = text_of(vars, name);
+    let (_resource, error) = Resource::from_texts(alloc, text, "")?;
+    warn(
+        alloc,
+        warnings,
+        error.is_none(),
+        name,
+        text,
+        Instead::Nothing,
+    )?;
+    kept(alloc, text)
+}
+
+/// Returns the exporter of the name.
+fn named(text: &str) -> Option<EnvExporter>
+    ensures { result ≡ spec.named text.now }
+{
+    if text == "otlp" {
+        Some(EnvExporter::Otlp)
+    } else if text == "console" {
+        Some(EnvExporter::Console)
+    } else if text == "none" {
+        Some(EnvExporter::Nothing)
+    } else {
+        None
+    }
+}
+
+/// Returns the exporter that the variable names.
+///
+/// # Errors
+///
+/// `AllocError` if out of memory.
+pub(super) fn exporter(
+    alloc: Global,
+    vars: &[(String, String)],
+    warnings: &mut Vec<EnvWarning>,
+    name: &'static str,
+) -> Result<EnvExporter, AllocError>
+    ensures exporter { IfOk result (λ e. e ≡ spec.exporter name.now (variables_of vars.now)) }
+    ensures warnings { OnOk result (warnings.new.items ≡ warnings.old.items
+        ++ spec.exporter_warnings name.now (variables_of vars.now)) }
+{
+    let text = text_of(vars, name);
+    let named = named(text);
+    warn(alloc, warnings, named.is_some(), name, text, Instead::Otlp)?;
+    Ok(named.unwrap_or(EnvExporter::Otlp))
+}
+
+/// Returns the endpoint of a signal whose own one has the name.
+///
+/// # Errors
+///
+/// `AllocError` if out of memory.
+fn endpoint(alloc: Global, vars: &[(String, String)], own: &str) -> Result<EnvEndpoint, AllocError>
+    ensures { IfOk result (λ e. e ≡ spec.endpoint own.now (variables_of vars.now)) }
+{
+    let own = text_of(vars, own);
+    if !own.is_empty() {
+        return Ok(EnvEndpoint::Exact(kept(alloc, own)?));
+    }
+    let general = text_of(vars, "OTEL_EXPORTER_OTLP_ENDPOINT");
+    if !general.is_empty() {
+        return Ok(EnvEndpoint::Base(kept(alloc, general)?));
+    }
+    Ok(EnvEndpoint::Base(StringValue::from("http://localhost:4318")))
+}
+
+/// Returns the headers of a signal whose own ones have the name.
+///
+/// # Errors
+///
+/// `AllocError` if out of memory.
+fn headers(alloc: Global, vars: &[(String, String)], own: &str) -> Result<StringValue, AllocError>
+    ensures { IfOk result (λ h. h ≡ spec.headers own.now (variables_of vars.now)) }
+{
+    let own = text_of(vars, own);
+    if own.is_empty() {
+        kept(alloc, text_of(vars, "OTEL_EXPORTER_OTLP_HEADERS"))
+    } else {
+        kept(alloc, own)
+    }
+}
+
+/// Returns where a signal is sent whose own endpoint and headers have these names.
+///
+/// # Errors
+///
+/// `AllocError` if out of memory.
+pub(super) fn otlp(
+    alloc: Global,
+    vars: &[(String, String)],
+    endpoint_name: &str,
+    headers_name: &str,
+) -> Result<EnvOtlp, AllocError>
+    ensures { IfOk result (λ o. o
+        ≡ spec.otlp endpoint_name.now headers_name.now (variables_of vars.now)) }
+{
+    Ok(EnvOtlp {
+        endpoint: endpoint(alloc, vars, endpoint_name)?,
+        headers: headers(alloc, vars, headers_name)?,
+    })
+}
+
+/// Returns the time that an export may take, in milliseconds, and warns of another protocol than
+/// `http/json`.
+///
+/// # Errors
+///
+/// `AllocError` if out of memory.
+pub(super) fn timeout_millis(
+    alloc: Global,
+    vars: &[(String, String)],
+    warnings: &mut Vec<EnvWarning>,
+) -> Result<u32, AllocError>
+    ensures timeout { IfOk result (λ n. n ≡ spec.timeout_millis (variables_of vars.now)) }
+    ensures warnings { OnOk result (warnings.new.items ≡ warnings.old.items
+        ++ spec.otlp_warnings (variables_of vars.now)) }
+{
+    let timeout = number_or(
+        alloc,
+        vars,
+        warnings,
+        "OTEL_EXPORTER_OTLP_TIMEOUT",
+        0,
+        10000,
+    )?;
+    let name = "OTEL_EXPORTER_OTLP_PROTOCOL";
+    let text = text_of(vars, name);
+    warn(
+        alloc,
+        warnings,
+        text == "http/json",
+        name,
+        text,
+        Instead::HttpJson,
+    )?;
+    Ok(timeout)
+}
+
+/// Returns where spans are sent.
+///
+/// # Errors
+///
+/// `AllocError` if out of memory.
+pub(super) fn otlp_traces(alloc: Global, vars: &[(String, String)]) -> Result<EnvOtlp, AllocError>
+    ensures { IfOk result (λ o. o ≡ spec.otlp_traces (variables_of vars.now)) }
+{
+    otlp(
+        alloc,
+        vars,
+        "OTEL_EXPORTER_OTLP_TRACES_ENDPOINT",
+        "OTEL_EXPORTER_OTLP_TRACES_HEADERS",
+    )
+}
+
+/// Returns where log records are sent.
+///
+/// # Errors
+///
+/// `AllocError` if out of memory.
+pub(super) fn otlp_logs(alloc: Global, vars: &[(String, String)]) -> Result<EnvOtlp, AllocError>
+    ensures { IfOk result (λ o. o ≡ spec.otlp_logs (variables_of vars.now)) }
+{
+    otlp(
+        alloc,
+        vars,
+        "OTEL_EXPORTER_OTLP_LOGS_ENDPOINT",
+        "OTEL_EXPORTER_OTLP_LOGS_HEADERS",
+    )
+}

@@ -1,0 +1,87 @@
+//! Warnings about the texts of environment variables.
+ghost use Rattle.std.specs.Prelude.{◌≡◌, ◌++◌, OnOk};
+ghost use Rattle.otel_sdk.specs.EnvTexts.{warned};
+
+use opentelemetry::StringValue;
+use std::alloc::{AllocError, Global};
+use std::fmt;
+
+/// What counts instead of the text of a variable.
+#[derive(Clone, Copy, Debug, PartialEq, Eq)]
+pub enum Instead {
+    /// This number.
+    Number(u64),
+    /// No limit.
+    NoLimit,
+    /// Nothing: the text is left out.
+    Nothing,
+    /// The text `false`.
+    False,
+    /// The text `parentbased_always_on`.
+    ParentBasedAlwaysOn,
+    /// The text `otlp`.
+    Otlp,
+    /// The text `http/json`.
+    HttpJson,
+}
+
+impl fmt::Display for Instead {
+    fn fmt<W: fmt::Write>(&self, f: &mut fmt::Formatter<W>) -> fmt::Result {
+        match self {
+            Instead::Number(number) => write!(f, "{number} counts instead"),
+            Instead::NoLimit => f.write_str("there is no limit"),
+            Instead::Nothing => f.write_str("it is left out"),
+            Instead::False => f.write_str("false counts instead"),
+            Instead::ParentBasedAlwaysOn => f.write_str("parentbased_always_on counts instead"),
+            Instead::Otlp => f.write_str("otlp counts instead"),
+            Instead::HttpJson => f.write_str("http/json counts instead"),
+        }
+    }
+}
+
+/// A warning that the text of an environment variable, or a part of it, doesn't count.
+///
+/// `Display` writes one line, in which the text is quoted and escaped.
+#[derive(Debug, Drop)]
+pub struct EnvWarning {
+    /// The name of the variable.
+    pub name: StringValue,
+    /// The text, or the part of it that doesn't count.
+    pub value: StringValue,
+    /// What counts instead.
+    pub instead: Instead,
+}
+
+impl fmt::Display for EnvWarning {
+    fn fmt<W: fmt::Write>(&self, f: &mut fmt::Formatter<W>) -> fmt::Result {
+        let value = self.value.as_str();
+        write!(f, "{} can't be {value:?}: {}", self.name, self.instead)
+    }
+}
+
+/// Adds a warning, unless the text is understood or empty.
+///
+/// # Errors
+///
+/// `AllocError` if out of memory.
+pub(super) fn warn(
+    alloc: Global,
+    warnings: &mut Vec<EnvWarning>,
+    understood: bool,
+    name: &'static str,
+    text: &str,
+    instead: Instead,
+) -> Result<(), AllocError>
+    ensures { OnOk result (warnings.new.items
+        ≡ warnings.old.items ++ warned understood name.now text.now instead) }
+{
+    if understood || text.is_empty() {
+        return Ok(());
+    }
+    warnings.push(EnvWarning {
+        name: StringValue::from(name),
+        value: StringValue::from(String::from_str(alloc, text)?),
+        instead,
+    })?;
+    Ok(())
+}

@@ -1,0 +1,32 @@
+//! A `Tracing` that environment variables configure.
+ghost use Rattle.std.specs.Prelude.{◌≡◌, IfOk};
+ghost use Rattle.otel_sdk.specs.EnvConfig.{with_env};
+
+use super::TracingBuilder;
+use crate::env::{EnvConfig, EnvSampler};
+use crate::trace::{IdGenerator, ShouldSample};
+use otel_sdk_base::Clock;
+use std::alloc::{AllocError, Global};
+
+impl<S: ShouldSample, G: IdGenerator, C: Clock, E: Drop> TracingBuilder<S, G, C, E> {
+    /// Sets the sampler, the resource, the limits of spans and the sizes of batches that the
+    /// environment gives, or their defaults. A call that comes later wins. If the SDK is disabled,
+    /// no span is sampled.
+    ///
+    /// # Errors
+    ///
+    /// `AllocError` if out of memory. The parts are dropped.
+    pub fn with_env(
+        self,
+        alloc: Global,
+        config: &EnvConfig,
+    ) -> Result<TracingBuilder<EnvSampler, G, C, E>, AllocError>
+        ensures { IfOk result (λ b. b ≡ with_env config.now self) }
+    {
+        let builder = self
+            .with_sampler(config.sampler())
+            .with_limits(config.span_limits)
+            .with_batch_config(config.span_batches.config());
+        builder.with_resource(config.resource(alloc)?)
+    }
+}

@@ -1,0 +1,65 @@
+//! The configuration by environment variables.
+use crate::lines::Lines;
+use otel_sdk::EnvConfig;
+use otel_sdk::env::EnvSampler;
+use otel_sdk::trace::{Sampler, ShouldSample, Tracing};
+use std::alloc::{AllocError, Global};
+
+pub fn play<R: Print>(rt: HostRuntime, lines: &Lines<'_, R>) {
+    let alloc = rt.alloc();
+    if lines.begin("env-config") {
+        lines.end(read(alloc, lines));
+    }
+    if lines.begin("env-resource") {
+        lines.end(resource(alloc, lines));
+    }
+    if lines.begin("env-sampler-description") {
+        let sampler = EnvSampler::ParentBased(Sampler::AlwaysOff);
+        lines.answer_of(sampler.description(alloc));
+    }
+    if lines.begin("tracing-builder-with-env") {
+        lines.end(with_env(rt, lines));
+    }
+}
+
+/// Variables of which one has two faults.
+fn vars(alloc: Global) -> Result<Vec<(String, String)>, AllocError> {
+    let mut vars = Vec::new(alloc);
+    for (name, text) in [
+        ("OTEL_SERVICE_NAME", "shop"),
+        ("OTEL_RESOURCE_ATTRIBUTES", "a=b%2Cc"),
+        ("OTEL_PROPAGATORS", "b3,none,zipkin"),
+        ("OTEL_EXPORTER_OTLP_ENDPOINT", "http://h"),
+    ] {
+        vars.push((
+            String::from_str(alloc, name)?,
+            String::from_str(alloc, text)?,
+        ))?;
+    }
+    Ok(vars)
+}
+
+/// Prints the number of warnings.
+fn read<R: Print>(alloc: Global, lines: &Lines<'_, R>) -> Result<(), AllocError> {
+    let vars = vars(alloc)?;
+    let config = EnvConfig::from_vars(alloc, vars.as_slice());
+    lines.answer_of(config.map(|config| config.warnings.len()));
+    Ok(())
+}
+
+/// Prints the number of attributes.
+fn resource<R: Print>(alloc: Global, lines: &Lines<'_, R>) -> Result<(), AllocError> {
+    let vars = vars(alloc)?;
+    let config = EnvConfig::from_vars(alloc, vars.as_slice())?;
+    lines.answer_of(config.resource(alloc).map(|resource| resource.len()));
+    Ok(())
+}
+
+fn with_env<R: Print>(rt: HostRuntime, lines: &Lines<'_, R>) -> Result<(), AllocError> {
+    let alloc = rt.alloc();
+    let vars = vars(alloc)?;
+    let config = EnvConfig::from_vars(alloc, vars.as_slice())?;
+    let builder = Tracing::builder(rt);
+    lines.answer_named("set", builder.with_env(alloc, &config));
+    Ok(())
+}
