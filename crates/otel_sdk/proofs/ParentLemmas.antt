@@ -1,10 +1,9 @@
 -- A span has the ids of its parent from its start on.
-use Rattle.std.proofs.Common.{◌≡◌, ℕ, Bool, true, false, List, [], ◌∷◌, fold, Option, Some, None, refl, sym, ap, subst, ◌∙◌, inl, inr}
+use Rattle.std.proofs.Common.{◌≡◌, ℕ, Bool, true, false, List, [], ◌∷◌, fold, Option, Some, None, Result, refl, sym, ap, subst, ◌∙◌, inl, inr}
 use Rattle.std.specs.Prelude.{◌⊎◌, if◌then◌else◌, option_map}
-use Rattle.std.specs.Option.{unwrap_or}
 use Rattle.otel_base.specs.InstrumentationScope.{Scope}
 use Rattle.otel_base.specs.KeyValue.{Attribute}
-use Rattle.otel_context.specs.Context.{ContextRecord}
+use Rattle.otel_context.specs.Context.{ContextRecord, is_telemetry_suppressed}
 use Rattle.otel_context.specs.SpanEffects.{attributes_of}
 use Rattle.otel_ids.specs.SpanContext.{SpanContextRecord}
 use Rattle.opentelemetry.specs.Event.{LinkRecord}
@@ -17,7 +16,8 @@ use Rattle.otel_sdk_span.specs.declared.limits.SpanLimits.{SpanLimits}
 use Rattle.otel_sdk.specs.Journal.{ids_of}
 use Rattle.otel_sdk.specs.Parents.{IsChild, IsChildIfRecorded, IsInTrace, IsUnder}
 use Rattle.otel_sdk.specs.SpanChange.{change_of}
-use Rattle.otel_sdk.specs.Tracer.{IsTraceId, MayBuild, MayStart, asked, given_data, has_random_id, parent_of, records, silent, span_context_of, without_ids}
+use Rattle.otel_sdk.specs.Tracer.{IsTraceId, MayBuild, Records, Starts, StartsNew, asked, given_data, has_random_id, parent_of, records, silent, span_context_of, without_ids}
+use Rattle.otel_sdk.specs.declared.trace.id_generator.IdError.{IdError}
 use Rattle.otel_sdk.specs.declared.trace.change.SpanChange.{SpanChange}
 use Rattle.otel_sdk.specs.declared.trace.change.SpanChange.TheVariants.{SetAttribute, AddEvent}
 use Rattle.otel_sdk.specs.declared.trace.change.SpanChange.TheVariants.{AddLink, SetStatus, UpdateName}
@@ -141,32 +141,20 @@ end-ids s time = recording-ids s (λ d. record d { end_time = time }) (λ d. rec
 
 -- ---- starts
 
-decided-runs : (b : Bool) (limits : SpanLimits) (d : SpanRecord)
-    → (if b then started limits d else unrecorded d.span_context).has_ended ≡ false
-decided-runs true limits d = refl
-decided-runs false limits d = refl
-
 without_ids-runs : (p : Option SpanContextRecord) → (without_ids p).has_ended ≡ false
 without_ids-runs None = refl
 without_ids-runs (Some p) = refl
 
-decided-under : (b : Bool) (p : Option SpanContextRecord) (limits : SpanLimits) (d : SpanRecord)
-    → IsInTrace p d.span_context → IsChild p d → IsUnder p (if b then started limits d else unrecorded d.span_context)
-decided-under true p limits d t c = record {
-  trace = t;
-  child = ((within-same limits d).own, child-same p d (within limits d) (within-same limits d) c);
-}
-decided-under false p limits d t c = record { trace = t; child = tt }
+module _ (may_trace : Result ℕ IdError → Type 0) where
+  in-trace : (p : Option SpanContextRecord) (own : SpanContextRecord) → IsTraceId may_trace p own.trace_id → IsInTrace p own
+  in-trace None own h = tt
+  in-trace (Some p) own h = inr h
 
-in-trace : (p : Option SpanContextRecord) (own : SpanContextRecord) → IsTraceId p own.trace_id → IsInTrace p own
-in-trace None own h = tt
-in-trace (Some p) own h = inr h
-
-data-child : (scope : Scope) (builder : BuilderRecord) (p : Option SpanContextRecord) (own : SpanContextRecord)
-    (sampled : List Attribute) (start : ℕ) → IsTraceId p own.trace_id
-    → IsChild p (given_data scope builder p own sampled start)
-data-child scope builder None own sampled start h = (refl, refl)
-data-child scope builder (Some p) own sampled start h = (h, refl, refl)
+  data-child : (scope : Scope) (builder : BuilderRecord) (p : Option SpanContextRecord) (own : SpanContextRecord)
+      (sampled : List Attribute) (start : ℕ) → IsTraceId may_trace p own.trace_id
+      → IsChild p (given_data scope builder p own sampled start)
+  data-child scope builder None own sampled start h = (refl, refl)
+  data-child scope builder (Some p) own sampled start h = (h, refl, refl)
 
 silent-under : (p : Option SpanContextRecord) → IsUnder p silent
 silent-under None = record { trace = tt; child = tt }
@@ -176,38 +164,67 @@ without_ids-under : (p : Option SpanContextRecord) → IsUnder p (without_ids p)
 without_ids-under None = record { trace = tt; child = tt }
 without_ids-under (Some p) = record { trace = inr refl; child = tt }
 
-module _ (answer : Asked → Answer) (random : Bool) (limits : SpanLimits) (scope : Scope) (builder : BuilderRecord)
-    (context : ContextRecord) (span : SpanState) where
-  start-under : MayStart answer random limits scope builder context span → IsUnder (parent_of context) span
-  start-under m =
+module _ (answer : Asked → Answer) (random : Bool) (may_trace may_span : Result ℕ IdError → Type 0) (may_show : ℕ → Type 0)
+    (is_counted : Type 0) (limits : SpanLimits) (scope : Scope) (builder : BuilderRecord) (context : ContextRecord) (span : SpanState) where
+  records-under : (p : Option SpanContextRecord) (own : SpanContextRecord) (sampled : List Attribute) → IsTraceId may_trace p own.trace_id
+      → Records may_show limits scope builder p own sampled span → IsUnder p span
+  records-under p own sampled t r =
+      let d : SpanRecord = given_data scope builder p own sampled r.0 in
+      subst (λ (s : SpanState). IsUnder p s) (sym r.2) (record {
+        trace = in-trace may_trace p own t;
+        child = ((within-same limits d).own, child-same p d (within limits d) (within-same limits d) (data-child may_trace scope builder p own sampled r.0 t));
+      })
+
+  decided-under : (b : Bool) (p : Option SpanContextRecord) (own : SpanContextRecord) (sampled : List Attribute) → IsTraceId may_trace p own.trace_id
+      → (b ≡ false → span ≡ unrecorded own) → (b ≡ true → Records may_show limits scope builder p own sampled span) → IsUnder p span
+  decided-under true p own sampled t d r = records-under p own sampled t (r refl)
+  decided-under false p own sampled t d r =
+      subst (λ (s : SpanState). IsUnder p s) (sym (d refl)) (record { trace = in-trace may_trace p own t; child = tt })
+
+  decided-runs : (b : Bool) (p : Option SpanContextRecord) (own : SpanContextRecord) (sampled : List Attribute)
+      → (b ≡ false → span ≡ unrecorded own) → (b ≡ true → Records may_show limits scope builder p own sampled span) → span.has_ended ≡ false
+  decided-runs true p own sampled d r = ap (λ (s : SpanState). s.has_ended) (r refl).2
+  decided-runs false p own sampled d r = ap (λ (s : SpanState). s.has_ended) (d refl)
+
+  new-under : StartsNew answer random may_trace may_span may_show is_counted limits scope builder context span → IsUnder (parent_of context) span
+  new-under m =
       let p : Option SpanContextRecord = parent_of context in
       let a : Answer = answer (asked builder context m.0) in
       let own : SpanContextRecord = span_context_of m.0 m.1 a.decision (has_random_id p random) a.trace_state in
-      let start : ℕ = unwrap_or builder.start_time m.4.0 in
-      subst (λ (s : SpanState). IsUnder p s) (sym m.4.1)
-      (decided-under (records a.decision) p limits (given_data scope builder p own a.attributes start)
-      (in-trace p own m.2) (data-child scope builder p own a.attributes start m.2))
+      decided-under (records a.decision) p own a.attributes m.2 m.4.0 m.4.1
 
-  build-under_of : ((span ≡ silent) ⊎ ((span ≡ without_ids (parent_of context))
-      ⊎ MayStart answer random limits scope builder context span)) → IsUnder (parent_of context) span
-  build-under_of (inl e) = subst (λ (s : SpanState). IsUnder (parent_of context) s) (sym e) (silent-under (parent_of context))
-  build-under_of (inr (inl e)) =
-      subst (λ (s : SpanState). IsUnder (parent_of context) s) (sym e) (without_ids-under (parent_of context))
-  build-under_of (inr (inr m)) = start-under m
-
-  build-runs_of : ((span ≡ silent) ⊎ ((span ≡ without_ids (parent_of context))
-      ⊎ MayStart answer random limits scope builder context span)) → span.has_ended ≡ false
-  build-runs_of (inl e) = ap (λ (s : SpanState). s.has_ended) e
-  build-runs_of (inr (inl e)) = ap (λ (s : SpanState). s.has_ended) e ∙ without_ids-runs (parent_of context)
-  build-runs_of (inr (inr m)) =
+  new-runs : StartsNew answer random may_trace may_span may_show is_counted limits scope builder context span → span.has_ended ≡ false
+  new-runs m =
+      let p : Option SpanContextRecord = parent_of context in
       let a : Answer = answer (asked builder context m.0) in
-      ap (λ (s : SpanState). s.has_ended) m.4.1 ∙ decided-runs (records a.decision) limits
-      (given_data scope builder (parent_of context) (span_context_of m.0 m.1 a.decision (has_random_id (parent_of context) random) a.trace_state)
-      a.attributes (unwrap_or builder.start_time m.4.0))
+      let own : SpanContextRecord = span_context_of m.0 m.1 a.decision (has_random_id p random) a.trace_state in
+      decided-runs (records a.decision) p own a.attributes m.4.0 m.4.1
+
+  starts-under : Starts answer random may_trace may_span may_show is_counted limits scope builder context span → IsUnder (parent_of context) span
+  starts-under (inl m) = new-under m
+  starts-under (inr w) = subst (λ (s : SpanState). IsUnder (parent_of context) s) (sym w.3) (without_ids-under (parent_of context))
 
   -- a span that was started hasn't ended
-  pub build-runs : MayBuild answer random limits scope builder context span → span.has_ended ≡ false
-  build-runs h = build-runs_of h.1
+  pub starts-runs : Starts answer random may_trace may_span may_show is_counted limits scope builder context span → span.has_ended ≡ false
+  starts-runs (inl m) = new-runs m
+  starts-runs (inr w) = ap (λ (s : SpanState). s.has_ended) w.3 ∙ without_ids-runs (parent_of context)
 
-  pub build-under : MayBuild answer random limits scope builder context span → IsUnder (parent_of context) span
-  build-under h = build-under_of h.1
+  is-silent-under : span ≡ silent → IsUnder (parent_of context) span
+  is-silent-under e = subst (λ (s : SpanState). IsUnder (parent_of context) s) (sym e) (silent-under (parent_of context))
+
+  either-under : (is_read : Bool → Type 0) → (is_read true × (span ≡ silent))
+      ⊎ (is_read false × Starts answer random may_trace may_span may_show is_counted limits scope builder context span)
+      → IsUnder (parent_of context) span
+  either-under is_read (inl h) = is-silent-under h.1
+  either-under is_read (inr h) = starts-under h.1
+
+  build-under_of : (is_read : Bool → Type 0) (b : Bool) → (b ≡ true → span ≡ silent)
+      → (b ≡ false → (is_read true × (span ≡ silent))
+      ⊎ (is_read false × Starts answer random may_trace may_span may_show is_counted limits scope builder context span))
+      → IsUnder (parent_of context) span
+  build-under_of is_read true s o = is-silent-under (s refl)
+  build-under_of is_read false s o = either-under is_read (o refl)
+
+  pub build-under : (is_read : Bool → Type 0) → MayBuild answer random may_trace may_span may_show is_counted limits scope builder context is_read span
+      → IsUnder (parent_of context) span
+  build-under is_read h = build-under_of is_read (is_telemetry_suppressed context) h.0 h.1

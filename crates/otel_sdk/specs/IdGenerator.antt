@@ -1,5 +1,7 @@
--- The drawn id that a generator returns.
-use Rattle.std.specs.Prelude.{◌≡◌, ◌≢◌, ℕ, zero, suc, Option, Result, Ok, Err, MatchOption, ◌⊎◌}
+-- The ids that a generator returns.
+use Rattle.std.specs.Prelude.{◌≡◌, ◌≢◌, ◌⊎◌, ◌<◌, ◌^◌, ℕ, zero, suc, List, length}
+use Rattle.std.specs.Prelude.{Option, Some, None, Result, Ok, Err, MatchOption}
+use Rattle.std.specs.Int.{Width, byte_len, from_be_bytes}
 use Rattle.otel_sdk.specs.declared.trace.id_generator.IdError.{IdError}
 use Rattle.otel_sdk.specs.declared.trace.id_generator.IdError.TheVariants.{Zero, Source}
 
@@ -18,3 +20,21 @@ FirstValid {S} {I} draw number (suc n) source result left =
     × MatchOption drawn ((result ≡ Err Source) × (left ≡ next)) (λ id.
     ((number id ≢ 0) × (result ≡ Ok id) × (left ≡ next))
     ⊎ ((number id ≡ 0) × FirstValid draw number n next result left))
+
+-- The drawn id is the number that this many bytes from the source spell, the most significant first.
+-- A failed draw is a source that failed.
+abbrev pub IsDraw : (Option (List ℕ) → Type 0) → Width → Option ℕ → Type 0
+IsDraw may_fill width None = may_fill None
+IsDraw may_fill width (Some id) = (bytes : List ℕ) × may_fill (Some bytes)
+    × (length bytes ≡ byte_len width) × (id ≡ from_be_bytes width bytes)
+
+-- the result is a random id: the first that is drawn and isn't 0
+abbrev pub IsRandomId : (Option (List ℕ) → Type 0) → Width → Result ℕ IdError → Type 0
+IsRandomId may_fill width result =
+    FirstValid {S = Unit {0}} {I = ℕ} (λ _ drawn _. IsDraw may_fill width drawn) (λ id. id)
+    max_draws tt result tt
+
+-- the result is a counted id: a number above 0 with 64 bits, unless the numbers are used up
+abbrev pub IsCountedId : Result ℕ IdError → Type 0
+IsCountedId (Ok id) = (id ≢ 0) × (id < 2 ^ 64)
+IsCountedId (Err error) = error ≡ Zero

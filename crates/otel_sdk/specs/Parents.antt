@@ -1,5 +1,5 @@
 -- The parent of each span of a run. Not in the Rust crate.
-use Rattle.std.specs.Prelude.{◌≡◌, ◌⊎◌, ◌<◌, ℕ, Bool, false, List, [], ◌∷◌, Option, Some, None}
+use Rattle.std.specs.Prelude.{◌≡◌, ◌⊎◌, ◌<◌, ℕ, Bool, false, List, [], ◌∷◌, Option, Some, None, Result}
 use Rattle.std.specs.List.{flat_map}
 use Rattle.otel_context.specs.Context.{ContextRecord, SpanPart}
 use Rattle.otel_context.specs.Spans as table
@@ -9,6 +9,7 @@ use Rattle.opentelemetry.specs.SpanBuilder.{BuilderRecord}
 use Rattle.otel_base.specs.InstrumentationScope.{Scope}
 use Rattle.otel_sdk.specs.Tracer.{MayBuild, parent_of}
 use Rattle.otel_sdk.specs.Sampler.{Answer, Asked}
+use Rattle.otel_sdk.specs.declared.trace.id_generator.IdError.{IdError}
 use Rattle.otel_sdk_span.specs.declared.limits.SpanLimits.{SpanLimits}
 use Rattle.otel_sdk.specs.declared.trace.program.event.SpanEvent.{SpanEvent}
 use Rattle.otel_sdk.specs.declared.trace.program.event.SpanEvent.TheVariants.{Start, StartCurrent}
@@ -99,6 +100,9 @@ StartChildren may_start = (builder : BuilderRecord) (parent : ContextRecord) (sp
     → may_start builder parent span → IsUnder (parent_of parent) span
 
 -- the same for the tracers of a provider
-abbrev pub TracersStartChildren : Type 0
-TracersStartChildren = (answer : Asked → Answer) (random : Bool) (limits : SpanLimits) (scope : Scope)
-    → StartChildren (MayBuild answer random limits scope)
+abbrev pub TracersStartChildren : {G : Type 0} → (G → Result ℕ IdError → Type 0)
+    → (G → Result ℕ IdError → Type 0) → (ℕ → Type 0) → Type 0 → (Bool → Type 0) → Type 0
+TracersStartChildren {G} may_trace may_span may_show is_counted is_read = (answer : Asked → Answer)
+    (random : Bool) (id_generator : G) (limits : SpanLimits) (scope : Scope)
+    → StartChildren (λ builder parent. MayBuild answer random (may_trace id_generator)
+    (may_span id_generator) may_show is_counted limits scope builder parent is_read)

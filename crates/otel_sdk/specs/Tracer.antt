@@ -1,6 +1,6 @@
 -- Which spans a tracer starts.
 use Rattle.std.specs.Prelude.{◌≡◌, ◌≢◌, ◌⊎◌, ℕ, ◌+◌, ◌/◌, ◌%◌, ◌==◌, List, [], ◌++◌, Bool, true, false}
-use Rattle.std.specs.Prelude.{Option, Some, None, if◌then◌else◌, refl}
+use Rattle.std.specs.Prelude.{Option, Some, None, Result, Ok, Err, if◌then◌else◌, refl}
 use Rattle.std.specs.Option.{option_map_or, unwrap_or}
 use Rattle.otel_base.specs.InstrumentationScope.{Scope}
 use Rattle.otel_base.specs.KeyValue.{Attribute}
@@ -16,6 +16,7 @@ use Rattle.otel_sdk.specs.Sampler.{Asked, Answer, has_parent}
 use Rattle.otel_sdk_span.specs.Span.{SpanState, started, unrecorded}
 use Rattle.otel_sdk_span.specs.SpanData.{SpanRecord}
 use Rattle.otel_sdk_span.specs.declared.limits.SpanLimits.{SpanLimits}
+use Rattle.otel_sdk.specs.declared.trace.id_generator.IdError.{IdError}
 use Rattle.otel_sdk.specs.declared.trace.sampler.SamplingDecision.{SamplingDecision}
 use Rattle.otel_sdk.specs.declared.trace.sampler.SamplingDecision.TheVariants.{Drop, RecordOnly, RecordAndSample}
 
@@ -27,10 +28,20 @@ abbrev pub parent_of : ContextRecord → Option SpanContextRecord
 parent_of context =
     if has_parent (span_context context) then Some (span_context context) else None
 
--- The trace id of a span: its parent's, or, for a root, any id but 0.
-abbrev pub IsTraceId : Option SpanContextRecord → ℕ → Type 0
-IsTraceId None id = id ≢ 0
-IsTraceId (Some parent) id = id ≡ parent.trace_id
+-- The trace id of a span: its parent's, or, for a root, one that the generator gave, which isn't 0.
+abbrev pub IsTraceId : (Result ℕ IdError → Type 0) → Option SpanContextRecord → ℕ → Type 0
+IsTraceId may_trace None id = may_trace (Ok id) × (id ≢ 0)
+IsTraceId may_trace (Some parent) id = id ≡ parent.trace_id
+
+-- the generator gave the span id, which isn't 0
+abbrev pub IsSpanId : (Result ℕ IdError → Type 0) → ℕ → Type 0
+IsSpanId may_span id = may_span (Ok id) × (id ≢ 0)
+
+-- the generator gave this error for the span id or, for a root, for the trace id
+abbrev pub HasFailed : (Result ℕ IdError → Type 0) → (Result ℕ IdError → Type 0)
+    → Option SpanContextRecord → IdError → Type 0
+HasFailed may_trace may_span None error = may_trace (Err error) ⊎ may_span (Err error)
+HasFailed may_trace may_span (Some parent) error = may_span (Err error)
 
 -- the parent's span id, 0 for a root
 abbrev pub parent_span_id : Option SpanContextRecord → ℕ
@@ -130,11 +141,6 @@ abbrev pub without_ids : Option SpanContextRecord → SpanState
 without_ids None = silent
 without_ids (Some parent) = unrecorded parent
 
--- the span with this decision: a dropped one has only its span context
-abbrev pub decided : SamplingDecision → SpanLimits → SpanRecord → SpanState
-decided decision limits d =
-    if records decision then started limits d else unrecorded d.span_context
-
 -- ---- tracers
 
 -- the parts of a tracer that its spans depend on: the sampler, the generator of ids, the limits,
@@ -145,55 +151,70 @@ pub record TracerState (S G : Type 0) : Type 0 where
   pub limits : SpanLimits
   pub scope : Scope
 
--- The span with these ids that starts from a builder under a parent context at the time `now`,
--- given the sampler's answers and whether the generator's ids are random.
-abbrev pub started_span : (Asked → Answer) → Bool → SpanLimits → Scope → BuilderRecord
-    → ContextRecord → ℕ → ℕ → ℕ → SpanState
-started_span answer random limits scope builder context trace_id span_id now =
+-- the start time: the builder's or, if it has none, one that the clock showed
+abbrev pub IsStartTime : (ℕ → Type 0) → Option ℕ → ℕ → Type 0
+IsStartTime may_show None start = may_show start
+IsStartTime may_show (Some given) start = start ≡ given
+
+-- the span records from its start time on
+abbrev pub Records : (ℕ → Type 0) → SpanLimits → Scope → BuilderRecord → Option SpanContextRecord
+    → SpanContextRecord → List Attribute → SpanState → Type 0
+Records may_show limits scope builder parent context sampled span = (start : ℕ)
+    × IsStartTime may_show builder.start_time start
+    × (span ≡ started limits (given_data scope builder parent context sampled start))
+
+-- The span with these ids starts as the sampler answered: one that it dropped has only its span
+-- context.
+abbrev pub StartsWith : (Asked → Answer) → Bool → (ℕ → Type 0) → SpanLimits → Scope → BuilderRecord
+    → ContextRecord → ℕ → ℕ → SpanState → Type 0
+StartsWith answer random may_show limits scope builder context trace_id span_id span =
     let parent = parent_of context in
     let answered = answer (asked builder context trace_id) in
     let own = span_context_of trace_id span_id answered.decision (has_random_id parent random)
     answered.trace_state in
-    let start = unwrap_or builder.start_time now in
-    decided answered.decision limits
-    (given_data scope builder parent own answered.attributes start)
-
--- the span records, and started at some time
-abbrev pub Records : SpanLimits → Scope → BuilderRecord → Option SpanContextRecord
-    → SpanContextRecord → List Attribute → SpanState → Type 0
-Records limits scope builder parent context sampled span = (now : ℕ)
-    × (span ≡ started limits
-    (given_data scope builder parent context sampled (unwrap_or builder.start_time now)))
-
--- the span has these ids, and started at some time
-abbrev pub StartsWith : (Asked → Answer) → Bool → SpanLimits → Scope → BuilderRecord
-    → ContextRecord → ℕ → ℕ → SpanState → Type 0
-StartsWith answer random limits scope builder context trace_id span_id span = (now : ℕ)
-    × (span ≡ started_span answer random limits scope builder context trace_id span_id now)
-
--- the span has some ids that the generator may return
-abbrev pub MayStart : (Asked → Answer) → Bool → SpanLimits → Scope → BuilderRecord → ContextRecord
-    → SpanState → Type 0
-MayStart answer random limits scope builder context span = (trace_id : ℕ) × (span_id : ℕ)
-    × IsTraceId (parent_of context) trace_id × (span_id ≢ 0)
-    × StartsWith answer random limits scope builder context trace_id span_id span
-
--- The spans that a tracer may start. Under suppressed telemetry: only the silent span. Otherwise:
--- the silent span if the provider is shut down, a span without new ids if the generator fails (no
--- contract sees either condition), or a span with new ids.
-abbrev pub MayBuild : (Asked → Answer) → Bool → SpanLimits → Scope → BuilderRecord → ContextRecord
-    → SpanState → Type 0
-MayBuild answer random limits scope builder context span =
-    (is_telemetry_suppressed context ≡ true → span ≡ silent)
-    × ((span ≡ silent) ⊎ ((span ≡ without_ids (parent_of context))
-    ⊎ MayStart answer random limits scope builder context span))
+    (records answered.decision ≡ false → span ≡ unrecorded own)
+    × (records answered.decision ≡ true
+    → Records may_show limits scope builder parent own answered.attributes span)
 
 -- the tracer started the span with these ids
-abbrev pub IsStarted : {S G : Type 0} → (S → Asked → Answer) → (G → Bool) → TracerState S G
-    → BuilderRecord → ContextRecord → ℕ → ℕ → SpanState → Type 0
-IsStarted answer random t builder context trace_id span_id span =
-    StartsWith (answer t.sampler) (random t.id_generator) t.limits t.scope builder context
+abbrev pub IsStarted : {S G : Type 0} → (S → Asked → Answer) → (G → Bool) → (ℕ → Type 0)
+    → TracerState S G → BuilderRecord → ContextRecord → ℕ → ℕ → SpanState → Type 0
+IsStarted answer random may_show t builder context trace_id span_id span =
+    StartsWith (answer t.sampler) (random t.id_generator) may_show t.limits t.scope builder context
     trace_id span_id span
+
+-- The relations `may_trace`, `may_span` and `may_show` are what the generator gave for trace ids and
+-- for span ids and the times that the clock showed, and `is_counted` says that a failure was
+-- counted. Only a call shows that one holds.
+module _ (answer : Asked → Answer) (random : Bool) (may_trace may_span : Result ℕ IdError → Type 0)
+    (may_show : ℕ → Type 0) (is_counted : Type 0) (limits : SpanLimits) (scope : Scope)
+    (builder : BuilderRecord) (context : ContextRecord) where
+  -- the span has ids that the generator gave
+  abbrev pub StartsNew : SpanState → Type 0
+  StartsNew span = (trace_id : ℕ) × (span_id : ℕ) × IsTraceId may_trace (parent_of context) trace_id
+      × IsSpanId may_span span_id
+      × StartsWith answer random may_show limits scope builder context trace_id span_id span
+
+  -- the generator failed, which was counted, and the span has no new ids
+  abbrev pub StartsWithout : SpanState → Type 0
+  StartsWithout span = (error : IdError) × HasFailed may_trace may_span (parent_of context) error
+      × is_counted × (span ≡ without_ids (parent_of context))
+
+  -- the spans that start unless telemetry is suppressed
+  abbrev pub Starts : SpanState → Type 0
+  Starts span = StartsNew span ⊎ StartsWithout span
+
+  -- The spans that may start: under suppressed telemetry only the silent one (`OpenPipeline`).
+  abbrev pub MayStart : SpanState → Type 0
+  MayStart span = (is_telemetry_suppressed context ≡ true → span ≡ silent)
+      × (is_telemetry_suppressed context ≡ false → Starts span)
+
+  -- The same for a tracer of a provider, which reads whether the provider is shut down: then, too,
+  -- only the silent span may start (`TracerPipeline`).
+  abbrev pub MayBuild : (Bool → Type 0) → SpanState → Type 0
+  MayBuild is_read span = (is_telemetry_suppressed context ≡ true → span ≡ silent)
+      × (is_telemetry_suppressed context ≡ false
+      → (is_read true × (span ≡ silent)) ⊎ (is_read false × Starts span))
 
 -- ---- providers
 

@@ -1,8 +1,10 @@
 //! Generators of trace ids and span ids.
 ghost use Rattle.std.specs.Prelude.{◌≡◌, ◌≢◌, IfOk, true, false, nat_eq};
+ghost use Rattle.otel_sdk.specs.IdGenerator.{IsCountedId};
 
 mod draws;
 
+pub use crate::trace::id_generator::draws::ByteSource;
 use crate::trace::id_generator::draws::{SpanDraws, TraceDraws, first_valid};
 use opentelemetry::trace::{SpanId, TraceId};
 use std::cell::Cell;
@@ -22,13 +24,20 @@ pub enum IdError {
 
 /// Makes the ids of spans and traces (the Rust crate's `IdGenerator`). An id is never 0.
 ///
-/// Implementors define the ghost function `random`: whether the trace ids are random.
+/// Implementors define the ghost function `random`, whether the trace ids are random, and two ghost
+/// relations: the results that `new_trace_id` (`may_trace`) and `new_span_id` (`may_span`) may have.
+/// Code that is generic over a generator knows nothing of these two: only a call shows a result.
 ///
 /// See [`RandomIdGenerator`] and [`CountedIdGenerator`].
 pub trait IdGenerator: Drop {
-    ghost use Rattle.std.specs.Prelude.{Bool};
+    ghost use Rattle.std.specs.Prelude.{ℕ, Bool, Result};
+    ghost use Rattle.otel_sdk.specs.declared.trace.id_generator.IdError.{IdError};
 
     ghost random: { Self → Bool };
+
+    ghost may_trace: { Self → Result ℕ IdError → Type 0 };
+
+    ghost may_span: { Self → Result ℕ IdError → Type 0 };
 
     /// Returns a new trace id.
     ///
@@ -36,7 +45,8 @@ pub trait IdGenerator: Drop {
     ///
     /// `Zero` if no valid id was drawn. `Source` if the source of random numbers failed.
     fn new_trace_id(&self) -> Result<TraceId, IdError>
-        ensures { IfOk result (λ id. id ≢ 0) };
+        ensures valid { IfOk result (λ id. id ≢ 0) }
+        ensures given { may_trace self.now result };
 
     /// Returns a new span id.
     ///
@@ -44,7 +54,8 @@ pub trait IdGenerator: Drop {
     ///
     /// `Zero` if no valid id was drawn. `Source` if the source of random numbers failed.
     fn new_span_id(&self) -> Result<SpanId, IdError>
-        ensures { IfOk result (λ id. id ≢ 0) };
+        ensures valid { IfOk result (λ id. id ≢ 0) }
+        ensures given { may_span self.now result };
 
     /// Returns `true` if the trace ids are random (W3C trace-context-2, "Random Trace ID Flag").
     fn is_random(&self) -> bool
@@ -67,10 +78,19 @@ impl<R: RandomSource + Drop> RandomIdGenerator<R> {
     }
 }
 
-impl<R: RandomSource + Drop> IdGenerator for RandomIdGenerator<R> {
+impl<R: RandomSource + Drop> IdGenerator for RandomIdGenerator<R>
+where
+    R: ByteSource,
+{
     ghost use Rattle.std.specs.Prelude.{true};
+    ghost use Rattle.std.specs.Int.{w64, w128};
+    ghost use Rattle.otel_sdk.specs.IdGenerator.{IsRandomId};
 
     ghost random = { λ _. true };
+
+    ghost may_trace = { λ _. IsRandomId R.ByteSource.may_fill w128 };
+
+    ghost may_span = { λ _. IsRandomId R.ByteSource.may_fill w64 };
 
     fn new_trace_id(&self) -> Result<TraceId, IdError> {
         first_valid(&mut TraceDraws(&self.source))
@@ -109,7 +129,7 @@ impl CountedIdGenerator {
 ///
 /// `Zero` if the numbers are used up.
 fn count_up(count: &Cell<u64>) -> Result<u64, IdError>
-    ensures { IfOk result (λ n. n ≢ 0) }
+    ensures { IsCountedId result }
 {
     let Some(next) = count.get().checked_add(1) else {
         return Err(IdError::Zero);
@@ -120,8 +140,13 @@ fn count_up(count: &Cell<u64>) -> Result<u64, IdError>
 
 impl IdGenerator for CountedIdGenerator {
     ghost use Rattle.std.specs.Prelude.{false};
+    ghost use Rattle.otel_sdk.specs.IdGenerator.{IsCountedId};
 
     ghost random = { λ _. false };
+
+    ghost may_trace = { λ _. IsCountedId };
+
+    ghost may_span = { λ _. IsCountedId };
 
     /// Returns 1, then 2, and so on.
     ///

@@ -1,10 +1,12 @@
 //! The provider, which makes the tracers of the SDK, and its builder.
 ghost use Rattle.std.specs.Prelude.{◌≡◌, IfOk, Some, None};
-ghost use Rattle.std.specs.Rc.{rc_value};
+ghost use Rattle.std.specs.Option.{unwrap_or};
+ghost use Rattle.otel_sdk_base.specs.Resource.{with_defaults};
 ghost use Rattle.otel_sdk_span.specs.SpanLimits.{default_limits};
 ghost use Rattle.otel_sdk.specs.ParentBased.{after_parent};
 ghost use Rattle.otel_sdk.specs.Tracer as spec;
 
+use crate::trace::tracer::config::TracerConfig;
 use crate::trace::tracer::{SdkTracer, TracerPipeline};
 use crate::trace::{IdGenerator, ParentBased, RandomIdGenerator, Sampler, ShouldSample};
 use opentelemetry::trace::TracerProvider;
@@ -22,19 +24,8 @@ use std::rc::Rc;
 #[derive(Drop)]
 pub(crate) struct TracerProviderInner<S, G, C> {
     pub resource: Rc<Resource>,
-    pub sampler: S,
-    pub id_generator: G,
-    pub clock: C,
-    pub limits: SpanLimits,
+    pub config: TracerConfig<S, G, C>,
     pub is_shut_down: Cell<bool>,
-    pub failed_ids: Cell<u64>,
-}
-
-impl<S, G, C> TracerProviderInner<S, G, C> {
-    /// Counts a span for which no ids were generated.
-    pub(crate) fn count_failed_ids(&self) {
-        self.failed_ids.set(self.failed_ids.get().saturating_add(1));
-    }
 }
 
 /// Makes the tracers of the SDK, which share the provider's sampler, generator of ids, clock and
@@ -58,9 +49,9 @@ impl<S, G, C> Model for SdkTracerProvider<S, G, C> {
     ghost Value = { ProviderState S G };
 
     ghost view = { λ p. record {
-      sampler = (rc_value p.inner).sampler;
-      id_generator = (rc_value p.inner).id_generator;
-      limits = (rc_value p.inner).limits;
+      sampler = (rc_value p.inner).config.sampler;
+      id_generator = (rc_value p.inner).config.id_generator;
+      limits = (rc_value p.inner).config.limits;
       resource = rc_value (rc_value p.inner).resource;
     } };
 }
@@ -100,17 +91,6 @@ impl<S: ShouldSample, G: IdGenerator, C: Clock> SdkTracerProvider<S, G, C> {
         &self.inner.resource
     }
 
-    /// Returns the resource, for an exporter to share.
-    ///
-    /// # Errors
-    ///
-    /// `AllocError` if the count of its owners is at the limit.
-    pub(crate) fn shared_resource(&self) -> Result<Rc<Resource>, AllocError>
-        ensures { IfOk result (λ resource. rc_value resource ≡ self.now.resource) }
-    {
-        self.inner.resource.clone()
-    }
-
     /// Shuts the provider down. From now on, a span that its tracers start has no ids and doesn't
     /// record. A second call does nothing.
     pub fn shutdown(&self) {
@@ -119,7 +99,7 @@ impl<S: ShouldSample, G: IdGenerator, C: Clock> SdkTracerProvider<S, G, C> {
 
     /// Returns the number of spans that don't record because no ids were generated.
     pub fn failed_ids(&self) -> u64 {
-        self.inner.failed_ids.get()
+        self.inner.config.failed_ids.get()
     }
 }
 
@@ -182,6 +162,20 @@ impl<S, G, C> Model for TracerProviderBuilder<S, G, C> {
       limits = b.limits;
       resource = b.resource;
     } };
+}
+
+/// Returns the resource, or the default one if none is given.
+///
+/// # Errors
+///
+/// `AllocError` if out of memory. The resource is dropped.
+fn resource_or_default(alloc: Global, given: Option<Resource>) -> Result<Resource, AllocError>
+    ensures { IfOk result (λ resource. resource ≡ unwrap_or given with_defaults) }
+{
+    match given {
+        Some(resource) => Ok(resource),
+        None => Ok(Resource::builder(alloc)?.build()),
+    }
 }
 
 impl<S: ShouldSample, G: IdGenerator, C: Clock> TracerProviderBuilder<S, G, C> {
@@ -341,11 +335,46 @@ impl<S: ShouldSample, G: IdGenerator, C: Clock> TracerProviderBuilder<S, G, C> {
         TracerProviderBuilder { limits, ..self }
     }
 
+    /// Returns the resource, or the default one if none is set, and the other parts.
+    ///
+    /// # Errors
+    ///
+    /// `AllocError` if out of memory. The builder is dropped.
+    pub(crate) fn into_parts(
+        self,
+        alloc: Global,
+    ) -> Result<(Resource, TracerConfig<S, G, C>), AllocError>
+        ensures { IfOk result (λ parts. spec.provider_of self ≡ record {
+          sampler = parts.1.sampler;
+          id_generator = parts.1.id_generator;
+          limits = parts.1.limits;
+          resource = parts.0;
+        }) }
+    {
+        let TracerProviderBuilder {
+            resource,
+            sampler,
+            id_generator,
+            clock,
+            limits,
+        } = self;
+        let resource = resource_or_default(alloc, resource)?;
+        let config = TracerConfig {
+            sampler,
+            id_generator,
+            clock,
+            limits,
+            failed_ids: Cell::new(0),
+        };
+        Ok((resource, config))
+    }
+
     /// Builds the provider. Without a resource, it has the default one.
     ///
     /// # Errors
     ///
     /// `AllocError` if out of memory. The builder is dropped.
+    // The borrow check doesn't cover a call of `into_parts` here.
     pub fn build(self, alloc: Global) -> Result<SdkTracerProvider<S, G, C>, AllocError>
         ensures { IfOk result (λ p. p ≡ spec.provider_of self) }
     {
@@ -356,18 +385,17 @@ impl<S: ShouldSample, G: IdGenerator, C: Clock> TracerProviderBuilder<S, G, C> {
             clock,
             limits,
         } = self;
-        let resource = match resource {
-            Some(resource) => resource,
-            None => Resource::builder(alloc)?.build(),
-        };
+        let resource = resource_or_default(alloc, resource)?;
         let inner = TracerProviderInner {
             resource: Rc::new(alloc, resource)?,
-            sampler,
-            id_generator,
-            clock,
-            limits,
+            config: TracerConfig {
+                sampler,
+                id_generator,
+                clock,
+                limits,
+                failed_ids: Cell::new(0),
+            },
             is_shut_down: Cell::new(false),
-            failed_ids: Cell::new(0),
         };
         Ok(SdkTracerProvider {
             inner: Rc::new(alloc, inner)?,

@@ -1,6 +1,6 @@
 //! The state with which a span starts: its parent, its ids and flags, the sampler's answer and the
 //! data.
-ghost use Rattle.std.specs.Prelude.{◌≡◌, ◌≢◌, IfOk, map, option_copied};
+ghost use Rattle.std.specs.Prelude.{◌≡◌, IfOk, IfErr, map, option_copied};
 ghost use Rattle.std.specs.Option.{option_map};
 ghost use Rattle.std.specs.Rc.{rc_value};
 ghost use Rattle.otel_base.specs.View.{attribute_of};
@@ -83,8 +83,11 @@ pub(crate) fn new_ids<G: IdGenerator>(
     id_generator: &G,
     parent: Option<&SpanContext>,
 ) -> Result<Ids, IdError>
-    ensures trace { IfOk result (λ ids. spec.IsTraceId (option_copied parent.entry) ids.trace_id) }
-    ensures span { IfOk result (λ ids. ids.span_id ≢ 0) }
+    ensures trace { IfOk result (λ ids. spec.IsTraceId (G.may_trace id_generator.now)
+        (option_copied parent.entry) ids.trace_id) }
+    ensures span { IfOk result (λ ids. spec.IsSpanId (G.may_span id_generator.now) ids.span_id) }
+    ensures failed { IfErr result (λ error. spec.HasFailed (G.may_trace id_generator.now)
+        (G.may_span id_generator.now) (option_copied parent.entry) error) }
 {
     let trace_id = match parent {
         Some(parent) => parent.trace_id(),

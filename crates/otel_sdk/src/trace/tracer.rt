@@ -1,32 +1,37 @@
 //! The tracer of the SDK.
-ghost use Rattle.std.specs.Prelude.{◌≡◌, false, IfOk, option_copied};
-ghost use Rattle.std.specs.Option.{unwrap_or};
+ghost use Rattle.std.specs.Prelude.{◌≡◌, false, IfOk};
 ghost use Rattle.opentelemetry.specs.View.{builder_of};
-ghost use Rattle.otel_sdk.specs.Tracer as spec;
-ghost use Rattle.otel_sdk_base.specs.Attributes.{attributes_of};
+
+pub(crate) mod calls;
+pub(crate) mod config;
 
 use crate::trace::provider::TracerProviderInner;
-use crate::trace::start::{Ids, ask, given_data, new_ids, parent_of, records, span_context_of};
+use crate::trace::tracer::calls::TracerCalls;
+use crate::trace::tracer::config::TracerConfig;
 use crate::trace::{IdGenerator, ShouldSample};
 use opentelemetry::trace::{SpanBuilder, SpanContext, Tracer};
-use opentelemetry::{Context, InstrumentationScope, KeyValue};
+use opentelemetry::{Context, InstrumentationScope};
 use otel_sdk_base::Clock;
-use otel_sdk_span::{SdkSpan, SpanLimits};
+use otel_sdk_span::SdkSpan;
 use std::alloc::{AllocError, Global};
 use std::marker::Model;
 use std::rc::Rc;
 
 /// The configuration with which an [`SdkTracer`] starts spans. Not in the Rust crate.
 ///
-/// Implementors define the ghost relation `may_start`: the spans that the pipeline may start.
+/// Implementors define the ghost relations `may_start`, the spans that the pipeline may start, and
+/// `may_show`, the times that its clock showed.
 ///
-/// See [`TracerPipeline`].
+/// See [`TracerPipeline`] and [`OpenPipeline`].
 pub trait Pipeline: Drop {
+    ghost use Rattle.std.specs.Prelude.{ℕ};
     ghost use Rattle.otel_context.specs.Context.{ContextRecord};
     ghost use Rattle.opentelemetry.specs.SpanBuilder.{BuilderRecord};
     ghost use Rattle.otel_sdk_span.specs.Span.{SpanState};
 
     ghost may_start: { Self → BuilderRecord → ContextRecord → SpanState → Type 0 };
+
+    ghost may_show: { Self → ℕ → Type 0 };
 
     /// Starts a span from a builder under a parent context.
     ///
@@ -43,7 +48,8 @@ pub trait Pipeline: Drop {
         ensures running { IfOk result (λ span. span.has_ended ≡ false) };
 
     /// Returns the clock's moment, in nanoseconds since 1970.
-    fn now(&self) -> u64;
+    fn now(&self) -> u64
+        ensures shown { may_show self.now result };
 }
 
 /// Starts the spans of one library or module (the Rust crate's `SdkTracer`).
@@ -126,112 +132,25 @@ impl<S, G, C> Model for TracerPipeline<S, G, C> {
     ghost Value = { TracerState S G };
 
     ghost view = { λ t. record {
-      sampler = (rc_value t.provider).sampler;
-      id_generator = (rc_value t.provider).id_generator;
-      limits = (rc_value t.provider).limits;
+      sampler = (rc_value t.provider).config.sampler;
+      id_generator = (rc_value t.provider).config.id_generator;
+      limits = (rc_value t.provider).config.limits;
       scope = rc_value t.scope;
     } };
 }
 
-/// Returns a span that doesn't record, with the span context of the parent if there is one.
-///
-/// # Errors
-///
-/// `AllocError` if the reference count of the trace state is at its limit.
-fn without_ids(parent: Option<&SpanContext>) -> Result<SdkSpan, AllocError>
-    ensures { IfOk result (λ span. span ≡ spec.without_ids (option_copied parent.entry)) }
+impl<S: ShouldSample, G: IdGenerator, C: Clock> Pipeline for TracerPipeline<S, G, C>
+where
+    C: TracerCalls,
 {
-    match parent {
-        Some(parent) => Ok(SdkSpan::without_data(parent.clone()?)),
-        None => Ok(SdkSpan::without_data(SpanContext::NONE)),
-    }
-}
-
-impl<S: ShouldSample, G: IdGenerator, C: Clock> TracerPipeline<S, G, C> {
-    /// Returns the given time, or the clock's time if none is given.
-    fn start_time(&self, given: Option<u64>) -> u64
-        ensures { result ≡ unwrap_or given result }
-    {
-        match given {
-            Some(start_time) => start_time,
-            None => self.provider.clock.now(),
-        }
-    }
-
-    /// Starts a span that records, with this span context and these attributes from the sampler.
-    ///
-    /// # Errors
-    ///
-    /// `AllocError` if out of memory. The builder, span context and attributes are dropped.
-    fn record(
-        &self,
-        alloc: Global,
-        builder: SpanBuilder,
-        parent: Option<&SpanContext>,
-        span_context: SpanContext,
-        sampled: Vec<KeyValue>,
-    ) -> Result<SdkSpan, AllocError>
-        ensures { IfOk result (λ span. spec.Records self.now.limits self.now.scope
-            (builder_of builder) (option_copied parent.entry) span_context
-            (attributes_of sampled) span) }
-    {
-        let start_time = self.start_time(builder.start_time);
-        let scope = self.scope.clone()?;
-        let data = given_data(
-            alloc,
-            scope,
-            builder,
-            parent,
-            span_context,
-            sampled,
-            start_time,
-        )?;
-        SdkSpan::new(alloc, data, self.provider.limits)
-    }
-
-    /// Starts the span with these ids.
-    ///
-    /// # Errors
-    ///
-    /// `AllocError` if out of memory. The builder is dropped.
-    fn start_with_ids(
-        &self,
-        alloc: Global,
-        builder: SpanBuilder,
-        parent_context: &Context,
-        ids: Ids,
-    ) -> Result<SdkSpan, AllocError>
-        ensures { IfOk result (λ span. spec.IsStarted S.answer G.random self.now
-            (builder_of builder) parent_context.now ids.trace_id ids.span_id span) }
-    {
-        let parent = parent_of(parent_context);
-        let answer = ask(
-            alloc,
-            &self.provider.sampler,
-            &builder,
-            parent_context,
-            ids.trace_id,
-        )?;
-        let random = self.provider.id_generator.is_random();
-        let span_context = span_context_of(
-            ids,
-            answer.decision,
-            parent,
-            random,
-            answer.trace_state,
-        );
-        if !records(answer.decision) {
-            return Ok(SdkSpan::without_data(span_context));
-        }
-        self.record(alloc, builder, parent, span_context, answer.attributes)
-    }
-}
-
-impl<S: ShouldSample, G: IdGenerator, C: Clock> Pipeline for TracerPipeline<S, G, C> {
     ghost use Rattle.otel_sdk.specs.Tracer as spec;
 
-    ghost may_start = { λ pipeline builder parent span. spec.MayBuild (S.answer pipeline.sampler)
-        (G.random pipeline.id_generator) pipeline.limits pipeline.scope builder parent span };
+    ghost may_start = { λ pipeline builder parent. spec.MayBuild (S.answer pipeline.sampler)
+        (G.random pipeline.id_generator) (G.may_trace pipeline.id_generator)
+        (G.may_span pipeline.id_generator) C.TracerCalls.may_show C.TracerCalls.is_counted
+        pipeline.limits pipeline.scope builder parent C.TracerCalls.is_read };
+
+    ghost may_show = { λ _. C.TracerCalls.may_show };
 
     /// Starts a span from a builder under a parent context.
     ///
@@ -244,20 +163,75 @@ impl<S: ShouldSample, G: IdGenerator, C: Clock> Pipeline for TracerPipeline<S, G
         builder: SpanBuilder,
         parent: &Context,
     ) -> Result<SdkSpan, AllocError> {
-        if parent.is_telemetry_suppressed() || self.provider.is_shut_down.get() {
+        if parent.is_telemetry_suppressed() || C::read(&self.provider.is_shut_down) {
             return Ok(SdkSpan::without_data(SpanContext::NONE));
         }
-        match new_ids(&self.provider.id_generator, parent_of(parent)) {
-            Ok(ids) => self.start_with_ids(alloc, builder, parent, ids),
-            Err(_) => {
-                self.provider.count_failed_ids();
-                without_ids(parent_of(parent))
-            }
-        }
+        let config = &self.provider.config;
+        config.start(alloc, &self.scope, builder, parent)
     }
 
     /// Returns the moment of the provider's clock, in nanoseconds since 1970.
     fn now(&self) -> u64 {
-        self.provider.clock.now()
+        self.provider.config.clock.show()
+    }
+}
+
+/// The configuration with which a [`Tracing`] starts spans, as a [`TracerPipeline`] that nobody can
+/// shut down. Not in the Rust crate.
+///
+/// [`Tracing`]: crate::trace::Tracing
+#[derive(Drop)]
+pub struct OpenPipeline<S, G, C> {
+    pub(crate) config: TracerConfig<S, G, C>,
+    pub(crate) scope: Rc<InstrumentationScope>,
+}
+
+impl<S, G, C> Model for OpenPipeline<S, G, C> {
+    ghost use Rattle.std.specs.Rc.{rc_value};
+    ghost use Rattle.otel_sdk.specs.Tracer.{TracerState};
+
+    ghost Value = { TracerState S G };
+
+    ghost view = { λ t. record {
+      sampler = t.config.sampler;
+      id_generator = t.config.id_generator;
+      limits = t.config.limits;
+      scope = rc_value t.scope;
+    } };
+}
+
+impl<S: ShouldSample, G: IdGenerator, C: Clock> Pipeline for OpenPipeline<S, G, C>
+where
+    C: TracerCalls,
+{
+    ghost use Rattle.otel_sdk.specs.Tracer as spec;
+
+    ghost may_start = { λ pipeline builder parent. spec.MayStart (S.answer pipeline.sampler)
+        (G.random pipeline.id_generator) (G.may_trace pipeline.id_generator)
+        (G.may_span pipeline.id_generator) C.TracerCalls.may_show C.TracerCalls.is_counted
+        pipeline.limits pipeline.scope builder parent };
+
+    ghost may_show = { λ _. C.TracerCalls.may_show };
+
+    /// Starts a span from a builder under a parent context.
+    ///
+    /// # Errors
+    ///
+    /// `AllocError` if out of memory. The builder is dropped.
+    fn build_with_context(
+        &self,
+        alloc: Global,
+        builder: SpanBuilder,
+        parent: &Context,
+    ) -> Result<SdkSpan, AllocError> {
+        if parent.is_telemetry_suppressed() {
+            return Ok(SdkSpan::without_data(SpanContext::NONE));
+        }
+        self.config.start(alloc, &self.scope, builder, parent)
+    }
+
+    /// Returns the moment of the clock, in nanoseconds since 1970.
+    fn now(&self) -> u64 {
+        self.config.clock.show()
     }
 }

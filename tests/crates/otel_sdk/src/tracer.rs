@@ -9,6 +9,7 @@ use otel_sdk::resource::Resource;
 use otel_sdk::trace::{
     Clock, CountedClock, CountedIdGenerator, IdError, IdGenerator, ManualClock, ParentBased,
     Sampler, SamplingDecision, SamplingResult, SdkSpan, SdkTracerProvider, ShouldSample,
+    SystemClock,
 };
 use std::alloc::{AllocError, Global};
 use std::test::Fail;
@@ -23,6 +24,10 @@ impl IdGenerator for Nines {
     ghost use Rattle.std.specs.Prelude.{true};
 
     ghost random = { λ _. true };
+
+    ghost may_trace = { λ _ _. Unit {0} };
+
+    ghost may_span = { λ _ _. Unit {0} };
 
     fn new_trace_id(&self) -> Result<TraceId, IdError> {
         if self.fails {
@@ -331,9 +336,12 @@ fn after_the_shutdown_spans_are_silent(rt: HostRuntime) -> Result<(), Fail> {
     let tracer = provider.tracer(alloc, StringValue::from("lib"))?;
     let span = tracer.build_with_context(alloc, work(), &Context::new())?;
     assert!(rt; span.is_recording() && span.data().is_some());
-    provider.shutdown();
-    let span = tracer.build_with_context(alloc, work(), &Context::new())?;
-    assert!(rt; *span.span_context() == SpanContext::NONE && !span.is_recording());
+    for _ in 0..2 {
+        provider.shutdown();
+        let span = tracer.build_with_context(alloc, work(), &Context::new())?;
+        assert!(rt; *span.span_context() == SpanContext::NONE && !span.is_recording());
+    }
+    assert_eq!(rt; provider.failed_ids(), 0);
     Ok(())
 }
 
@@ -355,6 +363,8 @@ fn a_manual_clock_shows_what_it_is_set_to(rt: HostRuntime) -> Result<(), Fail> {
     let clock = ManualClock::new(5);
     clock.set(7);
     assert_eq!(rt; clock.now(), 7);
+    clock.set(3);
+    assert_eq!(rt; clock.now(), 3);
     Ok(())
 }
 
@@ -364,5 +374,18 @@ fn a_counted_clock_moves_on_at_each_reading(rt: HostRuntime) -> Result<(), Fail>
     assert_eq!(rt; clock.now(), 0);
     assert_eq!(rt; clock.now(), 2);
     assert_eq!(rt; clock.now(), 4);
+    let last = CountedClock::new(u64::MAX);
+    assert_eq!(rt; last.now(), 0);
+    assert_eq!(rt; last.now(), u64::MAX);
+    assert_eq!(rt; last.now(), u64::MAX);
+    Ok(())
+}
+
+#[test]
+fn the_system_s_clock_shows_nanoseconds(rt: HostRuntime) -> Result<(), Fail> {
+    let now = SystemClock::new(rt).now();
+    // From 2017 to 2128.
+    assert!(rt; now > 1_500_000_000_000_000_000);
+    assert!(rt; now < 5_000_000_000_000_000_000);
     Ok(())
 }

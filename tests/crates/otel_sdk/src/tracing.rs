@@ -6,7 +6,7 @@ use opentelemetry::trace::{
 use opentelemetry::{Context, Key, KeyValue, StringValue, Value};
 use otel_sdk::trace::{
     BatchConfigBuilder, Clock, CountedIdGenerator, FinishedSpans, InMemorySpanExporter,
-    ParentBased, Sampler, SpanExporter, TracerPipeline, Tracing,
+    OpenPipeline, ParentBased, Sampler, SpanExporter, Tracing,
 };
 use std::cell::Cell;
 use std::test::Fail;
@@ -25,7 +25,7 @@ impl Clock for Ticks {
     }
 }
 
-type Traced<E> = Tracing<TracerPipeline<ParentBased<Sampler>, CountedIdGenerator, Ticks>, E>;
+type Traced<E> = Tracing<OpenPipeline<ParentBased<Sampler>, CountedIdGenerator, Ticks>, E>;
 
 type App = Traced<InMemorySpanExporter>;
 

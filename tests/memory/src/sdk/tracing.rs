@@ -12,11 +12,11 @@ use opentelemetry::{Context, StringValue};
 use otel_propagators::TraceContextPropagator;
 use otel_sdk::resource::Resource;
 use otel_sdk::trace::{
-    CountedIdGenerator, Entered, ManualClock, NotEntered, Sampler, TracerPipeline, Tracing,
+    CountedIdGenerator, Entered, ManualClock, NotEntered, OpenPipeline, Sampler, Tracing,
 };
 use std::alloc::{AllocError, Global};
 
-pub type App = Tracing<TracerPipeline<Sampler, CountedIdGenerator, ManualClock>, Tally>;
+pub type App = Tracing<OpenPipeline<Sampler, CountedIdGenerator, ManualClock>, Tally>;
 
 /// The number of attachments for which a new stack has room.
 const ROOM: u16 = 8;

@@ -10,20 +10,20 @@ ghost use Rattle.otel_sdk_span.specs.SpanLimits.{default_limits};
 use super::Tracing;
 use super::journal::Journal;
 use super::moments::Moments;
-use crate::trace::tracer::TracerPipeline;
+use crate::trace::tracer::{OpenPipeline, SdkTracer};
 use crate::trace::{
     CountedClock, CountedIdGenerator, IdGenerator, InMemorySpanExporter, ParentBased,
     RandomIdGenerator, Sampler, SdkTracerProvider, ShouldSample, TracerProviderBuilder,
 };
-use opentelemetry::StringValue;
 use opentelemetry::context::ContextStack;
-use opentelemetry::trace::TracerProvider;
+use opentelemetry::{InstrumentationScope, StringValue};
 use otel_sdk_base::resource::Resource;
 use otel_sdk_base::{BatchConfig, Clock, SystemClock};
 use otel_sdk_span::{SpanExporter, SpanLimits};
 use std::alloc::{AllocError, Global};
 use std::marker::Model;
 use std::random::RandomSource;
+use std::rc::Rc;
 
 /// Builds a [`Tracing`].
 ///
@@ -47,8 +47,8 @@ impl<S, G, C, E> Model for TracingBuilder<S, G, C, E> {
     } };
 }
 
-/// The tracer of a provider with the defaults.
-pub type StandardPipeline<R> = TracerPipeline<
+/// The pipeline with the defaults.
+pub type StandardPipeline<R> = OpenPipeline<
     ParentBased<Sampler>,
     RandomIdGenerator<R>,
     SystemClock<R>,
@@ -199,7 +199,7 @@ impl<S: ShouldSample, G: IdGenerator, C: Clock, E: SpanExporter> TracingBuilder<
         self,
         alloc: Global,
         name: &'static str,
-    ) -> Result<Tracing<TracerPipeline<S, G, C>, E>, AllocError>
+    ) -> Result<Tracing<OpenPipeline<S, G, C>, E>, AllocError>
         ensures { IfOk result (IsBuilt E.accepted self (scope_of_name name.now)) }
     {
         let TracingBuilder {
@@ -207,11 +207,16 @@ impl<S: ShouldSample, G: IdGenerator, C: Clock, E: SpanExporter> TracingBuilder<
             mut exporter,
             config,
         } = self;
-        let provider = provider.build(alloc)?;
-        exporter.set_resource(provider.shared_resource()?);
+        let (resource, start) = provider.into_parts(alloc)?;
+        exporter.set_resource(Rc::new(alloc, resource)?);
+        let scope = InstrumentationScope::builder(StringValue::from(name)).build(alloc)?;
+        let pipeline = OpenPipeline {
+            config: start,
+            scope: Rc::new(alloc, scope)?,
+        };
         Ok(Tracing {
             alloc,
-            tracer: provider.tracer(alloc, StringValue::from(name))?,
+            tracer: SdkTracer { pipeline },
             stack: ContextStack::new(alloc)?,
             journal: Journal::new(alloc, exporter, config),
             moments: Moments::new(),

@@ -33,7 +33,8 @@ impl Moments {
 
     /// Returns the moment that the clock of the tracer gives, in nanoseconds since 1970.
     pub fn read<P: Pipeline>(&mut self, tracer: &SdkTracer<P>) -> u64
-        ensures { self.new ≡ self.old ++ result ∷ [] }
+        ensures listed { self.new ≡ self.old ++ result ∷ [] }
+        ensures shown { P.may_show tracer.now result }
     {
         let now = tracer.pipeline.now();
         self.given = self.given.and_one(&now);

@@ -10,5 +10,5 @@ returns-clause-entered g c = rw (sym c.self.view_is) (record {
   is_next = search rules;
   state = entered-state _ c.self.inside.stack.live c.enter.new.stack.live c.self.inside.journal c.enter.new.self
       c.self.inside.moments c.read-now.new.self c.self.inside.unrecorded _ c.in_ok-span.span c.read-now.result refl
-      (search rules) (search rules) c.read-now.ensures;
+      (search rules) (search rules) c.read-now.ensures.listed;
 })

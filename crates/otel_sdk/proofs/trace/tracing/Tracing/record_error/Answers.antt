@@ -10,7 +10,7 @@ pub returns : goal.returns
 returns g c =
     let name : c.from.result ≡ codes "exception" = search rules in
     let attributes : attributes_of c.in_ok-attributes.attributes ≡ message c.from-text.result = search rules in
-    let seen = at-read _ c.args.self.now c.read-now.result c.read-now.new.self c.self.view_is c.read-now.ensures in
+    let seen = at-read _ c.args.self.now c.read-now.result c.read-now.new.self c.self.view_is c.read-now.ensures.listed in
     record {
       moment = c.read-now.result;
       ok = on_ok_weaker c.change.result (λ e. (
