@@ -1,9 +1,10 @@
 -- The view of an exporter that writes lines of JSON, and the bytes that its writer gets
 -- [OpenTelemetry protocol file exporter, "JSON Lines file"].
 use Rattle.std.specs.Prelude.{◌≡◌, ◌⊎◌, ◌<◌, ℕ, Bool, true, false, List, [], ◌∷◌, ◌++◌, length}
-use Rattle.std.specs.Prelude.{take, Option, Result, ⊤, IsTrue, OnOk, IfErr, IsErrOf}
+use Rattle.std.specs.Prelude.{take, Option, Result, Err, ⊤, IsTrue, OnOk, IfErr, IsErrOf}
 use Rattle.std.specs.Prelude.{if◌then◌else◌}
 use Rattle.std.specs.Io.KnownBytes.{Appends}
+use Rattle.otel_sdk_base.specs.Export.{Calls}
 use Rattle.otel_sdk_base.specs.Resource as resource
 use Rattle.otel_sdk_base.specs.Resource.{Parts}
 use Rattle.otel_sdk_base.specs.declared.error.OTelSdkError.{OTelSdkError}
@@ -116,3 +117,13 @@ pub record ShutsDown {W R : Type 0} (contents : W → Option (List ℕ))
   pub writes : Writes contents old.lines new.lines []
   pub fails : old.is_shut_down ≡ false → IfErr result IsFailure
   pub rest : new ≡ record old { lines = new.lines; is_shut_down = true }
+
+-- What the exporter says about its calls. Only if it was shut down, a batch is refused with
+-- `AlreadyShutdown`.
+abbrev pub exporter_calls : {W R : Type 0} → (W → Option (List ℕ)) → Calls (Exporting W R)
+exporter_calls contents = record {
+  refuses = λ old error new. RefusesIfShutDown (Err error) old new;
+  flushes = λ old answer new. ForceFlushes contents answer old new;
+  shuts_down = λ old answer new. ShutsDown contents answer old new;
+  takes_resource = λ old resource new. new ≡ record old { resource = resource };
+}

@@ -136,14 +136,11 @@ impl<W: Write, R> OtlpJsonExporter<W, R> {
 }
 
 impl<W: Write + Drop, R: Grouped> Exporter<R> for OtlpJsonExporter<W, R> {
-    ghost use Rattle.std.specs.Prelude.{◌≡◌, true};
+    ghost use Rattle.otel_otlp.specs.Exporter.{exporter_calls};
 
     ghost accepted = { λ e. e.accepted };
 
-    ghost shuts_down = { λ old left. left ≡ record old {
-      lines = left.lines;
-      is_shut_down = true;
-    } };
+    ghost calls = { exporter_calls W.contents };
 
     /// Writes the batch as a line. Writes nothing for an empty batch.
     ///

@@ -25,7 +25,7 @@ use Rattle.otel_sdk.specs.Tracing.{SameSpans}
 use Rattle.otel_sdk.specs.declared.trace.change.SpanChange.{SpanChange}
 use Rattle.otel_sdk.specs.declared.trace.change.SpanChange.TheVariants.{SetAttribute, AddEvent, AddLink, SetStatus, UpdateName}
 use Rattle.otel_sdk.specs.declared.trace.live.Entered.{Entered}
-use Rattle.otel_sdk_base.specs.Export.{items_of}
+use Rattle.otel_sdk_base.specs.Export.{Calls, items_of}
 use Rattle.otel_sdk_base.specs.Queue.{IsFlushed, IsForceFlushed, IsShutDown, Limits, new as new_processor}
 use Rattle.otel_sdk_base.specs.declared.error.OTelSdkError.{OTelSdkError}
 use Rattle.otel_sdk_span.specs.Span.{SpanState, after_end, recording, says_nothing, with_kept_link}
@@ -226,33 +226,33 @@ pub sampled-found : (o : Option SpanState) → sampled_of (found o) ≡ cons_opt
 sampled-found None = refl
 sampled-found (Some s) = refl
 
-module _ {E : Type 0} (accepted : E → List (List SpanRecord)) (shuts_down : E → E → Type 0) (earlier : List SpanRecord) where
+module _ {E : Type 0} (accepted : E → List (List SpanRecord)) (calls : Calls E) (earlier : List SpanRecord) where
   pub change-lost : {X : Type 0} (ends : List SpanRecord) (l m : LiveState) (p : ProcessorState E) (k : ℕ) (c : SpanChange)
       (r : Result (Unit {0}) X) → AreListed l.spans l.ended → OnOk r (m ≡ with_changed (change_of c) k l) → OnErr r (m ≡ l)
-      → LosesNone accepted shuts_down earlier ends l p → LosesNone accepted shuts_down earlier ends m p
+      → LosesNone accepted calls earlier ends l p → LosesNone accepted calls earlier ends m p
   change-lost ends l m p k c (Ok u) listed ok err h =
-      subst (λ (x : LiveState). LosesNone accepted shuts_down earlier ends x p) (sym ok)
-      (lost-same accepted shuts_down earlier ends l (with_changed (change_of c) k l) p listed
+      subst (λ (x : LiveState). LosesNone accepted calls earlier ends x p) (sym ok)
+      (lost-same accepted calls earlier ends l (with_changed (change_of c) k l) p listed
       (changed-keeps (change_of c) l.spans k (change-stays c)) refl h)
   change-lost ends l m p k c (Err x) listed ok err h =
-      subst (λ (y : LiveState). LosesNone accepted shuts_down earlier ends y p) (sym err) h
+      subst (λ (y : LiveState). LosesNone accepted calls earlier ends y p) (sym err) h
 
   pub refused-lost : (ends : List SpanRecord) (l m : LiveState) (p : ProcessorState E) → AreListed l.spans l.ended → SameSpans l m
-      → LosesNone accepted shuts_down earlier ends l p → LosesNone accepted shuts_down earlier ends m p
-  refused-lost ends l m p listed same h = lost-same accepted shuts_down earlier ends l m p listed
+      → LosesNone accepted calls earlier ends l p → LosesNone accepted calls earlier ends m p
+  refused-lost ends l m p listed same h = lost-same accepted calls earlier ends l m p listed
       (record { same = λ n _. ap (λ (s : map.FinMap nat_cmp SpanState). map.get s n) same.spans.spans }) same.ended h
 
   pub enter-lost : (ends : List SpanRecord) (l m : LiveState) (p : ProcessorState E) (s : SpanState) → AreListed l.spans l.ended
       → table.get l.spans l.spans.next_number ≡ None → m ≡ with_started s l
-      → LosesNone accepted shuts_down earlier ends l p → LosesNone accepted shuts_down earlier ends m p
+      → LosesNone accepted calls earlier ends l p → LosesNone accepted calls earlier ends m p
   enter-lost ends l m p s listed fresh e h =
-      subst (λ (x : LiveState). LosesNone accepted shuts_down earlier ends x p) (sym e)
-      (lost-same accepted shuts_down earlier ends l (with_started s l) p listed
+      subst (λ (x : LiveState). LosesNone accepted calls earlier ends x p) (sym e)
+      (lost-same accepted calls earlier ends l (with_started s l) p listed
       (started-keeps l.spans s (ap is_ended fresh)) refl h)
 
   pub lost-end : (history : List SpanState) (live : LiveState) (p : ProcessorState E) (n time : ℕ) → AreListed live.spans live.ended
-      → is_running (table.get live.spans n) ≡ true → LosesNone accepted shuts_down earlier (sampled_of history) live p
-      → LosesNone accepted shuts_down earlier
+      → is_running (table.get live.spans n) ≡ true → LosesNone accepted calls earlier (sampled_of history) live p
+      → LosesNone accepted calls earlier
       (sampled_of (history ++ found (table.get (with_ended n time live).spans n))) (with_ended n time live) p
   lost-end history live p n time listed runs h =
       let one = running_one (table.get live.spans n) runs in
@@ -263,21 +263,21 @@ module _ {E : Type 0} (accepted : E → List (List SpanRecord)) (shuts_down : E 
       let spans : sampled_of history ++ waiting after.spans (n ∷ []) ≡ sampled_of (history ++ found (table.get after.spans n)) =
       ap (λ (xs : List SpanRecord). sampled_of history ++ xs) (sym (sampled-found (table.get after.spans n)))
       ∙ sym (filter_map-append (λ (s : SpanState). exported (ended_data (Some s))) history (found (table.get after.spans n))) in
-      subst (λ (x : LiveState). LosesNone accepted shuts_down earlier (sampled_of (history ++ found (table.get x.spans n))) x p) is
-      (subst (λ (xs : List SpanRecord). LosesNone accepted shuts_down earlier xs after p) spans
-      (lost-more accepted shuts_down earlier (sampled_of history) live after p (n ∷ []) listed
+      subst (λ (x : LiveState). LosesNone accepted calls earlier (sampled_of (history ++ found (table.get x.spans n))) x p) is
+      (subst (λ (xs : List SpanRecord). LosesNone accepted calls earlier xs after p) spans
+      (lost-more accepted calls earlier (sampled_of history) live after p (n ∷ []) listed
       (replaced-keeps live.spans n t (ap is_ended one.1 ∙ one.2)) refl h))
 
   pub end-lost : (history again : List SpanState) (l m : LiveState) (p : ProcessorState E) (bound : ℕ) (es ys : List Entered)
       (e : Entered) (time : ℕ) → AreListed l.spans l.ended → AreOpen bound l.spans (reverse es) → es ≡ ys ++ e ∷ []
       → m ≡ with_ended e.number time l → again ≡ history ++ found (table.get m.spans e.number)
-      → LosesNone accepted shuts_down earlier (sampled_of history) l p
-      → LosesNone accepted shuts_down earlier (sampled_of again) m p
+      → LosesNone accepted calls earlier (sampled_of history) l p
+      → LosesNone accepted calls earlier (sampled_of again) m p
   end-lost history again l m p bound es ys e time listed running a b c h =
       let open_ones : AreOpen bound l.spans (e ∷ reverse ys) =
       subst (λ (zs : List Entered). AreOpen bound l.spans zs) (ap (λ (zs : List Entered). reverse zs) a ∙ reverse-last ys e) running in
-      subst (λ (zs : List SpanState). LosesNone accepted shuts_down earlier (sampled_of zs) m p) (sym c)
-      (subst (λ (x : LiveState). LosesNone accepted shuts_down earlier (sampled_of (history ++ found (table.get x.spans e.number))) x p) (sym b)
+      subst (λ (zs : List SpanState). LosesNone accepted calls earlier (sampled_of zs) m p) (sym c)
+      (subst (λ (x : LiveState). LosesNone accepted calls earlier (sampled_of (history ++ found (table.get x.spans e.number))) x p) (sym b)
       (lost-end history l p e.number time listed open_ones.1 h))
 
 -- ---- the steps of a journal
@@ -303,17 +303,17 @@ module _ {E : Type 0} (accepted : E → List (List SpanRecord)) where
   pub given-one : (gs : List (List E)) (e : E) → gs ≡ [] ++ (e ∷ []) ∷ [] → flat_map accepted (items_of gs) ≡ accepted e
   given-one gs e h = ap (λ (xs : List (List E)). flat_map accepted (items_of xs)) h ∙ append-nil (accepted e)
 
-module _ {E : Type 0} (accepted : E → List (List SpanRecord)) (shuts_down : E → E → Type 0) where
+module _ {E : Type 0} (accepted : E → List (List SpanRecord)) (calls : Calls E) where
   pub none-lost : (gs : List (List E)) (history : List SpanState) (live : LiveState) (p : ProcessorState E) (exporter : E)
       (config : Limits) → gs ≡ [] ++ (exporter ∷ []) ∷ [] → history ≡ [] → live ≡ no_spans → p ≡ new_processor exporter config
-      → LosesNone accepted shuts_down (items_of (flat_map accepted (items_of gs))) (sampled_of history) live p
+      → LosesNone accepted calls (items_of (flat_map accepted (items_of gs))) (sampled_of history) live p
   none-lost gs history live p exporter config given none spans new =
-      subst (λ (bs : List (List SpanRecord)). LosesNone accepted shuts_down (items_of bs) (sampled_of history) live p)
+      subst (λ (bs : List (List SpanRecord)). LosesNone accepted calls (items_of bs) (sampled_of history) live p)
       (sym (given-one accepted gs exporter given))
-      (subst (λ (xs : List SpanState). LosesNone accepted shuts_down (items_of (accepted exporter)) (sampled_of xs) live p) (sym none)
-      (subst (λ (l : LiveState). LosesNone accepted shuts_down (items_of (accepted exporter)) [] l p) (sym spans)
-      (subst (λ (q : ProcessorState E). LosesNone accepted shuts_down (items_of (accepted exporter)) [] no_spans q) (sym new)
-      (lost-none accepted shuts_down (items_of (accepted exporter)) exporter config refl))))
+      (subst (λ (xs : List SpanState). LosesNone accepted calls (items_of (accepted exporter)) (sampled_of xs) live p) (sym none)
+      (subst (λ (l : LiveState). LosesNone accepted calls (items_of (accepted exporter)) [] l p) (sym spans)
+      (subst (λ (q : ProcessorState E). LosesNone accepted calls (items_of (accepted exporter)) [] no_spans q) (sym new)
+      (lost-none accepted calls (items_of (accepted exporter)) exporter config refl))))
 
   pub made : (live : LiveState) (es : List Entered) (p : ProcessorState E) (started history : List SpanState) (gs : List (List E))
       (exporter : E) (config : Limits) → live ≡ no_spans → es ≡ [] → p ≡ new_processor exporter config → started ≡ [] → history ≡ []
@@ -338,8 +338,8 @@ module _ {E : Type 0} (accepted : E → List (List SpanRecord)) (shuts_down : E 
   -- after a shutdown everything has arrived
   pub all-arrived : (started history : List SpanState) (earlier : List (List SpanRecord)) (live : LiveState) (es : List Entered)
       (p : ProcessorState E) → EndsOnce started history live.spans es
-      → LosesNone accepted shuts_down (items_of earlier) (sampled_of history) live p → es ≡ [] → live.ended ≡ []
-      → p.is_shut_down ≡ true → AllArrived accepted shuts_down started history earlier p
+      → LosesNone accepted calls (items_of earlier) (sampled_of history) live p → es ≡ [] → live.ended ≡ []
+      → p.is_shut_down ≡ true → AllArrived accepted calls started history earlier p
   all-arrived started history earlier live es p ends h none no_ended closed = elim h.was_open.1 [
     | inl same ↦
         let was : p.is_shut_down ≡ false = ap (λ (x : ProcessorState E). x.is_shut_down) same ∙ h.was_open.0 in

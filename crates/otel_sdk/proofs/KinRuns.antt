@@ -6,7 +6,7 @@ use Rattle.otel_context.specs.Stack as stack
 use Rattle.otel_context.specs.Stack.{Live}
 use Rattle.opentelemetry.specs.SpanBuilder.{BuilderRecord}
 use Rattle.opentelemetry.specs.View.{builder_of}
-use Rattle.otel_sdk_base.specs.Export.{items_of}
+use Rattle.otel_sdk_base.specs.Export.{Calls, items_of}
 use Rattle.otel_sdk.specs.LiveState.{LiveState, with_changed, with_ended, with_started}
 use Rattle.otel_sdk.specs.Parents.{ComesFrom, IsActiveIn, StartChildren, given, given_by}
 use Rattle.otel_sdk.specs.Processor.{ProcessorState}
@@ -37,7 +37,7 @@ active-right : (xs ys : List ContextRecord) (part : Option SpanPart) → IsActiv
 active-right [] ys part h = h
 active-right (x ∷ xs) ys part h = inr (active-right xs ys part h)
 
-module _ {E : Type 0} (accepted : E → List (List SpanRecord)) (shuts_down : E → E → Type 0)
+module _ {E : Type 0} (accepted : E → List (List SpanRecord)) (calls : Calls E)
     (may_start : BuilderRecord → ContextRecord → SpanState → Type 0)
     (under : StartChildren may_start)
     (contexts : List ContextRecord) where
@@ -57,7 +57,7 @@ module _ {E : Type 0} (accepted : E → List (List SpanRecord)) (shuts_down : E 
       → ComesFrom contexts a.history.spans a.history.spans.next_number (stack.current a.stack)
   current-of a k = current-comes contexts a.history a.parents a.stack k
 
-  takes-kin : (e : SpanEvent) (a b : RunState E) → Takes accepted shuts_down may_start e a b
+  takes-kin : (e : SpanEvent) (a b : RunState E) → Takes accepted calls may_start e a b
       → ((part : Option SpanPart) → IsActiveIn (given_by e) part → IsActiveIn contexts part)
       → Agree a.history a.live → KinOf a → KinOf b
   takes-kin (Start builder parent) a b f incl agree k = as_kin _ b f.2
@@ -84,12 +84,12 @@ module _ {E : Type 0} (accepted : E → List (List SpanRecord)) (shuts_down : E 
   takes-kin Flush a b f incl agree k = as_kin _ b f.0.same k
   takes-kin Shutdown a b f incl agree k = as_kin _ b f.same k
 
-  closes-kin : (error : OTelSdkError) (a b : RunState E) → FailsToClose accepted shuts_down error a b → KinOf a → KinOf b
+  closes-kin : (error : OTelSdkError) (a b : RunState E) → FailsToClose accepted calls error a b → KinOf a → KinOf b
   closes-kin error a b (inl f) k = as_kin a b f.2 k
   closes-kin error a b (inr (inl f)) k = as_kin _ b f.1.same k
   closes-kin error a b (inr (inr f)) k = as_kin _ b f.same k
 
-  fails-kin : (e : SpanEvent) (error : OTelSdkError) (a b : RunState E) → Fails accepted shuts_down may_start e error a b
+  fails-kin : (e : SpanEvent) (error : OTelSdkError) (a b : RunState E) → Fails accepted calls may_start e error a b
       → KinOf a → KinOf b
   fails-kin (Start builder parent) error a b f k = as_kin a b f.1 k
   fails-kin (StartCurrent builder) error a b f k = as_kin a b f.1 k
@@ -102,7 +102,7 @@ module _ {E : Type 0} (accepted : E → List (List SpanRecord)) (shuts_down : E 
   fails-kin Flush error a b f k = as_kin _ b f.0.same k
   fails-kin Shutdown error a b f k = closes-kin error a b f k
 
-  out-kin : (e : SpanEvent) (a b : RunState E) → RunsOut accepted shuts_down may_start e a b → KinOf a → KinOf b
+  out-kin : (e : SpanEvent) (a b : RunState E) → RunsOut accepted calls may_start e a b → KinOf a → KinOf b
   out-kin (Start builder parent) a b f k = as_kin a b f.1 k
   out-kin (StartCurrent builder) a b f k = as_kin a b f.1 k
   out-kin (StartActive builder) a b f k = as_kin a b f.1 k
@@ -114,7 +114,7 @@ module _ {E : Type 0} (accepted : E → List (List SpanRecord)) (shuts_down : E 
   out-kin Flush a b f k = absurd f
   out-kin Shutdown a b f k = absurd f
 
-  unattached-kin : (e : SpanEvent) (a b : RunState E) → StaysUnattached accepted shuts_down may_start e a b
+  unattached-kin : (e : SpanEvent) (a b : RunState E) → StaysUnattached accepted calls may_start e a b
       → Agree a.history a.live → KinOf a → KinOf b
   unattached-kin (Start builder parent) a b f agree k = absurd f
   unattached-kin (StartCurrent builder) a b f agree k = absurd f
@@ -128,7 +128,7 @@ module _ {E : Type 0} (accepted : E → List (List SpanRecord)) (shuts_down : E 
   unattached-kin Flush a b f agree k = absurd f
   unattached-kin Shutdown a b f agree k = absurd f
 
-  follows-kin : (e : SpanEvent) (o : EventOutcome) (a b : RunState E) → Follows accepted shuts_down may_start e o a b
+  follows-kin : (e : SpanEvent) (o : EventOutcome) (a b : RunState E) → Follows accepted calls may_start e o a b
       → ((part : Option SpanPart) → IsActiveIn (given_by e) part → IsActiveIn contexts part)
       → Agree a.history a.live → KinOf a → KinOf b
   follows-kin e Done a b f incl agree k = takes-kin e a b f incl agree k
@@ -137,26 +137,26 @@ module _ {E : Type 0} (accepted : E → List (List SpanRecord)) (shuts_down : E 
   follows-kin e (Failed error) a b f incl agree k = fails-kin e error a b f k
 
   plays-kin : (earlier : List SpanRecord) (es : List SpanEvent) (os : List EventOutcome) (a b : RunState E)
-      → Plays accepted shuts_down may_start es os a b
+      → Plays accepted calls may_start es os a b
       → ((part : Option SpanPart) → IsActiveIn (given es) part → IsActiveIn contexts part)
-      → Stands accepted shuts_down earlier a → KinOf a → KinOf b
+      → Stands accepted calls earlier a → KinOf a → KinOf b
   plays-kin earlier [] [] a b f incl h k = as_kin a b f k
   plays-kin earlier [] (o ∷ os) a b f incl h k = absurd f
   plays-kin earlier (e ∷ es) [] a b f incl h k = absurd f
   plays-kin earlier (e ∷ es) (o ∷ os) a b f incl h k = plays-kin earlier es os f.0 b f.2
       (λ part i. incl part (active-right (given_by e) (given es) part i))
-      (follows-stands accepted shuts_down earlier may_start e o a f.0 f.1 h)
+      (follows-stands accepted calls earlier may_start e o a f.0 f.1 h)
       (follows-kin e o a f.0 f.1 (λ part i. incl part (active-left (given_by e) (given es) part i)) h.agree k)
 
-module _ {E : Type 0} (accepted : E → List (List SpanRecord)) (shuts_down : E → E → Type 0)
+module _ {E : Type 0} (accepted : E → List (List SpanRecord)) (calls : Calls E)
     (may_start : BuilderRecord → ContextRecord → SpanState → Type 0) where
   pub has_run : (exporter : E) (config : Limits) (es : List SpanEvent) (os : List EventOutcome)
       (history : LiveState) (parents : SpansState ContextRecord) (live : LiveState) (after : Live) (p : ProcessorState E)
-      → Plays accepted shuts_down may_start es os (at_start exporter config) (state_of history parents live after p)
-      → HasRun accepted shuts_down may_start exporter config es os live after p
+      → Plays accepted calls may_start es os (at_start exporter config) (state_of history parents live after p)
+      → HasRun accepted calls may_start exporter config es os live after p
   has_run exporter config es os history parents live after p plays =
-      let begun = start_stands accepted shuts_down may_start exporter config in
-      let stands = plays-stands accepted shuts_down (items_of (accepted exporter)) may_start es os (at_start exporter config)
+      let begun = start_stands accepted calls may_start exporter config in
+      let stands = plays-stands accepted calls (items_of (accepted exporter)) may_start es os (at_start exporter config)
       (state_of history parents live after p) plays begun in
       record {
         history = history;
@@ -165,6 +165,6 @@ module _ {E : Type 0} (accepted : E → List (List SpanRecord)) (shuts_down : E 
         before = stands.none_lost.before;
         was_open = stands.none_lost.was_open;
         nothing_lost = stands.none_lost.lost;
-        have_parents = λ under. (plays-kin accepted shuts_down may_start under (given es) (items_of (accepted exporter)) es os
+        have_parents = λ under. (plays-kin accepted calls may_start under (given es) (items_of (accepted exporter)) es os
             (at_start exporter config) (state_of history parents live after p) plays (λ part i. i) begun (no-kin (given es))).parents_are;
       }

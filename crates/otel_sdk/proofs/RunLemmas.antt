@@ -1,7 +1,7 @@
 -- A run of events loses nothing.
 use Rattle.std.proofs.Common.{◌≡◌, ℕ, Bool, true, false, List, [], ◌∷◌, ◌++◌, length}
 use Rattle.std.proofs.Common.{take, map as each, fold, Option, Some, None, refl, sym, ap, subst, ◌∙◌, inl, inr, append_assoc, append-nil}
-use Rattle.std.specs.Prelude.{if◌then◌else◌, nat_lt, not}
+use Rattle.std.specs.Prelude.{if◌then◌else◌, nat_lt, not, Result, Ok, Err}
 use Rattle.std.specs.List.{cons_option}
 use Rattle.std.proofs.lemmas.Bool.{cases_Bool}
 use Rattle.std.proofs.lemmas.List.Elements.{filter_map-append}
@@ -11,7 +11,7 @@ use Rattle.opentelemetry.specs.SpanBuilder.{BuilderRecord}
 use Rattle.otel_context.specs.Stack as stack
 use Rattle.otel_context.specs.Stack.{Live}
 use Rattle.otel_sdk.specs.Ended.{Collecting, Fate, NothingLost, after_end_if, after_end_of, ended_data, exported, is_ended, of, waiting}
-use Rattle.otel_sdk_base.specs.Export.{items_of}
+use Rattle.otel_sdk_base.specs.Export.{Calls, items_of}
 use Rattle.otel_sdk.specs.Journal.{LosesNone}
 use Rattle.otel_sdk.specs.LiveState.{LiveState, with_started, with_changed, with_ended}
 use Rattle.otel_sdk.specs.Processor.{is_sampled}
@@ -55,25 +55,25 @@ same_if_some : (x y : Option SpanState) (s : SpanState) → Both x y → x ≡ S
 same_if_some x y s (inl e) f = sym e ∙ f
 same_if_some x y s (inr e) f = absurd (cc (e.0, f))
 
-module _ {E : Type 0} (accepted : E → List (List SpanRecord)) (shuts_down : E → E → Type 0) (earlier : List SpanRecord) where
+module _ {E : Type 0} (accepted : E → List (List SpanRecord)) (calls : Calls E) (earlier : List SpanRecord) where
   -- the invariant after each event
   pub record Stands (s : RunState E) : Type 0 where
     pub agree : Agree s.history s.live
-    pub none_lost : LosesNone accepted shuts_down earlier (waiting s.history.spans s.history.ended) s.live s.processor
+    pub none_lost : LosesNone accepted calls earlier (waiting s.history.spans s.history.ended) s.live s.processor
 
   -- the history and the live spans have the same additional ends
   moved : (h l k m : LiveState) (p : ProcessorState E) (more : List ℕ) → Agree h l → Keeps h.spans k.spans
       → Keeps l.spans m.spans → k.ended ≡ h.ended ++ more → m.ended ≡ l.ended ++ more
       → waiting k.spans more ≡ waiting m.spans more
-      → LosesNone accepted shuts_down earlier (waiting h.spans h.ended) l p
-      → LosesNone accepted shuts_down earlier (waiting k.spans k.ended) m p
+      → LosesNone accepted calls earlier (waiting h.spans h.ended) l p
+      → LosesNone accepted calls earlier (waiting k.spans k.ended) m p
   moved h l k m p more a kh kl eh el same none_lost =
       let whole : waiting k.spans k.ended ≡ waiting h.spans h.ended ++ waiting m.spans more =
       ap (λ (ns : List ℕ). waiting k.spans ns) eh
       ∙ filter_map-append (λ (n : ℕ). exported (ended_data (table.get k.spans n))) h.ended more
       ∙ (λ i. keeps-waiting h.spans k.spans h.ended kh a.ended i ++ same i) in
-      subst (λ (xs : List SpanRecord). LosesNone accepted shuts_down earlier xs m p) (sym whole)
-      (lost-more accepted shuts_down earlier (waiting h.spans h.ended) l m p more a.listed kl el none_lost)
+      subst (λ (xs : List SpanRecord). LosesNone accepted calls earlier xs m p) (sym whole)
+      (lost-more accepted calls earlier (waiting h.spans h.ended) l m p more a.listed kl el none_lost)
 
   start-stands : (a : RunState E) (c : ContextRecord) (s : SpanState) → Stands a → Stands (with_child c s a)
   start-stands a c s h = record {
@@ -139,27 +139,27 @@ module _ {E : Type 0} (accepted : E → List (List SpanRecord)) (shuts_down : E 
   collect-stands : (a b : RunState E) → IsCollected a b → Stands a → Stands b
   collect-stands a b got h = stays_as (record a { live = b.live; processor = b.processor }) b got.same (record {
     agree = collect-agree a.history a.live b.live a.processor b.processor h.agree got.collected;
-    none_lost = lost-collected accepted shuts_down earlier (waiting a.history.spans a.history.ended) a.live b.live a.processor b.processor
+    none_lost = lost-collected accepted calls earlier (waiting a.history.spans a.history.ended) a.live b.live a.processor b.processor
         h.agree.listed got.collected
         (λ t. (ap (λ (s : RunState E). s.live) (got.closed t), ap (λ (s : RunState E). s.processor) (got.closed t))) h.none_lost;
   })
 
-  flush-stands : (a b : RunState E) → IsExported accepted a b → Stands a → Stands b
-  flush-stands a b got h = stays_as (record a { processor = b.processor }) b got.same (record {
+  flush-stands : (r : Result (Unit {0}) OTelSdkError) (a b : RunState E) → IsExported accepted calls r a b → Stands a → Stands b
+  flush-stands r a b got h = stays_as (record a { processor = b.processor }) b got.same (record {
     agree = h.agree;
-    none_lost = lost-flushed accepted shuts_down earlier (waiting a.history.spans a.history.ended) a.live a.processor b.processor
+    none_lost = lost-flushed accepted calls earlier (waiting a.history.spans a.history.ended) a.live a.processor b.processor
         got.flushed (λ t. ap (λ (s : RunState E). s.processor) (got.closed t)) h.none_lost;
   })
 
-  shutdown-stands : (a b : RunState E) → IsShutDown accepted shuts_down a b → Stands a → Stands b
-  shutdown-stands a b got h = stays_as (record a { processor = b.processor }) b got.same (record {
+  shutdown-stands : (r : Result (Unit {0}) OTelSdkError) (a b : RunState E) → IsShutDown accepted calls r a b → Stands a → Stands b
+  shutdown-stands r a b got h = stays_as (record a { processor = b.processor }) b got.same (record {
     agree = h.agree;
-    none_lost = lost-closed accepted shuts_down earlier (waiting a.history.spans a.history.ended) a.live a.processor b.processor
+    none_lost = lost-closed accepted calls earlier (waiting a.history.spans a.history.ended) a.live a.processor b.processor r
         got.was_open got.closed h.none_lost;
   })
 
   module _ (may_start : BuilderRecord → ContextRecord → SpanState → Type 0) where
-    takes-stands : (e : SpanEvent) (a b : RunState E) → Takes accepted shuts_down may_start e a b → Stands a → Stands b
+    takes-stands : (e : SpanEvent) (a b : RunState E) → Takes accepted calls may_start e a b → Stands a → Stands b
     takes-stands (Start builder parent) a b f h =
         stays_as (with_child parent f.0 a) b f.2 (start-stands a parent f.0 h)
     takes-stands (StartCurrent builder) a b f h =
@@ -176,15 +176,15 @@ module _ {E : Type 0} (accepted : E → List (List SpanRecord)) (shuts_down : E 
         stays_as (with_both (with_changed (change_of c) n) a) b f (change-stands a (change_of c) n (change-stays c) h)
     takes-stands (End n time) a b f h = stays_as (with_both (with_ended n time) a) b f (end-stands a n time h)
     takes-stands Collect a b f h = collect-stands a b f.0 h
-    takes-stands Flush a b f h = flush-stands a b f.0 h
-    takes-stands Shutdown a b f h = shutdown-stands a b f h
+    takes-stands Flush a b f h = flush-stands (Ok tt) a b f.0 h
+    takes-stands Shutdown a b f h = shutdown-stands (Ok tt) a b f h
 
-    closes-stands : (error : OTelSdkError) (a b : RunState E) → FailsToClose accepted shuts_down error a b → Stands a → Stands b
+    closes-stands : (error : OTelSdkError) (a b : RunState E) → FailsToClose accepted calls error a b → Stands a → Stands b
     closes-stands error a b (inl f) h = stays_as a b f.2 h
-    closes-stands error a b (inr (inl f)) h = flush-stands a b f.1 h
-    closes-stands error a b (inr (inr f)) h = shutdown-stands a b f h
+    closes-stands error a b (inr (inl f)) h = flush-stands (Err error) a b f.1 h
+    closes-stands error a b (inr (inr f)) h = shutdown-stands (Err error) a b f h
 
-    fails-stands : (e : SpanEvent) (error : OTelSdkError) (a b : RunState E) → Fails accepted shuts_down may_start e error a b
+    fails-stands : (e : SpanEvent) (error : OTelSdkError) (a b : RunState E) → Fails accepted calls may_start e error a b
         → Stands a → Stands b
     fails-stands (Start builder parent) error a b f h = stays_as a b f.1 h
     fails-stands (StartCurrent builder) error a b f h = stays_as a b f.1 h
@@ -194,10 +194,10 @@ module _ {E : Type 0} (accepted : E → List (List SpanRecord)) (shuts_down : E 
     fails-stands (Change n c) error a b f h = stays_as a b f.1 h
     fails-stands (End n time) error a b f h = absurd f
     fails-stands Collect error a b f h = collect-stands a b f.1 h
-    fails-stands Flush error a b f h = flush-stands a b f.0 h
+    fails-stands Flush error a b f h = flush-stands (Err error) a b f.0 h
     fails-stands Shutdown error a b f h = closes-stands error a b f h
 
-    out-stands : (e : SpanEvent) (a b : RunState E) → RunsOut accepted shuts_down may_start e a b → Stands a → Stands b
+    out-stands : (e : SpanEvent) (a b : RunState E) → RunsOut accepted calls may_start e a b → Stands a → Stands b
     out-stands (Start builder parent) a b f h = stays_as a b f.1 h
     out-stands (StartCurrent builder) a b f h = stays_as a b f.1 h
     out-stands (StartActive builder) a b f h = stays_as a b f.1 h
@@ -209,7 +209,7 @@ module _ {E : Type 0} (accepted : E → List (List SpanRecord)) (shuts_down : E 
     out-stands Flush a b f h = absurd f
     out-stands Shutdown a b f h = absurd f
 
-    unattached-stands : (e : SpanEvent) (a b : RunState E) → StaysUnattached accepted shuts_down may_start e a b
+    unattached-stands : (e : SpanEvent) (a b : RunState E) → StaysUnattached accepted calls may_start e a b
         → Stands a → Stands b
     unattached-stands (Start builder parent) a b f h = absurd f
     unattached-stands (StartCurrent builder) a b f h = absurd f
@@ -223,7 +223,7 @@ module _ {E : Type 0} (accepted : E → List (List SpanRecord)) (shuts_down : E 
     unattached-stands Flush a b f h = absurd f
     unattached-stands Shutdown a b f h = absurd f
 
-    pub follows-stands : (e : SpanEvent) (o : EventOutcome) (a b : RunState E) → Follows accepted shuts_down may_start e o a b
+    pub follows-stands : (e : SpanEvent) (o : EventOutcome) (a b : RunState E) → Follows accepted calls may_start e o a b
         → Stands a → Stands b
     follows-stands e Done a b f h = takes-stands e a b f h
     follows-stands e NumbersUsedUp a b f h = out-stands e a b f h
@@ -231,7 +231,7 @@ module _ {E : Type 0} (accepted : E → List (List SpanRecord)) (shuts_down : E 
     follows-stands e (Failed error) a b f h = fails-stands e error a b f h
 
     pub plays-stands : (es : List SpanEvent) (os : List EventOutcome) (a b : RunState E)
-        → Plays accepted shuts_down may_start es os a b → Stands a → Stands b
+        → Plays accepted calls may_start es os a b → Stands a → Stands b
     plays-stands [] [] a b f h = stays_as a b f h
     plays-stands [] (o ∷ os) a b f h = absurd f
     plays-stands (e ∷ es) [] a b f h = absurd f
@@ -240,18 +240,18 @@ module _ {E : Type 0} (accepted : E → List (List SpanRecord)) (shuts_down : E 
 
     -- one more event
     pub plays-push : (es : List SpanEvent) (os : List EventOutcome) (a b c : RunState E) (e : SpanEvent) (o : EventOutcome)
-        → Plays accepted shuts_down may_start es os a b → Follows accepted shuts_down may_start e o b c
-        → Plays accepted shuts_down may_start (es ++ e ∷ []) (os ++ o ∷ []) a c
-    plays-push [] [] a b c e o p f = (c, subst (λ (x : RunState E). Follows accepted shuts_down may_start e o x c) p f, refl)
+        → Plays accepted calls may_start es os a b → Follows accepted calls may_start e o b c
+        → Plays accepted calls may_start (es ++ e ∷ []) (os ++ o ∷ []) a c
+    plays-push [] [] a b c e o p f = (c, subst (λ (x : RunState E). Follows accepted calls may_start e o x c) p f, refl)
     plays-push [] (x ∷ os) a b c e o p f = absurd p
     plays-push (x ∷ es) [] a b c e o p f = absurd p
     plays-push (x ∷ es) (y ∷ os) a b c e o p f = (p.0, p.1, plays-push es os p.0 b c e o p.2 f)
 
-module _ {E : Type 0} (accepted : E → List (List SpanRecord)) (shuts_down : E → E → Type 0)
+module _ {E : Type 0} (accepted : E → List (List SpanRecord)) (calls : Calls E)
     (may_start : BuilderRecord → ContextRecord → SpanState → Type 0) where
   pub start_stands : (exporter : E) (config : Limits)
-      → Stands accepted shuts_down (items_of (accepted exporter)) (at_start exporter config)
+      → Stands accepted calls (items_of (accepted exporter)) (at_start exporter config)
   start_stands exporter config = record {
     agree = none-agree;
-    none_lost = lost-none accepted shuts_down (items_of (accepted exporter)) exporter config refl;
+    none_lost = lost-none accepted calls (items_of (accepted exporter)) exporter config refl;
   }

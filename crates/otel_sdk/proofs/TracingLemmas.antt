@@ -11,6 +11,7 @@ use Rattle.otel_sdk.specs.Ended.{AreListed, is_ended}
 use Rattle.otel_sdk.specs.Journal.{JournalState, innermost_closed, opened}
 use Rattle.otel_sdk.specs.LiveState.{LiveState, with_started}
 use Rattle.otel_sdk.specs.Processor.{ProcessorState}
+use Rattle.otel_sdk_base.specs.Export.{Calls}
 use Rattle.otel_sdk_base.specs.Queue.{IsShutDown}
 use Rattle.otel_sdk_span.specs.Span.{SpanState}
 use Rattle.otel_sdk_span.specs.SpanData.{SpanRecord}
@@ -150,8 +151,8 @@ module _ {P E : Type 0} where
 
 -- ---- a shutdown that succeeded
 
-module _ {E : Type 0} (accepted : E → List (List SpanRecord)) (shuts_down : E → E → Type 0) where
-  pub shut_down-ok : (p q : ProcessorState E) → IsShutDown accepted shuts_down (Ok tt) p q
+module _ {E : Type 0} (accepted : E → List (List SpanRecord)) (calls : Calls E) where
+  pub shut_down-ok : (p q : ProcessorState E) → IsShutDown accepted calls (Ok tt) p q
       → (q.queue ≡ []) × (q.is_shut_down ≡ true)
   shut_down-ok p q s = elim (cases_Bool p.is_shut_down) [
     | inl t ↦ let bad = (s.0 t).0 in cc

@@ -1,13 +1,14 @@
 -- How a processor collects the ended spans of a table.
 use Rattle.std.specs.Prelude.{◌≡◌, ◌⊎◌, ℕ, ◌-◌, ◌^◌, ◌≤◌, min, Bool, false, true, List, ◌++◌}
-use Rattle.std.specs.Prelude.{[], ◌∷◌, length, take, drop, ◌==◌}
+use Rattle.std.specs.Prelude.{[], ◌∷◌, length, take, drop, ◌==◌, Result, IsErrAnd}
 use Rattle.std.specs.Prelude.{map, fold, Option, Some, None, if◌then◌else◌}
 use Rattle.std.specs.List.{filter_map, AllByRecursion, IsDistinct}
 use Rattle.otel_context.specs.Spans as table
 use Rattle.otel_context.specs.Spans.{SpansState}
 use Rattle.otel_sdk.specs.Processor.{ProcessorState, after_end, is_sampled}
 use Rattle.otel_sdk.specs.SpanEnd.{is_running}
-use Rattle.otel_sdk_base.specs.Queue.{IsFlushed, cause, received_of}
+use Rattle.otel_sdk_base.specs.Export.{Calls}
+use Rattle.otel_sdk_base.specs.Queue.{IsExportersAnswer, IsFlushed, cause, received_of}
 use Rattle.otel_sdk_base.specs.declared.error.OTelSdkError.{OTelSdkError}
 use Rattle.otel_sdk_span.specs.Span.{SpanState}
 use Rattle.otel_sdk_span.specs.SpanData.{SpanRecord}
@@ -124,11 +125,24 @@ module _ {E : Type 0} where
   abbrev pub IsHandedOn : (E → List (List SpanRecord)) → ℕ → Collecting E → Collecting E → Type 0
   IsHandedOn accepted number old new = OnlyFlushes accepted (after_end_of old number) new
 
-  -- Nothing changed, and the error is the reason; or the span under the number was handed on.
-  abbrev pub IsRefusedOrHandedOn : (E → List (List SpanRecord)) → ℕ → Collecting E → Collecting E
-      → OTelSdkError → Type 0
-  IsRefusedOrHandedOn accepted number old new error =
-      ((new ≡ old) × (error ≡ cause old.processor)) ⊎ IsHandedOn accepted number old new
+  -- Nothing changed, and the error is the reason; or the span under the number was handed on, and
+  -- the answer is the exporter's.
+  abbrev pub IsRefusedOrHandedOn : (E → List (List SpanRecord)) → Calls E → ℕ
+      → Result (Unit {0}) OTelSdkError → Collecting E → Collecting E → Type 0
+  IsRefusedOrHandedOn accepted calls number answer old new =
+      IsErrAnd answer (λ error. (new ≡ old) × (error ≡ cause old.processor))
+      ⊎ (IsHandedOn accepted number old new
+      × IsExportersAnswer accepted calls answer (after_end_of old number).processor new.processor)
+
+  -- How a collection with a flush after each span ends, with these numbers left: a span was refused
+  -- for this reason, once the queue was empty; or the answer is the exporter's to the last flush,
+  -- and spans are left only if it refused a batch.
+  abbrev pub EndsWith : (E → List (List SpanRecord)) → Calls E → List ℕ
+      → Result (Unit {0}) OTelSdkError → ProcessorState E → Type 0
+  EndsWith accepted calls left answer new =
+      IsErrAnd answer (λ error. (error ≡ cause new) × (new.queue ≡ []))
+      ⊎ ((before : ProcessorState E) × IsExportersAnswer accepted calls answer before new
+      × (new.queue ≡ [] → left ≡ []))
 
   -- The queue was flushed, and each of the spans under the numbers was handed in to an empty queue
   -- that was then flushed.

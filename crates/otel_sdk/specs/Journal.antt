@@ -13,7 +13,7 @@ use Rattle.otel_sdk.specs.Processor.{ProcessorState}
 use Rattle.otel_sdk.specs.Run.{WasOpen}
 use Rattle.otel_sdk.specs.SpanEnd.{is_running}
 use Rattle.otel_sdk.specs.declared.trace.live.Entered.{Entered}
-use Rattle.otel_sdk_base.specs.Export.{items_of}
+use Rattle.otel_sdk_base.specs.Export.{Calls, WasShutDown, items_of}
 use Rattle.otel_sdk_base.specs.Queue.{Limits, new as new_processor}
 use Rattle.otel_sdk_span.specs.Span.{SpanState}
 use Rattle.otel_sdk_span.specs.SpanData.{SpanRecord}
@@ -100,7 +100,7 @@ module _ {E : Type 0} where
   innermost_closed moment [] j = j
   innermost_closed moment (e ∷ outer) j = closed moment e outer j
 
-  module _ (accepted : E → List (List SpanRecord)) (shuts_down : E → E → Type 0) where
+  module _ (accepted : E → List (List SpanRecord)) (calls : Calls E) where
     -- Each of the sampled spans that have ended is in exactly one place: accepted by the exporter
     -- (before its shutdown), queued, not collected, or dropped by a full queue and counted. The
     -- first three, in this order, are in the order of the ends.
@@ -108,7 +108,7 @@ module _ {E : Type 0} where
         (processor : ProcessorState E) : Type 0 where
       -- the processor before its shutdown, if it was shut down
       pub before : ProcessorState E
-      pub was_open : WasOpen shuts_down before processor
+      pub was_open : WasOpen calls before processor
       pub lost : NothingLost accepted earlier ends (of before spans.spans) spans.ended
 
     -- Nothing that was entered is lost.
@@ -119,13 +119,13 @@ module _ {E : Type 0} where
   -- Every span that was entered has ended, once, with the ids with which it started. Each sampled
   -- one was accepted by the exporter, once, after the earlier batches and in the order of the ends;
   -- or it was dropped by a full queue and counted.
-  pub record AllArrived (accepted : E → List (List SpanRecord)) (shuts_down : E → E → Type 0)
+  pub record AllArrived (accepted : E → List (List SpanRecord)) (calls : Calls E)
       (started history : List SpanState) (earlier : List (List SpanRecord))
       (processor : ProcessorState E) : Type 0 where
     pub once : IsPermutation (map ids_of history) (map ids_of started)
     -- the exporter before its shutdown
     pub exporter : E
-    pub shut_down : shuts_down exporter processor.exporter
+    pub shut_down : WasShutDown calls exporter processor.exporter
     pub fates : List Fate
     pub ended : sampled_of history ≡ map (λ f. f.span) fates
     pub received : items_of (accepted exporter) ≡ items_of earlier ++ filter_map kept fates

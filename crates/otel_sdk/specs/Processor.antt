@@ -1,8 +1,9 @@
 -- The effect of a span's end on a processor.
-use Rattle.std.specs.Prelude.{◌≡◌, Bool, List, MatchBool, MatchOption, Option, if◌then◌else◌}
+use Rattle.std.specs.Prelude.{◌≡◌, Bool, Err, List, MatchBool, MatchOption, Option, if◌then◌else◌}
 use Rattle.otel_ids.specs.TraceFlags as flags
+use Rattle.otel_sdk_base.specs.Export.{Calls}
 use Rattle.otel_sdk_base.specs.Queue.{IsFlushed, IsKeptOrDropped, QueueState, Received, after_add}
-use Rattle.otel_sdk_base.specs.Queue.{cause}
+use Rattle.otel_sdk_base.specs.Queue.{IsExportersAnswer, cause}
 use Rattle.otel_sdk_base.specs.declared.error.OTelSdkError.{OTelSdkError}
 use Rattle.otel_sdk_span.specs.SpanData.{SpanRecord}
 
@@ -29,10 +30,11 @@ ProcessorState E = QueueState SpanRecord E
 abbrev pub after_end : {E : Type 0} → SpanRecord → ProcessorState E → ProcessorState E
 after_end span p = if is_sampled span then after_add span p else p
 
--- Either the span was handed in and the queue was flushed, or the span is returned. In the second
--- case nothing changed, and the error is the reason.
-abbrev pub IsFlushedOrReturned : {E : Type 0} → (E → List (List SpanRecord)) → SpanRecord
+-- Either the span was handed in and the queue was flushed, and the error is the exporter's; or the
+-- span is returned. In the second case nothing changed, and the error is the reason.
+abbrev pub IsFlushedOrReturned : {E : Type 0} → (E → List (List SpanRecord)) → Calls E → SpanRecord
     → ProcessorState E → ProcessorState E → Option SpanRecord → OTelSdkError → Type 0
-IsFlushedOrReturned accepted span old new returned error =
-    MatchOption returned (IsFlushed accepted (after_end span old) new)
+IsFlushedOrReturned accepted calls span old new returned error =
+    MatchOption returned (IsFlushed accepted (after_end span old) new
+    × IsExportersAnswer accepted calls (Err error) (after_end span old) new)
     (λ back. (back ≡ span) × (new ≡ old) × (error ≡ cause old))

@@ -1,5 +1,6 @@
 -- The meaning of a run of events over the spans of a program. Not in the Rust crate.
 use Rattle.std.specs.Prelude.{◌≡◌, ◌⊎◌, true, false, List, [], ◌∷◌, alloc_error, IsTrue}
+use Rattle.std.specs.Prelude.{Result, Ok, Err, not}
 use Rattle.otel_context.specs.Context.{ContextRecord, with_span}
 use Rattle.otel_context.specs.Spans.{SpansState, insert, starting_at, used_up}
 use Rattle.otel_context.specs.Stack as stack
@@ -9,11 +10,12 @@ use Rattle.otel_context.specs.declared.span.spans.SpanCause.TheVariants as cause
 use Rattle.opentelemetry.specs.SpanBuilder.{BuilderRecord}
 use Rattle.opentelemetry.specs.View.{builder_of}
 use Rattle.otel_sdk.specs.Ended.{AreCollected, NothingLost, of, waiting}
-use Rattle.otel_sdk_base.specs.Export.{items_of}
+use Rattle.otel_sdk_base.specs.Export.{Calls, WasShutDown, items_of}
 use Rattle.otel_sdk.specs.LiveState.{LiveState, no_spans, with_started, with_changed, with_ended}
 use Rattle.otel_sdk.specs.Parents.{HaveParents, StartChildren, given}
 use Rattle.otel_sdk.specs.Processor.{ProcessorState}
-use Rattle.otel_sdk_base.specs.Queue.{IsClosed, IsFlushed, Limits, cause, new as new_processor}
+use Rattle.otel_sdk_base.specs.Queue.{IsClosed, IsExportersAnswer, IsFlushed, Limits, cause}
+use Rattle.otel_sdk_base.specs.Queue.{new as new_processor}
 use Rattle.otel_sdk_span.specs.Span.{SpanState}
 use Rattle.otel_sdk.specs.SpanChange.{change_of}
 use Rattle.otel_sdk_span.specs.SpanData.{SpanRecord}
@@ -121,39 +123,41 @@ module _ {E : Type 0} where
         (of old.processor old.live.spans) (of new.processor new.live.spans)
     pub closed : IsTrue old.processor.is_shut_down → new ≡ old
 
-  -- The first batches of the queue were accepted, in order. If the processor was shut down, nothing
-  -- changed.
-  pub record IsExported (accepted : E → List (List SpanRecord)) (old new : RunState E)
-      : Type 0 where
+  -- The first batches of the queue were accepted, in order, and the answer is the exporter's. If
+  -- the processor was shut down, nothing changed.
+  pub record IsExported (accepted : E → List (List SpanRecord)) (calls : Calls E)
+      (answer : Result (Unit {0}) OTelSdkError) (old new : RunState E) : Type 0 where
     pub flushed : IsFlushed accepted old.processor new.processor
+    pub answered : IsTrue (not old.processor.is_shut_down)
+        → IsExportersAnswer accepted calls answer old.processor new.processor
     pub same : new ≡ record old { processor = new.processor }
     pub closed : IsTrue old.processor.is_shut_down → new ≡ old
 
   -- The whole queue was exported, and the exporter and the processor were shut down.
-  pub record IsShutDown (accepted : E → List (List SpanRecord)) (shuts_down : E → E → Type 0)
-      (old new : RunState E) : Type 0 where
+  pub record IsShutDown (accepted : E → List (List SpanRecord)) (calls : Calls E)
+      (answer : Result (Unit {0}) OTelSdkError) (old new : RunState E) : Type 0 where
     pub was_open : old.processor.is_shut_down ≡ false
-    pub closed : IsClosed accepted shuts_down old.processor new.processor
+    pub closed : IsClosed accepted calls answer old.processor new.processor
     pub same : new ≡ record old { processor = new.processor }
 
   -- A shutdown failed with this error. Either the processor was shut down before, and nothing
   -- changed; or the flush failed, and the processor is open; or the exporter failed, and the
   -- processor is shut down.
-  abbrev pub FailsToClose : (E → List (List SpanRecord)) → (E → E → Type 0) → OTelSdkError
+  abbrev pub FailsToClose : (E → List (List SpanRecord)) → Calls E → OTelSdkError
       → RunState E → RunState E → Type 0
-  FailsToClose accepted shuts_down error old new =
+  FailsToClose accepted calls error old new =
       (IsTrue old.processor.is_shut_down × (error ≡ AlreadyShutdown) × (new ≡ old))
-      ⊎ (((new.processor.is_shut_down ≡ false) × IsExported accepted old new)
-      ⊎ IsShutDown accepted shuts_down old new)
+      ⊎ (((new.processor.is_shut_down ≡ false) × IsExported accepted calls (Err error) old new)
+      ⊎ IsShutDown accepted calls (Err error) old new)
 
   -- The processor was open before. Since then it is unchanged, or it and its exporter were shut
   -- down with an empty queue.
-  abbrev pub WasOpen : (E → E → Type 0) → ProcessorState E → ProcessorState E → Type 0
-  WasOpen shuts_down before processor = (before.is_shut_down ≡ false) × ((processor ≡ before)
-      ⊎ ((before.queue ≡ []) × shuts_down before.exporter processor.exporter
+  abbrev pub WasOpen : Calls E → ProcessorState E → ProcessorState E → Type 0
+  WasOpen calls before processor = (before.is_shut_down ≡ false) × ((processor ≡ before)
+      ⊎ ((before.queue ≡ []) × WasShutDown calls before.exporter processor.exporter
       × (processor ≡ record before { exporter = processor.exporter; is_shut_down = true })))
 
-  module _ (accepted : E → List (List SpanRecord)) (shuts_down : E → E → Type 0)
+  module _ (accepted : E → List (List SpanRecord)) (calls : Calls E)
       (may_start : BuilderRecord → ContextRecord → SpanState → Type 0) where
     -- The event took effect. A collection collected each ended span; a flush or a shutdown exported
     -- each queued span.
@@ -172,8 +176,8 @@ module _ {E : Type 0} where
     Takes (Change number change) old new = new ≡ with_both (with_changed (change_of change) number) old
     Takes (End number time) old new = new ≡ with_both (with_ended number time) old
     Takes Collect old new = IsCollected old new × (new.live.ended ≡ [])
-    Takes Flush old new = IsExported accepted old new × (new.processor.queue ≡ [])
-    Takes Shutdown old new = IsShutDown accepted shuts_down old new
+    Takes Flush old new = IsExported accepted calls (Ok tt) old new × (new.processor.queue ≡ [])
+    Takes Shutdown old new = IsShutDown accepted calls (Ok tt) old new
 
     -- The event failed with this error. A collection or a flush did a first part, a shutdown did a
     -- first part or everything, and any other event did nothing. An end and a detach never fail.
@@ -186,9 +190,9 @@ module _ {E : Type 0} where
     Fails (Change number change) error old new = (error ≡ Memory alloc_error) × (new ≡ old)
     Fails (End number time) error old new = ⊥
     Fails Collect error old new = (error ≡ cause new.processor) × IsCollected old new
-    Fails Flush error old new = IsExported accepted old new
+    Fails Flush error old new = IsExported accepted calls (Err error) old new
         × (IsTrue old.processor.is_shut_down → error ≡ AlreadyShutdown)
-    Fails Shutdown error old new = FailsToClose accepted shuts_down error old new
+    Fails Shutdown error old new = FailsToClose accepted calls error old new
 
     -- no number was left for the span, and nothing changed
     abbrev pub RunsOut : SpanEvent → RunState E → RunState E → Type 0
@@ -255,7 +259,7 @@ module _ {E : Type 0} where
           (state_of history parents live contexts processor)
       -- the processor before its shutdown, if it was shut down
       pub before : ProcessorState E
-      pub was_open : WasOpen shuts_down before processor
+      pub was_open : WasOpen calls before processor
       pub nothing_lost : NothingLost accepted (items_of (accepted exporter))
           (waiting history.spans history.ended) (of before live.spans) live.ended
       -- If the tracer starts only children of their parents, each span has its parent's trace id,

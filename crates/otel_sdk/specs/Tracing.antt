@@ -21,7 +21,7 @@ use Rattle.otel_sdk.specs.declared.trace.live.Entered.{Entered}
 use Rattle.otel_sdk.specs.declared.trace.tracing.Attached.{Attached}
 use Rattle.otel_sdk.specs.declared.trace.tracing.NotEntered.{NotEntered}
 use Rattle.otel_sdk.specs.declared.trace.tracing.NotEntered.TheVariants.{NumbersUsedUp, PositionsUsedUp, Memory}
-use Rattle.otel_sdk_base.specs.Export.{items_of}
+use Rattle.otel_sdk_base.specs.Export.{Calls, items_of}
 use Rattle.otel_sdk_base.specs.Queue.{IsForceFlushed, IsShutDown, cause, one_more}
 use Rattle.otel_sdk_base.specs.declared.error.OTelSdkError.{OTelSdkError}
 use Rattle.otel_sdk_base.specs.declared.error.OTelSdkError.TheVariants as sdk
@@ -269,34 +269,34 @@ module _ {P E : Type 0} where
     pub same : new ≡ record between { processor = new.processor }
 
   -- Each ended span was handed on, in order, all of them if the answer is `Ok` (`Tracing::flush`).
-  pub record Flushes (accepted : E → List (List SpanRecord))
+  pub record Flushes (accepted : E → List (List SpanRecord)) (calls : Calls E)
       (answer : Result (Unit {0}) OTelSdkError) (old new : TracingState P E) : Type 0 where
     pub between : TracingState P E
     pub collects : Collects old between
     pub rest : IsErrAnd answer (λ error. StopsAt error between new)
-        ⊎ GoesOn (IsForceFlushed accepted answer) between new
+        ⊎ GoesOn (IsForceFlushed accepted calls answer) between new
 
   -- Every span that was entered ended and was detached at the clock's moment, each ended span was
   -- handed on, and the processor was shut down (`Tracing::shutdown`).
-  pub record ShutsDown (accepted : E → List (List SpanRecord)) (shuts_down : E → E → Type 0)
+  pub record ShutsDown (accepted : E → List (List SpanRecord)) (calls : Calls E)
       (answer : Result ℕ OTelSdkError) (old new : TracingState P E) : Type 0 where
     pub moment : ℕ
     pub between : TracingState P E
     pub collects : Collects (all_exited moment old) between
     pub rest : IsErrAnd answer (λ error. StopsAt error between new)
-        ⊎ GoesOn (IsShutDown accepted shuts_down (done_of answer)) between new
+        ⊎ GoesOn (IsShutDown accepted calls (done_of answer)) between new
 
   -- Nothing that was entered is lost.
-  pub record LosesNoSpan (accepted : E → List (List SpanRecord)) (shuts_down : E → E → Type 0)
+  pub record LosesNoSpan (accepted : E → List (List SpanRecord)) (calls : Calls E)
       (t : TracingState P E) : Type 0 where
     pub once : EndsOnce t.started t.history t.spans.spans t.entered
-    pub none_lost : LosesNone accepted shuts_down (items_of t.earlier) (sampled_of t.history)
+    pub none_lost : LosesNone accepted calls (items_of t.earlier) (sampled_of t.history)
         t.spans t.processor
 
   -- Every span that was entered has ended, and has arrived or was counted.
-  abbrev pub HasArrived : (E → List (List SpanRecord)) → (E → E → Type 0) → TracingState P E → Type 0
-  HasArrived accepted shuts_down t =
-      AllArrived accepted shuts_down t.started t.history t.earlier t.processor
+  abbrev pub HasArrived : (E → List (List SpanRecord)) → Calls E → TracingState P E → Type 0
+  HasArrived accepted calls t =
+      AllArrived accepted calls t.started t.history t.earlier t.processor
 
   -- Nothing is entered, ended or queued, and the processor is closed.
   pub record IsDone (t : TracingState P E) : Type 0 where

@@ -1,7 +1,11 @@
--- How a queue is exported in batches, and the state of an in-memory exporter.
+-- How a queue is exported in batches, what an exporter says about its calls, and the state of an
+-- in-memory exporter.
 use Rattle.std.specs.Prelude.{◌≡◌, ℕ, zero, suc, ◌*◌, ◌<◌, Bool, List, [], ◌∷◌, ◌++◌, take, drop}
-use Rattle.std.specs.Prelude.{length, refl}
+use Rattle.std.specs.Prelude.{length, refl, Result, Ok, true, if◌then◌else◌, alloc_error}
 use Rattle.std.specs.List.{flat_map}
+use Rattle.otel_sdk_base.specs.Resource.{Parts}
+use Rattle.otel_sdk_base.specs.declared.error.OTelSdkError.{OTelSdkError}
+use Rattle.otel_sdk_base.specs.declared.error.OTelSdkError.TheVariants.{AlreadyShutdown, Memory}
 
 -- the items of the batches, in order
 abbrev pub items_of : {X : Type 0} → List (List X) → List X
@@ -24,12 +28,58 @@ pub record AreExported {X : Type 0} (size : ℕ) (queue : List X) (old new : Lis
   pub accepted : new ≡ old ++ batches size count queue
   pub rest : left ≡ drop (count * size) queue
 
+-- The first batches of a queue were accepted, and then the exporter took this step.
+pub record AreExportedUpTo {X E : Type 0} (accepted : E → List (List X)) (Step : E → E → Type 0)
+    (size : ℕ) (queue left : List X) (old new : E) : Type 0 where
+  -- the exporter before the step
+  pub before : E
+  pub exported : AreExported size queue (accepted old) (accepted before) left
+  pub step : Step before new
+
+-- What an exporter says about its calls. Each relates its states before and after.
+pub record Calls (E : Type 0) : Type 1 where
+  -- it refused a batch with this error
+  pub refuses : E → OTelSdkError → E → Type 0
+  -- it answered this to a flush
+  pub flushes : E → Result (Unit {0}) OTelSdkError → E → Type 0
+  -- it answered this to a shutdown
+  pub shuts_down : E → Result (Unit {0}) OTelSdkError → E → Type 0
+  -- it was told the resource of later items
+  pub takes_resource : E → Parts → E → Type 0
+
+-- any answer to any call
+abbrev pub any_calls : {E : Type 0} → Calls E
+any_calls = record {
+  refuses = λ _ _ _. Unit {0};
+  flushes = λ _ _ _. Unit {0};
+  shuts_down = λ _ _ _. Unit {0};
+  takes_resource = λ _ _ _. Unit {0};
+}
+
+-- it was shut down, with some answer
+abbrev pub WasShutDown : {E : Type 0} → Calls E → E → E → Type 0
+WasShutDown calls before after =
+    (answer : Result (Unit {0}) OTelSdkError) × calls.shuts_down before answer after
+
 -- The state of an exporter that keeps items in memory: the batches that it accepted since it was
 -- last emptied, and whether it was shut down (the Rust crate's `InMemorySpanExporter` and
 -- `InMemoryLogExporter`).
 pub record InMemory (X : Type 0) : Type 0 where
   pub accepted : List (List X)
   pub is_shut_down : Bool
+
+-- It refuses a batch unchanged: with `AlreadyShutdown` if it was shut down, otherwise because
+-- memory ran out. A flush does nothing, and a shutdown drops the items; both succeed. It ignores
+-- resources.
+abbrev pub in_memory_calls : {X : Type 0} → Calls (InMemory X)
+in_memory_calls = record {
+  refuses = λ old error new. (new ≡ old)
+      × (error ≡ (if old.is_shut_down then AlreadyShutdown else Memory alloc_error));
+  flushes = λ old answer new. (answer ≡ Ok tt) × (new ≡ old);
+  shuts_down = λ _ answer new. (answer ≡ Ok tt)
+      × (new ≡ record { accepted = []; is_shut_down = true });
+  takes_resource = λ old _ new. new ≡ old;
+}
 
 -- ---- worked rows
 batches_example : batches {X = ℕ} 2 2 (1 ∷ 2 ∷ 3 ∷ []) ≡ (1 ∷ 2 ∷ []) ∷ (3 ∷ []) ∷ []

@@ -1,8 +1,9 @@
 -- The queue of a processor: its limits, its items, and the effects of its calls.
 use Rattle.std.specs.Prelude.{◌≡◌, ◌⊎◌, ℕ, ◌+◌, ◌-◌, ◌^◌, Bool, true, false, List, [], ◌∷◌, ◌++◌}
-use Rattle.std.specs.Prelude.{length, Result, IsErr, IsErrOf, IsTrue, OnOk, not, nat_lt, min, max}
-use Rattle.std.specs.Prelude.{if◌then◌else◌, alloc_error, refl}
-use Rattle.otel_sdk_base.specs.Export.{AreExported, items_of}
+use Rattle.std.specs.Prelude.{length, Result, Ok, IsErr, IsErrAnd, IsErrOf, IsTrue, OnOk, not}
+use Rattle.std.specs.Prelude.{nat_lt, min, max, if◌then◌else◌, alloc_error, refl}
+use Rattle.otel_sdk_base.specs.Export.{AreExported, AreExportedUpTo, Calls, items_of}
+use Rattle.otel_sdk_base.specs.Resource.{Parts}
 use Rattle.otel_sdk_base.specs.declared.error.OTelSdkError.{OTelSdkError}
 use Rattle.otel_sdk_base.specs.declared.error.OTelSdkError.TheVariants.{AlreadyShutdown, Memory}
 
@@ -108,13 +109,32 @@ module _ {X E : Type 0} where
         (accepted old.exporter) (accepted new.exporter) new.queue
     pub same : new ≡ record old { exporter = new.exporter; queue = new.queue }
 
-  -- The queue was flushed, and is empty; then its exporter was shut down, and it is closed.
-  pub record IsClosed (accepted : E → List (List X)) (shuts_down : E → E → Type 0)
-      (old new : QueueState X E) : Type 0 where
+  -- the first batches of the queue were accepted, and then the exporter took this step
+  abbrev pub IsFlushedUpTo : (E → List (List X)) → (E → E → Type 0)
+      → QueueState X E → QueueState X E → Type 0
+  IsFlushedUpTo accepted Step old new =
+      AreExportedUpTo accepted Step old.config.max_export_batch_size old.queue new.queue
+      old.exporter new.exporter
+
+  -- The answer is the exporter's: the error with which it refused a batch, or, if it accepted all
+  -- of them, what it answered to a flush.
+  abbrev pub IsExportersAnswer : (E → List (List X)) → Calls E → Result (Unit {0}) OTelSdkError
+      → QueueState X E → QueueState X E → Type 0
+  IsExportersAnswer accepted calls answer old new =
+      IsErrAnd answer (λ error.
+      IsFlushedUpTo accepted (λ before after. calls.refuses before error after) old new)
+      ⊎ ((new.queue ≡ [])
+      × IsFlushedUpTo accepted (λ before after. calls.flushes before answer after) old new)
+
+  -- The queue was flushed with its exporter, and is empty; then its exporter was shut down, which
+  -- gave the answer, and it is closed.
+  pub record IsClosed (accepted : E → List (List X)) (calls : Calls E)
+      (answer : Result (Unit {0}) OTelSdkError) (old new : QueueState X E) : Type 0 where
     pub flushed : QueueState X E
     pub is_flushed : IsFlushed accepted old flushed
     pub is_empty : flushed.queue ≡ []
-    pub exporter : shuts_down flushed.exporter new.exporter
+    pub flush : IsExportersAnswer accepted calls (Ok tt) old flushed
+    pub exporter : calls.shuts_down flushed.exporter answer new.exporter
     pub closed : new ≡ record flushed { exporter = new.exporter; is_shut_down = true }
 
   -- a call after a shutdown changes nothing
@@ -123,39 +143,43 @@ module _ {X E : Type 0} where
   IsRefusedIfClosed answer old new =
       IsTrue old.is_shut_down → IsErrOf answer AlreadyShutdown × (new ≡ old)
 
-  -- a shutdown that leaves the queue open failed in the flush
-  abbrev pub FailedIfOpen : (E → List (List X)) → Result (Unit {0}) OTelSdkError
+  -- a shutdown that leaves the queue open failed in the flush, and gives the flush's error
+  abbrev pub FailedIfOpen : (E → List (List X)) → Calls E → Result (Unit {0}) OTelSdkError
       → QueueState X E → QueueState X E → Type 0
-  FailedIfOpen accepted answer old new =
+  FailedIfOpen accepted calls answer old new =
       IsTrue (not new.is_shut_down) → IsErr answer × IsFlushed accepted old new
+      × IsExportersAnswer accepted calls answer old new
 
   -- a shutdown that closes the queue flushed it first
-  abbrev pub FlushedIfClosed : (E → List (List X)) → (E → E → Type 0)
+  abbrev pub FlushedIfClosed : (E → List (List X)) → Calls E → Result (Unit {0}) OTelSdkError
       → QueueState X E → QueueState X E → Type 0
-  FlushedIfClosed accepted shuts_down old new =
-      IsTrue (not old.is_shut_down) → IsTrue new.is_shut_down → IsClosed accepted shuts_down old new
+  FlushedIfClosed accepted calls answer old new = IsTrue (not old.is_shut_down)
+      → IsTrue new.is_shut_down → IsClosed accepted calls answer old new
 
   -- A flush exports the first batches, or all of them if it succeeds. The received items stay the
-  -- same.
-  abbrev pub IsForceFlushed : (E → List (List X)) → Result (Unit {0}) OTelSdkError
+  -- same. The answer of an open queue is its exporter's.
+  abbrev pub IsForceFlushed : (E → List (List X)) → Calls E → Result (Unit {0}) OTelSdkError
       → QueueState X E → QueueState X E → Type 0
-  IsForceFlushed accepted answer old new =
+  IsForceFlushed accepted calls answer old new =
       IsFlushed accepted old new × (received_of accepted new ≡ received_of accepted old)
       × OnOk answer (new.queue ≡ []) × IsRefusedIfClosed answer old new
+      × (IsTrue (not old.is_shut_down) → IsExportersAnswer accepted calls answer old new)
 
   -- A shutdown of an open queue flushes it, and closes it if the flush succeeded.
-  abbrev pub IsShutDown : (E → List (List X)) → (E → E → Type 0) → Result (Unit {0}) OTelSdkError
+  abbrev pub IsShutDown : (E → List (List X)) → Calls E → Result (Unit {0}) OTelSdkError
       → QueueState X E → QueueState X E → Type 0
-  IsShutDown accepted shuts_down answer old new =
-      IsRefusedIfClosed answer old new × FailedIfOpen accepted answer old new
-      × FlushedIfClosed accepted shuts_down old new
+  IsShutDown accepted calls answer old new =
+      IsRefusedIfClosed answer old new × FailedIfOpen accepted calls answer old new
+      × FlushedIfClosed accepted calls answer old new
 
-  -- Only the exporter changes, and the items that it accepted stay the same.
-  abbrev pub OnlyExporterChanges : (E → List (List X)) → QueueState X E → QueueState X E → Type 0
-  OnlyExporterChanges accepted old new =
+  -- Only the exporter changes: it is told the resource. The items that it accepted stay the same.
+  abbrev pub TellsResource : (E → List (List X)) → Calls E → Parts
+      → QueueState X E → QueueState X E → Type 0
+  TellsResource accepted calls resource old new =
       (accepted new.exporter ≡ accepted old.exporter)
       × (new ≡ record old { exporter = new.exporter })
       × (received_of accepted new ≡ received_of accepted old)
+      × calls.takes_resource old.exporter resource new.exporter
 
 -- ---- worked rows
 limits_example : effective (record { max_queue_size = 2; max_export_batch_size = 4 })

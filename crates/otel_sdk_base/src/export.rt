@@ -1,5 +1,6 @@
 //! Exporters, which send ended spans or log records out of the program.
-ghost use Rattle.std.specs.Prelude.{◌≡◌, [], ◌∷◌, ◌++◌, OnOk, OnErr};
+ghost use Rattle.std.specs.Prelude.{◌≡◌, [], ◌∷◌, ◌++◌, IfErr, OnOk, OnErr};
+ghost use Rattle.std.specs.Rc.{rc_value};
 
 use crate::error::OTelSdkResult;
 use crate::resource::Resource;
@@ -9,17 +10,19 @@ use std::rc::Rc;
 /// records (its `LogExporter`).
 ///
 /// A batch is accepted or refused as a whole. The ghost member `accepted` gives the batches that
-/// the exporter has accepted. The ghost member `shuts_down` relates the exporter's states before
-/// and after a shutdown.
+/// the exporter has accepted. The ghost member `calls` says what each other call did: a refusal of
+/// a batch (`refuses`), a flush, a shutdown, and a resource that was set. Each relates the states
+/// before and after, and the error, the answer or the resource.
 ///
 /// If an exporter can never write an item, it must accept the item and count it itself, since a
 /// processor exports a refused batch again.
 pub trait Exporter<T>: Drop {
     ghost use Rattle.std.specs.Prelude.{List};
+    ghost use Rattle.otel_sdk_base.specs.Export.{Calls};
 
     ghost accepted: { Self → List (List T) };
 
-    ghost shuts_down: { Self → Self → Type 0 };
+    ghost calls: { Calls Self };
 
     /// Exports the items of the batch, which isn't empty.
     ///
@@ -28,7 +31,8 @@ pub trait Exporter<T>: Drop {
     /// The whole batch is refused, and may be exported again.
     fn export(&mut self, batch: &[T]) -> OTelSdkResult
         ensures ok { OnOk result (accepted self.new ≡ accepted self.old ++ batch.now ∷ []) }
-        ensures err { OnErr result (accepted self.new ≡ accepted self.old) };
+        ensures err { OnErr result (accepted self.new ≡ accepted self.old) }
+        ensures refused { IfErr result (λ error. calls.refuses self.old error self.new) };
 
     /// Writes out the accepted items that aren't written yet.
     ///
@@ -36,7 +40,8 @@ pub trait Exporter<T>: Drop {
     ///
     /// Some items aren't written. Accepted items stay accepted.
     fn force_flush(&mut self) -> OTelSdkResult
-        ensures { accepted self.new ≡ accepted self.old };
+        ensures same { accepted self.new ≡ accepted self.old }
+        ensures flushed { calls.flushes self.old result self.new };
 
     /// Shuts the exporter down.
     ///
@@ -44,10 +49,10 @@ pub trait Exporter<T>: Drop {
     ///
     /// The exporter's own error. The exporter is shut down anyway.
     fn shutdown(&mut self) -> OTelSdkResult
-        ensures { shuts_down self.old self.new };
+        ensures { calls.shuts_down self.old result self.new };
 
-    /// Sets the resource of later items. Does nothing by default.
-    fn set_resource(&mut self, _resource: Rc<Resource>)
-        ensures { accepted self.new ≡ accepted self.old }
-    {}
+    /// Sets the resource of later items.
+    fn set_resource(&mut self, resource: Rc<Resource>)
+        ensures same { accepted self.new ≡ accepted self.old }
+        ensures told { calls.takes_resource self.old (rc_value resource) self.new };
 }

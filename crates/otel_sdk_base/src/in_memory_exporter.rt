@@ -1,12 +1,15 @@
 //! An exporter that keeps items in memory.
-ghost use Rattle.std.specs.Prelude.{◌≡◌, [], ◌∷◌, ◌++◌, false};
-ghost use Rattle.std.specs.Prelude.{IsOk, IsTrue, OnOk, OnErr, IfOk, IsErrOf};
+ghost use Rattle.std.specs.Prelude.{◌≡◌, [], ◌∷◌, ◌++◌, true, false};
+ghost use Rattle.std.specs.Prelude.{IsOk, IsTrue, IfErr, IfOk, IsErrOf, OnErr, OnOk};
+ghost use Rattle.std.specs.Prelude.{alloc_error, not};
 ghost use Rattle.otel_sdk_base.specs.Export.{items_of};
 
 use crate::error::{OTelSdkError, OTelSdkResult};
 use crate::export::Exporter;
+use crate::resource::Resource;
 use std::alloc::{AllocError, Global};
 use std::marker::Model;
+use std::rc::Rc;
 
 /// A type whose clones equal the original in contracts. Not in the Rust crates.
 pub trait ExactClone: Clone + Drop {
@@ -85,11 +88,11 @@ fn append<T: ExactClone>(copies: &mut Vec<T>, items: &[T]) -> Result<(), AllocEr
 }
 
 impl<T: ExactClone> Exporter<T> for InMemoryExporter<T> {
-    ghost use Rattle.std.specs.Prelude.{◌≡◌, [], true};
+    ghost use Rattle.otel_sdk_base.specs.Export.{in_memory_calls};
 
     ghost accepted = { λ e. e.accepted };
 
-    ghost shuts_down = { λ _ left. left ≡ record { accepted = []; is_shut_down = true } };
+    ghost calls = { in_memory_calls };
 
     /// Keeps a copy of the items.
     ///
@@ -102,6 +105,8 @@ impl<T: ExactClone> Exporter<T> for InMemoryExporter<T> {
         ensures err { OnErr result (self.new ≡ self.old) }
         ensures closed { IsTrue self.old.is_shut_down
             → IsErrOf result OTelSdkError.AlreadyShutdown }
+        ensures memory { IfErr result (λ error. IsTrue (not self.old.is_shut_down)
+            → error ≡ OTelSdkError.Memory alloc_error) }
     {
         if self.is_shut_down {
             return Err(OTelSdkError::AlreadyShutdown);
@@ -128,5 +133,12 @@ impl<T: ExactClone> Exporter<T> for InMemoryExporter<T> {
         self.reset();
         self.is_shut_down = true;
         Ok(())
+    }
+
+    /// Does nothing: the items are kept without a resource.
+    fn set_resource(&mut self, resource: Rc<Resource>)
+        ensures { self.new ≡ self.old }
+    {
+        drop(resource);
     }
 }

@@ -1,5 +1,6 @@
 //! The queue of items that wait for an exporter.
 ghost use Rattle.std.specs.Prelude.{◌≡◌, ◌≤◌, ◌<◌, [], not, length, IfOk, IfErr, IsTrue, OnOk};
+ghost use Rattle.std.specs.Rc.{rc_value};
 
 mod batches;
 pub(crate) mod config;
@@ -31,8 +32,8 @@ pub struct Queue<T, E> {
 
 impl<T: Drop, E: Exporter<T>> Queue<T, E> {
     ghost use Rattle.otel_sdk_base.specs.Queue as spec;
-    ghost use Rattle.otel_sdk_base.specs.Queue.{IsFlushed, IsForceFlushed, IsShutDown};
-    ghost use Rattle.otel_sdk_base.specs.Queue.{OnlyExporterChanges};
+    ghost use Rattle.otel_sdk_base.specs.Queue.{IsFlushed, IsFlushedUpTo, IsForceFlushed};
+    ghost use Rattle.otel_sdk_base.specs.Queue.{IsShutDown, TellsResource};
     ghost use Rattle.otel_sdk_base.specs.QueueView.{capacity, state};
 
     /// Creates an empty queue. Never allocates.
@@ -148,6 +149,9 @@ impl<T: Drop, E: Exporter<T>> Queue<T, E> {
     fn export_all(&mut self) -> OTelSdkResult
         ensures flushed { IsFlushed E.accepted (state self.old) (state self.new) }
         ensures ok { OnOk result ((state self.new).queue ≡ []) }
+        ensures refused { IfErr result (λ error. IsFlushedUpTo E.accepted
+            (λ before after. E.calls.refuses before error after)
+            (state self.old) (state self.new)) }
         ensures capacity { capacity self.new ≡ capacity self.old }
     {
         let size = self.config.max_export_batch_size;
@@ -165,7 +169,7 @@ impl<T: Drop, E: Exporter<T>> Queue<T, E> {
     /// `AlreadyShutdown` after [`Queue::shutdown`]: nothing changes. Otherwise the error of the
     /// first refused batch, or of the exporter's flush. Accepted items have left the queue.
     pub fn force_flush(&mut self) -> OTelSdkResult
-        ensures { IsForceFlushed E.accepted result (state self.old) (state self.new)
+        ensures { IsForceFlushed E.accepted E.calls result (state self.old) (state self.new)
             × (capacity self.new ≡ capacity self.old) }
     {
         if self.is_shut_down {
@@ -182,7 +186,7 @@ impl<T: Drop, E: Exporter<T>> Queue<T, E> {
     /// `AlreadyShutdown` after an earlier call, or the exporter's error. If the flush failed, the
     /// queue stays open for another try.
     pub fn shutdown(&mut self) -> OTelSdkResult
-        ensures { IsShutDown E.accepted E.shuts_down result (state self.old) (state self.new)
+        ensures { IsShutDown E.accepted E.calls result (state self.old) (state self.new)
             × (capacity self.new ≡ capacity self.old) }
     {
         self.force_flush()?;
@@ -193,8 +197,8 @@ impl<T: Drop, E: Exporter<T>> Queue<T, E> {
 
     /// Sets the exporter's resource for later items.
     pub fn set_resource(&mut self, resource: Rc<Resource>)
-        ensures { OnlyExporterChanges E.accepted (state self.old) (state self.new)
-            × (capacity self.new ≡ capacity self.old) }
+        ensures { TellsResource E.accepted E.calls (rc_value resource)
+            (state self.old) (state self.new) × (capacity self.new ≡ capacity self.old) }
     {
         self.exporter.set_resource(resource);
     }

@@ -1,5 +1,8 @@
 -- Contracts' view of an exporter that draws spans. Not in the Rust crates.
-use Rattle.std.specs.Prelude.{◌≡◌, ◌⊎◌, ℕ, Bool, List, [], take, Result, ⊤, IsTrue, IsErrOf}
+use Rattle.std.specs.Prelude.{◌≡◌, ◌⊎◌, ℕ, Bool, true, List, [], take, Option, Result, Err, ⊤}
+use Rattle.std.specs.Prelude.{IsTrue, IsErrOf}
+use Rattle.std.specs.Io.KnownBytes.{Keeps}
+use Rattle.otel_sdk_base.specs.Export.{Calls}
 use Rattle.otel_sdk_base.specs.declared.error.OTelSdkError.{OTelSdkError}
 use Rattle.otel_sdk_base.specs.declared.error.OTelSdkError.TheVariants as error
 use Rattle.otel_sdk_span.specs.SpanData.{SpanRecord}
@@ -20,6 +23,20 @@ pub record RefusesIfShutDown {W : Type 0} (result : Result ⊤ OTelSdkError) (ol
   pub refused : IsTrue old.is_shut_down → IsErrOf result error.AlreadyShutdown
   pub only_then : IsErrOf result error.AlreadyShutdown → IsTrue old.is_shut_down
   pub unchanged : IsTrue old.is_shut_down → new ≡ old
+
+-- What the exporter says about its calls: each returns `AlreadyShutdown` only if it was shut down,
+-- and a flush or a shutdown writes nothing. It ignores resources.
+abbrev pub exporter_calls : {W : Type 0} → (W → Option (List ℕ)) → Calls (Waterfall W)
+exporter_calls contents = record {
+  refuses = λ old error new. RefusesIfShutDown (Err error) old new;
+  flushes = λ old answer new. RefusesIfShutDown answer old new
+      × Keeps (contents old.output) (contents new.output)
+      × (new ≡ record old { output = new.output });
+  shuts_down = λ old answer new. RefusesIfShutDown answer old new
+      × Keeps (contents old.output) (contents new.output)
+      × (new ≡ record old { output = new.output; is_shut_down = true });
+  takes_resource = λ old _ new. new ≡ old;
+}
 
 -- a part of the picture of the batch, from its first byte on, or nothing
 abbrev pub IsPartOfPicture : Bool → ℕ → List SpanRecord → List ℕ → Type 0

@@ -170,14 +170,11 @@ fn flush<W: Write>(alloc: Global, output: &mut W) -> OTelSdkResult
 }
 
 impl<W: Write + Drop> Exporter<SpanData> for WaterfallExporter<W> {
-    ghost use Rattle.std.specs.Prelude.{◌≡◌, true};
+    ghost use Rattle.otel_waterfall.specs.Exporter.{exporter_calls};
 
     ghost accepted = { λ e. e.accepted };
 
-    ghost shuts_down = { λ old left. left ≡ record old {
-      output = left.output;
-      is_shut_down = true;
-    } };
+    ghost calls = { exporter_calls W.contents };
 
     /// Draws the batch, and writes the picture. An empty batch is accepted, and nothing is written.
     ///

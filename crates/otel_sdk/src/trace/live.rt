@@ -1,6 +1,6 @@
 //! The spans of a program until a processor collects them.
 ghost use Rattle.std.specs.Prelude.{◌≡◌, ◌<◌, ◌≤◌, false, [], OnOk, OnErr, IfOk, IfErr, IsErr};
-ghost use Rattle.std.specs.Prelude.{IsErrOf, IsTrue, None, Some, option_copied};
+ghost use Rattle.std.specs.Prelude.{IsErrOf, IsTrue, None, Some, not, option_copied};
 ghost use Rattle.std.specs.Vec.{vec_capacity};
 ghost use Rattle.otel_context.specs.Context.{with_span};
 ghost use Rattle.otel_context.specs.Spans.{get, used_up};
@@ -10,7 +10,8 @@ ghost use Rattle.otel_sdk.specs.SpanChange.{change_of};
 ghost use Rattle.otel_sdk.specs.LiveState.{no_spans, with_started, with_changed, with_ended};
 ghost use Rattle.otel_sdk_base.specs.Queue.{cause};
 ghost use Rattle.otel_sdk_base.specs.declared.error.OTelSdkError.TheVariants.{AlreadyShutdown};
-ghost use Rattle.otel_sdk.specs.Ended.{of, AreCollected, AreHandedOn, LosesNothing, OpenStay};
+ghost use Rattle.otel_sdk.specs.Ended.{of, AreCollected, AreHandedOn, EndsWith, LosesNothing};
+ghost use Rattle.otel_sdk.specs.Ended.{OpenStay};
 ghost use Rattle.otel_sdk.specs.Tracing.{SameSpans, context_with, next_entered};
 
 use crate::trace::change::{SpanChange, change_in, end_in};
@@ -259,8 +260,8 @@ impl LiveSpans {
     /// # Errors
     ///
     /// - `AlreadyShutdown` if the processor was shut down. Nothing changes.
-    /// - Otherwise `Memory` if out of memory, or the error of the first flush that fails. The spans
-    ///   that the processor didn't take stay.
+    /// - Otherwise `Memory` if out of memory, or the exporter's error of the last flush. If it
+    ///   refused a batch, or memory ran out, the spans that the processor didn't take stay.
     pub fn collect_each<E: SpanExporter>(
         &mut self,
         processor: &mut SimpleSpanProcessor<E>,
@@ -272,6 +273,8 @@ impl LiveSpans {
         ensures open_stay { OpenStay self.old.spans self.new.spans }
         ensures ok { OnOk result (self.new.ended ≡ []) }
         ensures exported { OnOk result (processor.new.queue ≡ []) }
+        ensures ends { IsTrue (not processor.old.is_shut_down)
+            → EndsWith E.accepted E.calls self.new.ended result processor.new }
         ensures closed { IsTrue processor.old.is_shut_down → IsErrOf result AlreadyShutdown
             × (self.new ≡ self.old) × (processor.new ≡ processor.old) }
     {

@@ -116,7 +116,7 @@ fn apply<P: Pipeline, E: SpanExporter>(
     processor: &mut BatchSpanProcessor<E>,
     event: SpanEvent,
 ) -> EventOutcome
-    ensures { Applies E.accepted E.shuts_down (P.may_start tracer.now) event result
+    ensures { Applies E.accepted E.calls (P.may_start tracer.now) event result
         live.old stack.old.live processor.old live.new stack.new.live processor.new }
 {
     match event {
@@ -171,7 +171,7 @@ pub fn run<P: Pipeline, E: SpanExporter>(
     config: BatchConfig,
     events: Vec<SpanEvent>,
 ) -> Result<RunReport<E>, AllocError>
-    ensures { IfOk result (λ r. HasRun E.accepted E.shuts_down (P.may_start tracer.now) exporter
+    ensures { IfOk result (λ r. HasRun E.accepted E.calls (P.may_start tracer.now) exporter
         config events.items r.outcomes.items r.live r.stack.live r.processor) }
 {
     let mut outcomes = Vec::with_capacity(alloc, events.len())?;

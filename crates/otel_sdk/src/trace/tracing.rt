@@ -13,6 +13,7 @@ ghost use Rattle.otel_sdk.specs.declared.trace.tracing.NotEntered.TheVariants.{P
 mod builder;
 mod carry;
 mod current;
+mod env;
 mod errors;
 mod export;
 mod journal;
@@ -346,7 +347,7 @@ impl<P: Pipeline, E: SpanExporter> Tracing<P, E> {
 
     /// States that no span which was entered is lost. Does nothing at run time.
     pub fn loses_no_span(&self)
-        ensures { LosesNoSpan E.accepted E.shuts_down self.now }
+        ensures { LosesNoSpan E.accepted E.calls self.now }
     {
         self.journal.is_sound();
     }

@@ -1,6 +1,6 @@
 //! Exports a queue in batches.
-ghost use Rattle.std.specs.Prelude.{◌≡◌, ◌≤◌, ◌<◌, ◌-◌, ◌↔◌, IsOk, length, drop};
-ghost use Rattle.otel_sdk_base.specs.Export.{AreExported};
+ghost use Rattle.std.specs.Prelude.{◌≡◌, ◌≤◌, ◌<◌, ◌-◌, ◌↔◌, IfErr, IsOk, length, drop};
+ghost use Rattle.otel_sdk_base.specs.Export.{AreExported, AreExportedUpTo};
 
 use crate::error::OTelSdkResult;
 use crate::export::Exporter;
@@ -18,6 +18,9 @@ pub(crate) fn export_batches<T, E: Exporter<T>>(
         (E.accepted exporter.old) (E.accepted exporter.new)
         (drop (length items.now - result.0) items.now) }
     ensures outcome { IsOk result.1 ↔ (result.0 ≡ 0) }
+    ensures refused { IfErr result.1 (λ error. AreExportedUpTo E.accepted
+        (λ before after. E.calls.refuses before error after) size items.now
+        (drop (length items.now - result.0) items.now) exporter.old exporter.new) }
 {
     let mut left = items;
     while !left.is_empty() {

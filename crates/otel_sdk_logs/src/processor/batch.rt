@@ -1,5 +1,6 @@
 //! The processor that exports log records in batches.
 ghost use Rattle.std.specs.Prelude.{◌≡◌, ◌≤◌, true, false, not, length, IfOk};
+ghost use Rattle.std.specs.Rc.{rc_value};
 ghost use Rattle.otel_sdk_base.specs.QueueView as queue_view;
 
 use crate::export::{LogData, LogExporter};
@@ -65,7 +66,7 @@ impl<E: LogExporter> BatchLogProcessor<E> {
 impl<E: LogExporter> LogProcessor for BatchLogProcessor<E> {
     ghost use Rattle.std.specs.Prelude.{not};
     ghost use Rattle.otel_sdk_base.specs.Queue.{IsForceFlushed, IsKeptOrDropped, IsShutDown};
-    ghost use Rattle.otel_sdk_base.specs.Queue.{OnlyExporterChanges, received_of, with_dropped};
+    ghost use Rattle.otel_sdk_base.specs.Queue.{TellsResource, received_of, with_dropped};
     ghost use Rattle.otel_sdk_logs.specs.Processor.{after_emit};
     ghost use Rattle.otel_sdk_logs.specs.Batch.{state};
 
@@ -97,13 +98,13 @@ impl<E: LogExporter> LogProcessor for BatchLogProcessor<E> {
     /// `AlreadyShutdown` after [`LogProcessor::shutdown`]: nothing changes. Otherwise the error of
     /// the first refused batch, or of the exporter's flush. Accepted records have left the queue.
     fn force_flush(&mut self) -> OTelSdkResult
-        ensures { IsForceFlushed E.accepted result (state self.old) (state self.new) }
+        ensures { IsForceFlushed E.accepted E.calls result (state self.old) (state self.new) }
     {
         self.queue.force_flush()
     }
 
     fn shutdown(&mut self) -> OTelSdkResult
-        ensures shut_down { IsShutDown E.accepted E.shuts_down result
+        ensures shut_down { IsShutDown E.accepted E.calls result
             (state self.old) (state self.new) }
         ensures open { not (state self.new).is_shut_down ≡ true
             → received_of E.accepted (state self.new) ≡ received_of E.accepted (state self.old) }
@@ -127,7 +128,8 @@ impl<E: LogExporter> LogProcessor for BatchLogProcessor<E> {
 
     /// Sets the exporter's resource for later records.
     fn set_resource(&mut self, resource: Rc<Resource>)
-        ensures { OnlyExporterChanges E.accepted (state self.old) (state self.new) }
+        ensures { TellsResource E.accepted E.calls (rc_value resource)
+            (state self.old) (state self.new) }
     {
         self.queue.set_resource(resource);
     }

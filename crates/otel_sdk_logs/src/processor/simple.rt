@@ -1,8 +1,9 @@
 //! The processor that exports each log record when it is emitted.
 ghost use Rattle.std.specs.Prelude.{◌≡◌, true, false, not, length, IfOk};
+ghost use Rattle.std.specs.Rc.{rc_value};
 ghost use Rattle.otel_sdk_base.specs.Queue as spec;
 ghost use Rattle.otel_sdk_base.specs.Queue.{IsFlushed, IsForceFlushed, IsKeptOrDropped, IsShutDown};
-ghost use Rattle.otel_sdk_base.specs.Queue.{OnlyExporterChanges, received_of, with_dropped};
+ghost use Rattle.otel_sdk_base.specs.Queue.{TellsResource, received_of, with_dropped};
 ghost use Rattle.otel_sdk_logs.specs.Processor.{after_emit};
 ghost use Rattle.otel_sdk_logs.specs.Batch.{simple_state};
 
@@ -86,13 +87,14 @@ impl<E: LogExporter> LogProcessor for SimpleLogProcessor<E> {
     }
 
     fn force_flush(&mut self) -> OTelSdkResult
-        ensures { IsForceFlushed E.accepted result (simple_state self.old) (simple_state self.new) }
+        ensures { IsForceFlushed E.accepted E.calls result
+            (simple_state self.old) (simple_state self.new) }
     {
         self.inner.force_flush()
     }
 
     fn shutdown(&mut self) -> OTelSdkResult
-        ensures shut_down { IsShutDown E.accepted E.shuts_down result
+        ensures shut_down { IsShutDown E.accepted E.calls result
             (simple_state self.old) (simple_state self.new) }
         ensures open { simple_is_open self.new ≡ true
             → received_of E.accepted (simple_state self.new)
@@ -117,7 +119,8 @@ impl<E: LogExporter> LogProcessor for SimpleLogProcessor<E> {
 
     /// Sets the exporter's resource for later records.
     fn set_resource(&mut self, resource: Rc<Resource>)
-        ensures { OnlyExporterChanges E.accepted (simple_state self.old) (simple_state self.new) }
+        ensures { TellsResource E.accepted E.calls (rc_value resource)
+            (simple_state self.old) (simple_state self.new) }
     {
         self.inner.set_resource(resource);
     }

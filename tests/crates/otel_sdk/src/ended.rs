@@ -239,6 +239,20 @@ fn each_ended_span_is_exported_by_itself(rt: HostRuntime) -> Result<(), Fail> {
 }
 
 #[test]
+fn spans_are_exported_though_no_flush_succeeds(rt: HostRuntime) -> Result<(), Fail> {
+    let alloc = rt.alloc();
+    let mut live = three_ended(alloc)?;
+    let mut exporter = Planned::new(alloc, "+++");
+    exporter.fails_to_flush = true;
+    let mut processor = SimpleSpanProcessor::new(alloc, exporter);
+    assert!(rt; live.collect_each(&mut processor).is_err());
+    assert_eq!(rt; processor.exporter().log.as_str(), "[1][2][3]");
+    assert_eq!(rt; (live.ended().len(), live.spans().len()), (0, 0));
+    assert_eq!(rt; processor.queued_spans(), 0);
+    Ok(())
+}
+
+#[test]
 fn an_open_span_is_exported_after_its_end(rt: HostRuntime) -> Result<(), Fail> {
     let alloc = rt.alloc();
     let mut live = three_started(alloc)?;

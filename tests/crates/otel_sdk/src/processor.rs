@@ -1,11 +1,13 @@
 //! The batches that processors hand to an exporter: worked runs.
 use opentelemetry::trace::SpanId;
 use otel_sdk::error::{OTelSdkError, OTelSdkResult};
+use otel_sdk::resource::Resource;
 use otel_sdk::trace::{
     BatchConfigBuilder, BatchSpanProcessor, Exporter, InMemorySpanExporter, SimpleSpanProcessor,
     SpanData, SpanProcessor,
 };
 use std::alloc::{AllocError, Global};
+use std::rc::Rc;
 use std::test::Fail;
 use test_support::span_data;
 
@@ -16,6 +18,7 @@ pub struct Planned {
     kept: InMemorySpanExporter,
     plan: &'static [u8],
     pub log: String,
+    pub fails_to_flush: bool,
     flushes: u8,
 }
 
@@ -25,15 +28,18 @@ impl Planned {
             kept: InMemorySpanExporter::new(alloc),
             plan: plan.as_bytes(),
             log: String::new(alloc),
+            fails_to_flush: false,
             flushes: 0,
         }
     }
 }
 
 impl Exporter<SpanData> for Planned {
+    ghost use Rattle.otel_sdk_base.specs.Export.{any_calls};
+
     ghost accepted = { λ e. e.kept.accepted };
 
-    ghost shuts_down = { λ _ _. Unit {0} };
+    ghost calls = { any_calls };
 
     fn export(&mut self, batch: &[SpanData]) -> OTelSdkResult {
         let mut gap = "[";
@@ -57,12 +63,19 @@ impl Exporter<SpanData> for Planned {
     }
 
     fn force_flush(&mut self) -> OTelSdkResult {
-        self.flushes += 1;
+        self.flushes = self.flushes.saturating_add(1);
+        if self.fails_to_flush {
+            return Err(OTelSdkError::InternalFailure(String::new(*self.log.allocator())));
+        }
         self.kept.force_flush()
     }
 
     fn shutdown(&mut self) -> OTelSdkResult {
         self.kept.shutdown()
+    }
+
+    fn set_resource(&mut self, resource: Rc<Resource>) {
+        drop(resource);
     }
 }
 

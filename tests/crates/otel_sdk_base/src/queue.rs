@@ -2,12 +2,14 @@
 ghost use Rattle.std.specs.Prelude.{◌≡◌, []};
 
 use otel_sdk_base::error::{OTelSdkError, OTelSdkResult};
+use otel_sdk_base::resource::Resource;
 use otel_sdk_base::{
     BatchConfig, BatchConfigBuilder, ExactClone, Exporter, InMemoryExporter, Queue,
 };
 use std::alloc::{AllocError, Global};
 use std::clone::Clone;
 use std::default::Default;
+use std::rc::Rc;
 use std::test::Fail;
 
 /// An item with a number.
@@ -37,9 +39,11 @@ struct Closed {
 }
 
 impl Exporter<u64> for Closed {
+    ghost use Rattle.otel_sdk_base.specs.Export.{any_calls};
+
     ghost accepted = { λ _. [] };
 
-    ghost shuts_down = { λ _ _. Unit {0} };
+    ghost calls = { any_calls };
 
     fn export(&mut self, _batch: &[u64]) -> OTelSdkResult {
         self.refusals = self.refusals.saturating_add(1);
@@ -52,6 +56,10 @@ impl Exporter<u64> for Closed {
 
     fn shutdown(&mut self) -> OTelSdkResult {
         Ok(())
+    }
+
+    fn set_resource(&mut self, resource: Rc<Resource>) {
+        drop(resource);
     }
 }
 

@@ -3,6 +3,7 @@ use opentelemetry::logs::LogRecord;
 use opentelemetry::{InstrumentationScope, StringValue};
 use otel_sdk_base::Exporter;
 use otel_sdk_base::error::{OTelSdkError, OTelSdkResult};
+use otel_sdk_base::resource::Resource;
 use otel_sdk_logs::{
     BatchConfig, BatchConfigBuilder, BatchLogProcessor, LogData, LogProcessor, SdkLogRecord,
     SimpleLogProcessor,
@@ -33,9 +34,11 @@ pub struct Planned {
 }
 
 impl Exporter<LogData> for Planned {
+    ghost use Rattle.otel_sdk_base.specs.Export.{any_calls};
+
     ghost accepted = { λ _. [] };
 
-    ghost shuts_down = { λ _ _. Unit {0} };
+    ghost calls = { any_calls };
 
     fn export(&mut self, batch: &[LogData]) -> OTelSdkResult {
         let mut gap = '[';
@@ -64,6 +67,10 @@ impl Exporter<LogData> for Planned {
 
     fn shutdown(&mut self) -> OTelSdkResult {
         Ok(())
+    }
+
+    fn set_resource(&mut self, resource: Rc<Resource>) {
+        drop(resource);
     }
 }
 
@@ -154,9 +161,11 @@ impl Failing {
 }
 
 impl Exporter<LogData> for Failing {
+    ghost use Rattle.otel_sdk_base.specs.Export.{any_calls};
+
     ghost accepted = { λ _. [] };
 
-    ghost shuts_down = { λ _ _. Unit {0} };
+    ghost calls = { any_calls };
 
     fn export(&mut self, _batch: &[LogData]) -> OTelSdkResult {
         Ok(())
@@ -170,6 +179,10 @@ impl Exporter<LogData> for Failing {
     fn shutdown(&mut self) -> OTelSdkResult {
         self.shutdowns.set(self.shutdowns.get() + 1);
         self.answer(self.fails_to_shut_down.get(), "shutdown")
+    }
+
+    fn set_resource(&mut self, resource: Rc<Resource>) {
+        drop(resource);
     }
 }
 

@@ -1,9 +1,10 @@
 //! A processor that exports spans in batches.
 ghost use Rattle.std.specs.Prelude.{◌≡◌, false, length, Some, IfErr, OnOk, OnErr};
+ghost use Rattle.std.specs.Rc.{rc_value};
 ghost use Rattle.otel_sdk.specs.Processor as spec;
 ghost use Rattle.otel_sdk.specs.Processor.{IsHandedIn};
 ghost use Rattle.otel_sdk_base.specs.Queue as queue_spec;
-ghost use Rattle.otel_sdk_base.specs.Queue.{IsForceFlushed, IsShutDown, OnlyExporterChanges};
+ghost use Rattle.otel_sdk_base.specs.Queue.{IsForceFlushed, IsShutDown, TellsResource};
 ghost use Rattle.otel_sdk_base.specs.Queue.{received_of};
 
 mod ended;
@@ -122,20 +123,20 @@ impl<E: SpanExporter> SpanProcessor for BatchSpanProcessor<E> {
     /// - Otherwise the error of the first rejected batch, or of the exporter's flush. The accepted
     ///   spans are no longer queued.
     fn force_flush(&mut self) -> OTelSdkResult
-        ensures { IsForceFlushed E.accepted result self.old self.new }
+        ensures { IsForceFlushed E.accepted E.calls result self.old self.new }
     {
         self.queue.force_flush()
     }
 
     fn shutdown(&mut self) -> OTelSdkResult
-        ensures { IsShutDown E.accepted E.shuts_down result self.old self.new }
+        ensures { IsShutDown E.accepted E.calls result self.old self.new }
     {
         self.queue.shutdown()
     }
 
     /// Tells the exporter the resource of the following spans.
     fn set_resource(&mut self, resource: Rc<Resource>)
-        ensures { OnlyExporterChanges E.accepted self.old self.new }
+        ensures { TellsResource E.accepted E.calls (rc_value resource) self.old self.new }
     {
         self.queue.set_resource(resource);
     }

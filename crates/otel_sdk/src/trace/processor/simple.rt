@@ -1,10 +1,11 @@
 //! A processor that exports each span when it ends.
-ghost use Rattle.std.specs.Prelude.{◌≡◌, [], false, length, IfErr, OnOk};
+ghost use Rattle.std.specs.Prelude.{◌≡◌, [], false, length, IfErr, Ok, OnOk};
+ghost use Rattle.std.specs.Rc.{rc_value};
 ghost use Rattle.otel_sdk.specs.Processor as spec;
 ghost use Rattle.otel_sdk.specs.Processor.{IsHandedIn, IsHandedInOrReturned, IsFlushedOrReturned};
 ghost use Rattle.otel_sdk_base.specs.Queue as queue_spec;
-ghost use Rattle.otel_sdk_base.specs.Queue.{IsFlushed, IsForceFlushed, IsShutDown};
-ghost use Rattle.otel_sdk_base.specs.Queue.{OnlyExporterChanges, received_of};
+ghost use Rattle.otel_sdk_base.specs.Queue.{IsExportersAnswer, IsFlushed, IsForceFlushed};
+ghost use Rattle.otel_sdk_base.specs.Queue.{IsShutDown, TellsResource, received_of};
 
 mod ended;
 
@@ -96,8 +97,10 @@ impl<E: SpanExporter> SpanProcessor for SimpleSpanProcessor<E> {
     fn on_end(&mut self, span: SpanData) -> Result<(), EndRefused>
         ensures ok { OnOk result (IsFlushed E.accepted (spec.after_end span self.old) self.new
             × (self.new.queue ≡ [])) }
+        ensures flushed { OnOk result (IsExportersAnswer E.accepted E.calls (Ok tt)
+            (spec.after_end span self.old) self.new) }
         ensures open { OnOk result (self.old.is_shut_down ≡ false) }
-        ensures refused { IfErr result (λ refused. IsFlushedOrReturned E.accepted span
+        ensures refused { IfErr result (λ refused. IsFlushedOrReturned E.accepted E.calls span
             self.old self.new refused.span refused.error) }
         ensures handed_in { OnOk result
             (IsHandedIn span (received_of E.accepted self.old) (received_of E.accepted self.new)) }
@@ -112,20 +115,20 @@ impl<E: SpanExporter> SpanProcessor for SimpleSpanProcessor<E> {
     }
 
     fn force_flush(&mut self) -> OTelSdkResult
-        ensures { IsForceFlushed E.accepted result self.old self.new }
+        ensures { IsForceFlushed E.accepted E.calls result self.old self.new }
     {
         self.inner.force_flush()
     }
 
     fn shutdown(&mut self) -> OTelSdkResult
-        ensures { IsShutDown E.accepted E.shuts_down result self.old self.new }
+        ensures { IsShutDown E.accepted E.calls result self.old self.new }
     {
         self.inner.shutdown()
     }
 
     /// Tells the exporter the resource of the following spans.
     fn set_resource(&mut self, resource: Rc<Resource>)
-        ensures { OnlyExporterChanges E.accepted self.old self.new }
+        ensures { TellsResource E.accepted E.calls (rc_value resource) self.old self.new }
     {
         self.inner.set_resource(resource);
     }

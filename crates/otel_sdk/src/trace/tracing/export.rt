@@ -18,7 +18,7 @@ impl<P: Pipeline, E: SpanExporter> Tracing<P, E> {
     /// `AlreadyShutdown` after [`Tracing::shutdown`], `Memory` if out of memory, or the exporter's
     /// error. Each span that the exporter didn't accept is kept, in order, for the next try.
     pub fn flush(&mut self) -> OTelSdkResult
-        ensures flushes { Flushes E.accepted result self.old self.new }
+        ensures flushes { Flushes E.accepted E.calls result self.old self.new }
         ensures exported { OnOk result
             ((self.new.spans.ended ≡ []) × (self.new.processor.queue ≡ [])) }
     {
@@ -36,10 +36,10 @@ impl<P: Pipeline, E: SpanExporter> Tracing<P, E> {
     /// As [`Tracing::flush`]. The open spans have ended, and if the exporter refused spans, it
     /// isn't shut down: try again.
     pub fn shutdown(&mut self) -> Result<usize, OTelSdkError>
-        ensures shuts_down { ShutsDown E.accepted E.shuts_down result self.old self.new }
+        ensures shuts_down { ShutsDown E.accepted E.calls result self.old self.new }
         ensures count { IfOk result (λ count. count ≡ length self.old.entered) }
         ensures done { OnOk result (IsDone self.new) }
-        ensures arrived { OnOk result (HasArrived E.accepted E.shuts_down self.new) }
+        ensures arrived { OnOk result (HasArrived E.accepted E.calls self.new) }
     {
         let open = self.journal.open_spans();
         self.exit_all();

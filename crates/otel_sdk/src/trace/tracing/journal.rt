@@ -64,7 +64,7 @@ impl<E: SpanExporter> Model for Journal<E> {
     ghost invariant = { λ j. record {
       once : EndsOnce (items_of j.started.batches) (items_of j.history.batches)
           j.live.spans (reverse j.entered.items);
-      none_lost : LosesNone E.accepted E.shuts_down
+      none_lost : LosesNone E.accepted E.calls
           (items_of (flat_map E.accepted (items_of j.given.batches)))
           (sampled_of (items_of j.history.batches)) j.live j.processor;
     } };
@@ -88,7 +88,7 @@ impl<E: SpanExporter> Journal<E> {
 
     /// States that nothing which was entered is lost.
     pub fn is_sound(&self)
-        ensures { IsSound E.accepted E.shuts_down self.now }
+        ensures { IsSound E.accepted E.calls self.now }
     {
         let _ = &self.live;
     }
@@ -187,7 +187,7 @@ impl<E: SpanExporter> Journal<E> {
     ///
     /// As [`SpanProcessor::force_flush`].
     pub fn force_flush(&mut self) -> OTelSdkResult
-        ensures flushed { IsForceFlushed E.accepted result
+        ensures flushed { IsForceFlushed E.accepted E.calls result
             self.old.processor self.new.processor }
         ensures same { self.new ≡ record self.old { processor = self.new.processor } }
     {
@@ -200,7 +200,7 @@ impl<E: SpanExporter> Journal<E> {
     ///
     /// As [`SpanProcessor::shutdown`].
     pub fn shutdown(&mut self) -> OTelSdkResult
-        ensures shut_down { IsShutDown E.accepted E.shuts_down result
+        ensures shut_down { IsShutDown E.accepted E.calls result
             self.old.processor self.new.processor }
         ensures same { self.new ≡ record self.old { processor = self.new.processor } }
     {

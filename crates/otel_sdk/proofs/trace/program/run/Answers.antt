@@ -17,7 +17,7 @@ loop-event-init g c = record {
   played = (
     no_spans,
     starting_at 0,
-    plays-none g.E.Exporter.accepted g.E.Exporter.shuts_down (g.P.Pipeline.may_start c.args.tracer.now)
+    plays-none g.E.Exporter.accepted g.E.Exporter.calls (g.P.Pipeline.may_start c.args.tracer.now)
         c.new-live.result c.in_ok-stack.stack.live c.new-processor.result c.args.exporter c.args.config
         c.in_ok-outcomes.outcomes.items c.in_ok-outcomes.ensures.items c.new-live.ensures
         (ap (λ (s : StackState). s.live) c.in_ok-stack.ensures) c.new-processor.ensures,
@@ -36,10 +36,10 @@ loop-event-preserved g c =
       played = (
         after.0,
         after.1,
-        subst (λ (os : List EventOutcome). Plays g.E.Exporter.accepted g.E.Exporter.shuts_down (g.P.Pipeline.may_start c.args.tracer.now)
+        subst (λ (os : List EventOutcome). Plays g.E.Exporter.accepted g.E.Exporter.calls (g.P.Pipeline.may_start c.args.tracer.now)
             (c.loop-event.yielded ++ c.in-Some.event ∷ []) os (at_start c.args.exporter c.args.config)
             (state_of after.0 after.1 c.apply-outcome.new.live c.apply-outcome.new.stack.live c.apply-outcome.new.processor)) (sym c.push_reserved.ensures.items)
-            (plays-push g.E.Exporter.accepted g.E.Exporter.shuts_down [] (g.P.Pipeline.may_start c.args.tracer.now) c.loop-event.yielded
+            (plays-push g.E.Exporter.accepted g.E.Exporter.calls [] (g.P.Pipeline.may_start c.args.tracer.now) c.loop-event.yielded
             c.loop-event.outcomes.items (at_start c.args.exporter c.args.config)
             (state_of before.0 before.1 c.loop-event.live c.loop-event.stack.live c.loop-event.processor)
             (state_of after.0 after.1 c.apply-outcome.new.live c.apply-outcome.new.stack.live c.apply-outcome.new.processor) c.in-Some.event c.apply-outcome.result before.2 after.2),
@@ -60,7 +60,7 @@ returns g c =
     (nil_from_length (into_iter_items c.loop-event.event-iterator) (omega (arith, c.in-None.ensures.steps.0)))
     ∙ append-nil c.loop-event.yielded in
     let before = c.loop-event.invariant.played in
-    subst (λ (es : List SpanEvent). HasRun g.E.Exporter.accepted g.E.Exporter.shuts_down (g.P.Pipeline.may_start c.args.tracer.now) c.args.exporter
+    subst (λ (es : List SpanEvent). HasRun g.E.Exporter.accepted g.E.Exporter.calls (g.P.Pipeline.may_start c.args.tracer.now) c.args.exporter
     c.args.config es c.loop-event.outcomes.items c.loop-event.live c.loop-event.stack.live c.loop-event.processor) (sym all)
-    (has_run g.E.Exporter.accepted g.E.Exporter.shuts_down (g.P.Pipeline.may_start c.args.tracer.now) c.args.exporter c.args.config
+    (has_run g.E.Exporter.accepted g.E.Exporter.calls (g.P.Pipeline.may_start c.args.tracer.now) c.args.exporter c.args.config
     c.loop-event.yielded c.loop-event.outcomes.items before.0 before.1 c.loop-event.live c.loop-event.stack.live c.loop-event.processor before.2)

@@ -9,7 +9,7 @@ use Rattle.otel_sdk.proofs.trace.program.run.Given as goal
 
 abbrev pub invariant-loop-event : goal.invariant-loop-event
 invariant-loop-event g l = record {
-  played : (history : LiveState) × (parents : SpansState ContextRecord) × Plays g.E.Exporter.accepted g.E.Exporter.shuts_down
+  played : (history : LiveState) × (parents : SpansState ContextRecord) × Plays g.E.Exporter.accepted g.E.Exporter.calls
       (g.P.Pipeline.may_start l.tracer) l.yielded l.outcomes.items
       (at_start l.fn.exporter l.fn.config) (state_of history parents l.live l.stack.live l.processor);
   events : l.fn.events.items ≡ l.yielded ++ into_iter_items l.event-iterator;

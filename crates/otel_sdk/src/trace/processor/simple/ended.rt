@@ -1,12 +1,11 @@
 //! Removes ended spans from a table, by number, and exports each.
-ghost use Rattle.std.specs.Prelude.{◌≡◌, ◌≤◌, ◌==◌, false, [], length, take};
-ghost use Rattle.std.specs.Prelude.{IfErr, IsErrOf, IsTrue, OnOk};
+ghost use Rattle.std.specs.Prelude.{◌≡◌, ◌≤◌, ◌==◌, false, not, [], drop, length, take};
+ghost use Rattle.std.specs.Prelude.{IsErrOf, IsTrue, OnOk};
 ghost use Rattle.std.specs.List.{IsDistinct};
 ghost use Rattle.std.specs.Vec.{vec_capacity};
 ghost use Rattle.otel_sdk.specs.Ended as spec;
-ghost use Rattle.otel_sdk.specs.Ended.{AreHandedOn, AreListed, EachIsHandedOn, IsHandedOn};
-ghost use Rattle.otel_sdk.specs.Ended.{IsRefusedOrHandedOn};
-ghost use Rattle.otel_sdk.specs.Ended.{LosesNothing};
+ghost use Rattle.otel_sdk.specs.Ended.{AreHandedOn, AreListed, EachIsHandedOn, EndsWith};
+ghost use Rattle.otel_sdk.specs.Ended.{IsHandedOn, IsRefusedOrHandedOn, LosesNothing};
 ghost use Rattle.otel_sdk_base.specs.declared.error.OTelSdkError.TheVariants.{AlreadyShutdown};
 
 use super::SimpleSpanProcessor;
@@ -17,7 +16,8 @@ use otel_sdk_base::error::{OTelSdkError, OTelSdkResult};
 use otel_sdk_span::{SdkSpan, SpanExporter};
 
 /// Flushes the processor, and then collects the spans with these numbers in order, with a flush
-/// after each, until a span is rejected or a flush fails. Returns the number of collected spans.
+/// after each, until a span is rejected or a flush leaves spans queued. Returns the number of
+/// collected spans, and the answer of the last flush unless a span was rejected.
 fn export_each<E: SpanExporter>(
     processor: &mut BatchSpanProcessor<E>,
     spans: &mut Spans<SdkSpan>,
@@ -28,10 +28,13 @@ fn export_each<E: SpanExporter>(
         (spec.of processor.old spans.old) (spec.of processor.new spans.new) }
     ensures ok { OnOk result.1 (result.0 ≡ length numbers.now) }
     ensures exported { OnOk result.1 (processor.new.queue ≡ []) }
+    ensures ends { IsTrue (not processor.old.is_shut_down) → EndsWith E.accepted E.calls
+        (drop result.0 numbers.now) result.1 processor.new }
 {
     for (taken, number) in numbers.iter().enumerate() {
-        if let Err(error) = processor.force_flush() {
-            return (taken, Err(error));
+        let outcome = processor.force_flush();
+        if processor.queued_spans() > 0 {
+            return (taken, outcome);
         }
         if let Err(error) = processor.on_end_of(spans, *number) {
             return (taken, Err(error));
@@ -56,8 +59,8 @@ impl<E: SpanExporter> SimpleSpanProcessor<E> {
             (spec.of self.old spans.old) (spec.of self.new spans.new)) }
         ensures exported { OnOk result (self.new.queue ≡ []) }
         ensures open { OnOk result (self.old.is_shut_down ≡ false) }
-        ensures refused { IfErr result (λ error. IsRefusedOrHandedOn E.accepted number
-            (spec.of self.old spans.old) (spec.of self.new spans.new) error) }
+        ensures refused { IsRefusedOrHandedOn E.accepted E.calls number result
+            (spec.of self.old spans.old) (spec.of self.new spans.new) }
     {
         self.inner.on_end_of(spans, number)?;
         self.inner.force_flush()
@@ -69,8 +72,9 @@ impl<E: SpanExporter> SimpleSpanProcessor<E> {
     /// # Errors
     ///
     /// - `AlreadyShutdown` after [`SpanProcessor::shutdown`]. Nothing changes.
-    /// - Otherwise `Memory` if out of memory, or the error of the first flush that fails. The spans
-    ///   that weren't collected stay in the table, and their numbers in the list.
+    /// - Otherwise `Memory` if out of memory, or the exporter's error of the last flush. If memory
+    ///   ran out, or the exporter refused a batch, the spans that weren't collected stay in the
+    ///   table, and their numbers in the list.
     pub(crate) fn collect_each(
         &mut self,
         spans: &mut Spans<SdkSpan>,
@@ -85,6 +89,8 @@ impl<E: SpanExporter> SimpleSpanProcessor<E> {
             → AreListed spans.new ended.new.items }
         ensures ok { OnOk result (ended.new.items ≡ []) }
         ensures exported { OnOk result (self.new.queue ≡ []) }
+        ensures ends { IsTrue (not self.old.is_shut_down)
+            → EndsWith E.accepted E.calls ended.new.items result self.new }
         ensures closed { IsTrue self.old.is_shut_down → IsErrOf result AlreadyShutdown
             × (ended.new.items ≡ ended.old.items)
             × (spans.new ≡ spans.old) × (self.new ≡ self.old) }

@@ -1,4 +1,4 @@
-use Rattle.std.proofs.Common.{◌∙◌, ◌++◌, ap, List, rules}
+use Rattle.std.proofs.Common.{◌∙◌, ◌++◌, ap, inl, inr, List, rules}
 use Rattle.otel_sdk_base.specs.Export.{items_of}
 use Rattle.otel_sdk_base.specs.Queue.{Received}
 use Rattle.otel_sdk_base.specs.QueueView.{state}
@@ -12,6 +12,7 @@ returns-in_err-export_all g c = (
     keeps g.E.Exporter.accepted (state c.args.self.now) (state c.export_all.new.self) c.export_all.ensures.flushed,
     search rules,
     search rules,
+    λ _. inl (search rules),
   ),
   c.export_all.ensures.capacity,
 )
@@ -24,10 +25,18 @@ returns g c =
     } in (
       (
         search rules,
-        ap of c.force_flush.ensures
+        ap of c.force_flush.ensures.same
             ∙ keeps g.E.Exporter.accepted (state c.args.self.now) (state c.export_all.new.self) c.export_all.ensures.flushed,
         search rules,
         search rules,
+        λ _. inr (
+          c.in_ok-export_all.ensures.ok,
+          record {
+            before = c.export_all.new.self.exporter;
+            exported = c.export_all.ensures.flushed.exported;
+            step = c.force_flush.ensures.flushed;
+          },
+        ),
       ),
       search rules,
     )

@@ -7,10 +7,11 @@ returns g c = (
   (
     search rules,
     search rules,
-    λ _ _. record {
+    λ was_open _. record {
       flushed = state c.force_flush.new.self;
       is_flushed = c.in_ok-force_flush.ensures.0.0;
       is_empty = c.in_ok-force_flush.ensures.0.2;
+      flush = c.in_ok-force_flush.ensures.0.4 was_open;
       exporter = c.shutdown-outcome.ensures;
       closed = refl;
     },

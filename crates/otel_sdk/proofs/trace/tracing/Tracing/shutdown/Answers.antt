@@ -22,7 +22,7 @@ returns-in_err-shutdown-clause-shuts_down g c = record {
   collects = subst (λ (t : TracingState g.row.P.Denot g.row.E.Denot). Collects t c.collect.new.self) c.exit_all.ensures.1 c.collect.ensures.collected;
   rest = inr (record {
     collected = search rules;
-    step = subst (λ (r : Result (Unit {0}) OTelSdkError). IsShutDown g.E.Exporter.accepted g.E.Exporter.shuts_down r c.collect.new.self.processor
+    step = subst (λ (r : Result (Unit {0}) OTelSdkError). IsShutDown g.E.Exporter.accepted g.E.Exporter.calls r c.collect.new.self.processor
         c.shutdown.new.self.processor) {x = c.shutdown.result} (search rules) (rw (sym c.self-2.view_is) c.shutdown.ensures.shut_down);
     same = processed-state _ c.self-2.inside.stack.live c.self-2.inside.journal c.shutdown.new.self c.self-2.inside.moments
         c.self-2.inside.unrecorded _ c.self-2.view_is c.shutdown.ensures.same;
@@ -36,7 +36,7 @@ returns-clause-shuts_down g c = record {
   collects = subst (λ (t : TracingState g.row.P.Denot g.row.E.Denot). Collects t c.collect.new.self) c.exit_all.ensures.1 c.collect.ensures.collected;
   rest = inr (record {
     collected = search rules;
-    step = subst (λ (r : Result (Unit {0}) OTelSdkError). IsShutDown g.E.Exporter.accepted g.E.Exporter.shuts_down r c.collect.new.self.processor
+    step = subst (λ (r : Result (Unit {0}) OTelSdkError). IsShutDown g.E.Exporter.accepted g.E.Exporter.calls r c.collect.new.self.processor
         c.shutdown.new.self.processor) {x = c.shutdown.result} (search rules) (rw (sym c.self-2.view_is) c.shutdown.ensures.shut_down);
     same = processed-state _ c.self-2.inside.stack.live c.self-2.inside.journal c.shutdown.new.self c.self-2.inside.moments
         c.self-2.inside.unrecorded _ c.self-2.view_is c.shutdown.ensures.same;
@@ -45,8 +45,8 @@ returns-clause-shuts_down g c = record {
 
 pub returns-clause-done : goal.returns-clause-done
 returns-clause-done g c =
-    let ok = shut_down-ok g.E.Exporter.accepted g.E.Exporter.shuts_down c.self-2.inside.journal.processor c.shutdown.new.self.processor
-    (subst (λ (r : Result (Unit {0}) OTelSdkError). IsShutDown g.E.Exporter.accepted g.E.Exporter.shuts_down r
+    let ok = shut_down-ok g.E.Exporter.accepted g.E.Exporter.calls c.self-2.inside.journal.processor c.shutdown.new.self.processor
+    (subst (λ (r : Result (Unit {0}) OTelSdkError). IsShutDown g.E.Exporter.accepted g.E.Exporter.calls r
     c.self-2.inside.journal.processor c.shutdown.new.self.processor) {x = c.shutdown.result} (search rules) c.shutdown.ensures.shut_down) in
     record {
       entered = ap (λ (j : JournalState g.row.E.Denot). j.entered) c.shutdown.ensures.same
@@ -63,6 +63,6 @@ returns-clause-done g c =
 pub returns-clause-arrived : goal.returns-clause-arrived
 returns-clause-arrived g c =
     let done = returns-clause-done g c in
-    all-arrived g.E.Exporter.accepted g.E.Exporter.shuts_down c.shutdown.new.self.started c.shutdown.new.self.history
+    all-arrived g.E.Exporter.accepted g.E.Exporter.calls c.shutdown.new.self.started c.shutdown.new.self.history
     c.shutdown.new.self.earlier c.shutdown.new.self.spans c.shutdown.new.self.entered c.shutdown.new.self.processor
     c.is_sound.ensures.once c.is_sound.ensures.none_lost done.entered done.ended done.closed

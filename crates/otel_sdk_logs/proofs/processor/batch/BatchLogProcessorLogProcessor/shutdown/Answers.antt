@@ -4,5 +4,5 @@ use Rattle.otel_sdk_logs.proofs.processor.batch.BatchLogProcessorLogProcessor.sh
 
 pub returns-clause-open : goal.returns-clause-open
 returns-clause-open g c =
-    keeps_if_open g.E.Exporter.accepted c.shutdown.result (queue_view.state c.args.self.now.queue)
+    keeps_if_open g.E.Exporter.accepted g.E.Exporter.calls c.shutdown.result (queue_view.state c.args.self.now.queue)
     (queue_view.state c.shutdown.new.self) c.shutdown.ensures.0.1

@@ -6,7 +6,7 @@ pub invariant_of-self : goal.invariant_of-self
 invariant_of-self g c = record {
   once = collect-once _ _ c.self.inside.live c.collect.new.self _ c.self.inside.processor c.collect.new.processor
       c.collect.ensures.collected c.self.invariant.once;
-  none_lost = lost-collected g.E.Exporter.accepted g.E.Exporter.shuts_down _ _ c.self.inside.live c.collect.new.self
+  none_lost = lost-collected g.E.Exporter.accepted g.E.Exporter.calls _ _ c.self.inside.live c.collect.new.self
       c.self.inside.processor c.collect.new.processor c.ended.ensures.listed c.collect.ensures.collected c.collect.ensures.closed
       c.self.invariant.none_lost;
 }

@@ -20,7 +20,7 @@ pub invariant_of-self-in-Some : goal.invariant_of-self-in-Some
 invariant_of-self-in-Some g c = record {
   once = end-once _ (items_of c.self.inside.history.batches) _ c.self.inside.live c.end.new.self c.self.inside.entered.items
       c.pop.new.self.items c.in_ok-innermost.innermost c.args.moment (search rules) c.end.ensures (more g c) c.self.invariant.once;
-  none_lost = end-lost g.E.Exporter.accepted g.E.Exporter.shuts_down _ (items_of c.self.inside.history.batches) _ c.self.inside.live
+  none_lost = end-lost g.E.Exporter.accepted g.E.Exporter.calls _ (items_of c.self.inside.history.batches) _ c.self.inside.live
       c.end.new.self c.self.inside.processor _ c.self.inside.entered.items c.pop.new.self.items c.in_ok-innermost.innermost
       c.args.moment c.ended.ensures.listed c.self.invariant.once.running (search rules) c.end.ensures (more g c)
       c.self.invariant.none_lost;
@@ -39,7 +39,7 @@ pub invariant_of-self-in_default : goal.invariant_of-self-in_default
 invariant_of-self-in_default g c = record {
   once = end-once _ (items_of c.self.inside.history.batches) _ c.self.inside.live c.end.new.self c.self.inside.entered.items
       c.pop.new.self.items c.in_ok-innermost.innermost c.args.moment (search rules) c.end.ensures (none_more g c) c.self.invariant.once;
-  none_lost = end-lost g.E.Exporter.accepted g.E.Exporter.shuts_down _ (items_of c.self.inside.history.batches) _ c.self.inside.live
+  none_lost = end-lost g.E.Exporter.accepted g.E.Exporter.calls _ (items_of c.self.inside.history.batches) _ c.self.inside.live
       c.end.new.self c.self.inside.processor _ c.self.inside.entered.items c.pop.new.self.items c.in_ok-innermost.innermost
       c.args.moment c.ended.ensures.listed c.self.invariant.once.running (search rules) c.end.ensures (none_more g c)
       c.self.invariant.none_lost;

@@ -4,6 +4,6 @@ use Rattle.otel_sdk.proofs.trace.tracing.journal.Journal.force_flush.Goals as go
 pub invariant_of-self : goal.invariant_of-self
 invariant_of-self g c = record {
   once = c.self.invariant.once;
-  none_lost = lost-flushed g.E.Exporter.accepted g.E.Exporter.shuts_down _ _ c.self.inside.live c.self.inside.processor
+  none_lost = lost-flushed g.E.Exporter.accepted g.E.Exporter.calls _ _ c.self.inside.live c.self.inside.processor
       c.force_flush.new.self c.force_flush.ensures.0 (λ t. (c.force_flush.ensures.3 t).1) c.self.invariant.none_lost;
 }

@@ -5,7 +5,7 @@ use Rattle.otel_sdk.proofs.trace.tracing.journal.Journal.shutdown.Goals as goal
 pub invariant_of-self : goal.invariant_of-self
 invariant_of-self g c = record {
   once = c.self.invariant.once;
-  none_lost = lost-shut g.E.Exporter.accepted g.E.Exporter.shuts_down _ _ c.self.inside.live c.self.inside.processor
+  none_lost = lost-shut g.E.Exporter.accepted g.E.Exporter.calls _ _ c.self.inside.live c.self.inside.processor
       c.shutdown.new.self c.shutdown.result c.shutdown.ensures c.self.invariant.none_lost;
 }
 
