@@ -1,6 +1,7 @@
 //! Telemetry as JSON, in the form of the OpenTelemetry protocol (OTLP).
 #![tactic(auto)]
 
+mod append_file;
 mod common;
 mod exporter;
 mod groups;
@@ -12,6 +13,7 @@ mod traces;
 mod trees;
 mod written;
 
+pub use append_file::AppendFile;
 pub use exporter::{OtlpJsonExporter, OtlpJsonLogExporter, OtlpJsonSpanExporter};
 pub use logs::{logs_data, logs_text};
 pub use traces::{traces_data, traces_text};

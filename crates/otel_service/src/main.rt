@@ -5,44 +5,15 @@ mod service;
 
 use anyhow::Result;
 use clap::{ArgMatches, Command, arg};
-use otel_otlp::OtlpJsonSpanExporter;
+use otel_otlp::{AppendFile, OtlpJsonSpanExporter};
 use otel_sdk::resource::Resource;
 use otel_sdk::trace::{BatchConfigBuilder, CountedClock, SpanExporter, SystemClock, Tracing};
 use otel_waterfall::WaterfallExporter;
 use service::{NAME, Service};
-use std::io::{self, Write};
 use std::process::ExitCode;
 
 /// The time from one reading of a counted clock to the next: a millisecond, in nanoseconds.
 const STEP: u64 = 1_000_000;
-
-/// A file that is opened for each write, so that it may be moved away or made meanwhile. The first
-/// failure is told on standard error.
-#[derive(Drop)]
-struct SpanFile {
-    rt: HostRuntime,
-    path: String,
-    is_told: bool,
-}
-
-impl Write for SpanFile {
-    /// Appends the bytes by one write.
-    fn write(&mut self, bytes: &[u8]) -> io::Result<usize> {
-        let mut options = std::fs::OpenOptions::new();
-        options.append(true).create(true);
-        let file = options.open(&self.rt, self.path.as_str());
-        let written = file.and_then(|mut file| file.write(bytes));
-        if let (Err(error), false) = (&written, self.is_told) {
-            self.is_told = true;
-            eprintln!(self.rt; "{}: {error}; its spans wait for another try", self.path)?;
-        }
-        written
-    }
-
-    fn flush(&mut self) -> io::Result<()> {
-        Ok(())
-    }
-}
 
 /// Answers the requests, and hands their spans to the exporter.
 fn run<E: SpanExporter>(rt: HostRuntime, matches: &ArgMatches<'_>, exporter: E) -> Result<()> {
@@ -78,9 +49,8 @@ fn main(rt: HostRuntime) -> Result<ExitCode> {
     if matches.get_flag("waterfall") {
         run(rt, &matches, WaterfallExporter::new(alloc, rt.stderr()))?;
     } else {
-        let path = String::from_str(alloc, matches.get_str("FILE").unwrap_or("/dev/null"))?;
-        let is_told = false;
-        let file = SpanFile { rt, path, is_told };
+        let path = matches.get_str("FILE").unwrap_or("/dev/null");
+        let file = AppendFile::new(rt, String::from_str(alloc, path)?);
         run(rt, &matches, OtlpJsonSpanExporter::new(alloc, file)?)?;
     }
     Ok(ExitCode::SUCCESS)

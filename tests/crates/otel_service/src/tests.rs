@@ -36,11 +36,12 @@ fn answered(rt: HostRuntime, given: &[u8], fails: bool) -> anyhow::Result<Outcom
         .counted(1)
         .build(alloc, "test")?;
     let mut service = Service {
-        alloc,
+        rt,
         tracing,
         propagator: W3cPropagator::new(alloc)?,
         log: OpenTelemetryLogBridge::new(alloc, loggers.logger(alloc, StringValue::from("test"))?),
         requests: 0,
+        is_told: false,
     };
     let mut lines = Vec::new(alloc);
     service.answer_lines(given, &mut lines)?;
