@@ -1,9 +1,9 @@
 //! Lists of attributes under limits.
 use crate::lines::Lines;
 use crate::sdk::attribute;
-use opentelemetry::{Key, KeyValue, Value};
+use opentelemetry::{Key, KeyValue, StringValue, Value};
 use otel_sdk_base::attributes::{limited, put, put_all, set};
-use otel_sdk_base::cutting::cut;
+use otel_sdk_base::cutting::{cut, cut_text};
 use std::alloc::{AllocError, Global};
 
 pub fn play<R: Print>(alloc: Global, lines: &Lines<'_, R>) {
@@ -25,6 +25,10 @@ pub fn play<R: Print>(alloc: Global, lines: &Lines<'_, R>) {
     }
     if lines.begin("attributes-cut") {
         lines.end(short(alloc, lines));
+    }
+    if lines.begin("attributes-cut-text") {
+        let answer = cut_text(alloc, 2, StringValue::from("value"));
+        lines.answer_named("cut", answer.map(|_| ()));
     }
 }
 
