@@ -1,12 +1,12 @@
 //! HTTP headers as a carrier to which texts are written.
-ghost use Rattle.std.specs.Prelude.{◌≡◌, ◌+◌, IsTrue, IsErr, IfOk, OnOk, OnErr, Some, string_bytes};
-ghost use Rattle.std.specs.Prelude.{if◌then◌else◌};
+ghost use Rattle.std.specs.Prelude.{◌≡◌, ◌+◌, ◌<◌, ◌^◌, IsTrue, IsErr, IfOk, OnOk, OnErr, Some};
+ghost use Rattle.std.specs.Prelude.{if◌then◌else◌, string_bytes};
 ghost use Rattle.http_header.specs.FieldName.{IsFieldName};
 ghost use Rattle.http_header.specs.FieldValue.{plain_value, IsVisibleAscii};
 ghost use Rattle.http_header.specs.HeaderMap.{insert, RefusesInsert};
-ghost use Rattle.opentelemetry.specs.Carrier.{lower};
+ghost use Rattle.opentelemetry.specs.Carrier.{SetsValue, lower};
 ghost use Rattle.opentelemetry.specs.Refusal.{is_refused};
-ghost use Rattle.otel_http.specs.Headers.{Refuses, text as text_of_value};
+ghost use Rattle.otel_http.specs.Headers.{Refuses, texts, text as text_of_value};
 ghost use Rattle.otel_http.specs.Injector.{carrier, state};
 
 use crate::value::read;
@@ -15,6 +15,7 @@ use http_header::{
 };
 use opentelemetry::propagation::{Injector, PropagationError};
 use std::alloc::{AllocError, Global};
+use std::fmt;
 
 /// Headers to which texts are written (the Rust crate's `HeaderInjector` of `opentelemetry-http`).
 ///
@@ -118,9 +119,10 @@ impl HeaderInjector {
         headers
     }
 
-    /// Counts a refusal. Returns the error.
+    /// Counts a refusal. Returns the error, or `Memory` if the count is at its maximum.
     fn refuse(&mut self) -> Result<(), PropagationError>
         ensures err { IsErr result }
+        ensures refused { self.old.refusals + 1 < 2 ^ 64 → IsTrue (is_refused result) }
         ensures headers { self.new.headers ≡ self.old.headers }
         ensures count { self.new.refusals
             ≡ self.old.refusals + (if is_refused result then 1 else 0) }
@@ -135,12 +137,43 @@ impl HeaderInjector {
     }
 }
 
+impl fmt::Display for HeaderInjector {
+    /// Writes a line `name: value` for each header. Fails if a value isn't visible ASCII text.
+    fn fmt<W: fmt::Write>(&self, f: &mut fmt::Formatter<W>) -> fmt::Result {
+        for (name, value) in &self.headers {
+            let text = value.to_str().map_err(|_| fmt::Error)?;
+            writeln!(f, "{name}: {text}")?;
+        }
+        Ok(())
+    }
+}
+
 impl Injector for HeaderInjector {
     ghost use Rattle.otel_http.specs.Injector.{state as carrier_state};
 
     ghost state = { λ i. carrier_state i };
 
-    fn set(&mut self, key: &str, value: String) -> Result<(), PropagationError> {
+    /// Replaces all values of the key, in lower case, with this one.
+    ///
+    /// # Errors
+    ///
+    /// - `Refused` if the key isn't a field name, if the value isn't readable, or if the headers are
+    ///   full. The injector counts it.
+    /// - `Memory` if out of memory.
+    ///
+    /// In both cases, the headers are unchanged.
+    fn set(&mut self, key: &str, value: String) -> Result<(), PropagationError>
+        ensures ok { OnOk result (SetsValue (texts self.old.headers) key.now (string_bytes value)
+            (texts self.new.headers)) }
+        ensures headers { OnOk result (self.new.headers
+            ≡ insert self.old.headers (lower key.now) (plain_value (string_bytes value))) }
+        ensures err { OnErr result (self.new.headers ≡ self.old.headers) }
+        ensures refused { IsTrue (is_refused result)
+            → Refuses self.old.headers key.now (string_bytes value) }
+        ensures refuses { Refuses self.old.headers key.now (string_bytes value) → IsErr result }
+        ensures count { self.new.refusals
+            ≡ self.old.refusals + (if is_refused result then 1 else 0) }
+    {
         match put(&mut self.headers, key, value) {
             Ok(()) => Ok(()),
             Err(PropagationError::Refused) => self.refuse(),
