@@ -92,9 +92,11 @@ pub record LoggerParts : Type 0 where
   pub scope : Scope
   pub limits : LogRecordLimits
 
--- The entry is made from the record and the scope with some time that the clock may show.
-abbrev pub IsEmitted : LogState → Scope → LogEntry → Type 0
-IsEmitted log scope entry = (now : ℕ) × (entry ≡ record { log = observed now log; scope = scope })
+-- The entry is made from the record and the scope. A record without an observed time gets one that
+-- the clock showed.
+abbrev pub IsEmitted : (ℕ → Type 0) → LogState → Scope → LogEntry → Type 0
+IsEmitted may_show log scope entry = (now : ℕ) × (log.observed_timestamp ≡ None → may_show now)
+    × (entry ≡ record { log = observed now log; scope = scope })
 
 -- `emitted` is the record with the ids and flags of the span context, if that is valid and the
 -- record has no span yet, otherwise the record itself (the Rust crate's `SdkLogger::emit`)

@@ -46,9 +46,10 @@ impl Clone for LogData {
     ///
     /// `AllocError` if out of memory.
     fn clone(&self) -> Result<LogData, AllocError> {
+        let instrumentation_scope = self.instrumentation_scope.clone()?;
         Ok(LogData {
             record: self.record.clone()?,
-            instrumentation_scope: self.instrumentation_scope.clone()?,
+            instrumentation_scope,
         })
     }
 }

@@ -18,7 +18,7 @@ pub use export::{LogData, LogExporter};
 pub use in_memory_exporter::{EmittedLogs, InMemoryLogExporter};
 pub use intake::RecordIntake;
 pub use limits::LogRecordLimits;
-pub use logger::SdkLogger;
+pub use logger::{SdkLogger, SimpleLogger};
 pub use otel_sdk_base::{BatchConfig, BatchConfigBuilder};
 pub use processor::LogProcessor;
 pub use processor::batch::BatchLogProcessor;

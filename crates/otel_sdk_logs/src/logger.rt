@@ -1,5 +1,5 @@
 //! The logger of the SDK.
-ghost use Rattle.std.specs.Prelude.{◌≡◌, true, false, IfOk, IsTrue, option_map};
+ghost use Rattle.std.specs.Prelude.{◌≡◌, ◌⊎◌, true, false, IfOk, IsTrue, None, option_map};
 ghost use Rattle.std.specs.Option.{unwrap_or};
 ghost use Rattle.otel_context.specs.Context.{is_telemetry_suppressed, span_context};
 ghost use Rattle.otel_sdk_logs.specs.LogRecord.{LogState, IsEmitted, IsInSpan};
@@ -8,11 +8,12 @@ ghost use Rattle.otel_sdk_logs.specs.Processor.{IsHandedOver};
 use crate::export::LogData;
 use crate::intake::RecordIntake;
 use crate::processor::LogProcessor;
+use crate::processor::simple::SimpleLogProcessor;
 use crate::provider::LoggerProviderInner;
 use crate::record::SdkLogRecord;
 use opentelemetry::logs::{LogRecord, Logger, Severity};
 use opentelemetry::{Context, InstrumentationScope};
-use otel_sdk_base::Clock;
+use otel_sdk_base::{Clock, SystemClock};
 use std::alloc::{AllocError, Global};
 use std::marker::Model;
 use std::rc::Rc;
@@ -28,6 +29,9 @@ pub struct SdkLogger<P, C> {
     pub(crate) scope: Rc<InstrumentationScope>,
 }
 
+/// A logger whose records go to the exporter one by one, with the time of the system.
+pub type SimpleLogger<E, R> = SdkLogger<SimpleLogProcessor<E>, SystemClock<R>>;
+
 impl<P, C> Model for SdkLogger<P, C> {
     ghost use Rattle.std.specs.Rc.{rc_value};
     ghost use Rattle.otel_sdk_logs.specs.LogRecord.{LoggerParts};
@@ -38,35 +42,6 @@ impl<P, C> Model for SdkLogger<P, C> {
       scope = rc_value l.scope;
       limits = (rc_value l.provider).limits;
     } };
-}
-
-impl<P, C: Clock> SdkLogger<P, C> {
-    /// Returns the given time, or the clock's time if none is given.
-    fn observed_time(&self, given: Option<u64>) -> u64
-        ensures { result ≡ unwrap_or given result }
-    {
-        match given {
-            Some(observed_time) => observed_time,
-            None => self.provider.clock.now(),
-        }
-    }
-
-    /// Returns the record with the logger's scope. Sets the observed time to now, unless it is
-    /// already set.
-    ///
-    /// # Errors
-    ///
-    /// `AllocError` if the scope's reference count is at its limit.
-    fn data_of(&self, mut emitted: SdkLogRecord) -> Result<LogData, AllocError>
-        ensures { IfOk result (IsEmitted emitted self.now.scope) }
-    {
-        let observed_time = self.observed_time(emitted.observed_timestamp);
-        emitted.observed_timestamp = Some(observed_time);
-        Ok(LogData {
-            record: emitted,
-            instrumentation_scope: self.scope.clone()?,
-        })
-    }
 }
 
 /// Returns the record with the ids and flags of the active span of the context, unless the record
@@ -83,13 +58,42 @@ fn in_context(mut emitted: SdkLogRecord, context: &Context) -> SdkLogRecord
 }
 
 impl<P: RecordIntake, C: Clock> SdkLogger<P, C> {
+    /// Returns the given time, or the clock's time if none is given.
+    fn observed_time(&self, given: Option<u64>) -> u64
+        ensures given { result ≡ unwrap_or given result }
+        ensures shown { given ≡ None → P.may_show result }
+    {
+        match given {
+            Some(observed_time) => observed_time,
+            None => P::show(&self.provider.clock),
+        }
+    }
+
+    /// Returns the record with the logger's scope. Sets the observed time to now, unless it is
+    /// already set.
+    ///
+    /// # Errors
+    ///
+    /// `AllocError` if the scope's reference count is at its limit.
+    fn data_of(&self, mut emitted: SdkLogRecord) -> Result<LogData, AllocError>
+        ensures { IfOk result (IsEmitted P.may_show emitted self.now.scope) }
+    {
+        let observed_time = self.observed_time(emitted.observed_timestamp);
+        emitted.observed_timestamp = Some(observed_time);
+        Ok(LogData {
+            record: emitted,
+            instrumentation_scope: self.scope.clone()?,
+        })
+    }
+
     /// Hands the record to the provider's processor, or counts it.
     fn hand_over(&self, emitted: SdkLogRecord)
-        ensures { IsHandedOver (IsEmitted emitted self.now.scope) P.is_taken P.is_counted }
+        ensures { IsHandedOver (IsEmitted P.may_show emitted self.now.scope)
+            P.is_taken P.is_counted P.is_unmade }
     {
         match self.data_of(emitted) {
             Ok(given) => self.provider.hand_in(given),
-            Err(_) => P::count_missed(&self.provider.dropped_records),
+            Err(error) => P::count_unmade(&self.provider.dropped_records, error),
         }
     }
 
@@ -99,7 +103,8 @@ impl<P: RecordIntake, C: Clock> SdkLogger<P, C> {
     pub fn emit_in(&self, context: &Context, emitted: SdkLogRecord)
         ensures { is_telemetry_suppressed context.now ≡ false → IsHandedOver (λ entry.
             (made : LogState) × IsInSpan (span_context context.now) emitted made
-            × IsEmitted made self.now.scope entry) P.is_taken P.is_counted }
+            × IsEmitted P.may_show made self.now.scope entry)
+            P.is_taken P.is_counted P.is_unmade }
     {
         if !context.is_telemetry_suppressed() {
             self.hand_over(in_context(emitted, context));
@@ -118,6 +123,9 @@ impl<P: RecordIntake, C: Clock> SdkLogger<P, C> {
         ensures suppressed { IsTrue (is_telemetry_suppressed context.now) → result ≡ false }
         ensures wanted { let asked = option_map (λ n. n.now) name.entry in
             result ≡ true → P.is_wanted level target.now asked }
+        ensures unwanted { let asked = option_map (λ n. n.now) name.entry in
+            is_telemetry_suppressed context.now ≡ false → result ≡ false
+            → P.is_unwanted level target.now asked ⊎ P.is_at_work }
     {
         !context.is_telemetry_suppressed() && self.provider.is_enabled(level, target, name)
     }
@@ -144,8 +152,8 @@ where
     /// Hands the record to the provider's processor. Sets the observed time to now, unless it is
     /// already set. Knows no context: see [`SdkLogger::emit_in`].
     fn emit(&self, emitted: SdkLogRecord)
-        ensures { IsHandedOver (IsEmitted emitted self.now.scope)
-            P.RecordIntake.is_taken P.RecordIntake.is_counted }
+        ensures { IsHandedOver (IsEmitted P.RecordIntake.may_show emitted self.now.scope)
+            P.RecordIntake.is_taken P.RecordIntake.is_counted P.RecordIntake.is_unmade }
     {
         self.hand_over(emitted);
     }
@@ -153,8 +161,11 @@ where
     /// Returns `true` if the provider's processor is open and wants such records. Knows no context:
     /// see [`SdkLogger::event_enabled_in`].
     fn event_enabled(&self, level: Severity, target: &str, name: Option<&str>) -> bool
-        ensures { let asked = option_map (λ n. n.now) name.entry in
+        ensures wanted { let asked = option_map (λ n. n.now) name.entry in
             result ≡ true → P.RecordIntake.is_wanted level target.now asked }
+        ensures unwanted { let asked = option_map (λ n. n.now) name.entry in
+            result ≡ false → P.RecordIntake.is_unwanted level target.now asked
+            ⊎ P.RecordIntake.is_at_work }
     {
         self.provider.is_enabled(level, target, name)
     }

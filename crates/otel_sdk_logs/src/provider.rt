@@ -1,8 +1,9 @@
 //! The provider of the SDK's loggers.
-ghost use Rattle.std.specs.Prelude.{◌≡◌, ◌⊎◌, true, IfOk, Some, None, option_map};
+ghost use Rattle.std.specs.Prelude.{◌≡◌, ◌⊎◌, true, false, IfOk, OnOk, Some, None, option_map};
 ghost use Rattle.std.specs.Option.{option_map_or, unwrap_or};
 ghost use Rattle.otel_sdk_base.specs.Resource.{merge, with_defaults};
 ghost use Rattle.otel_sdk_logs.specs.Attributes.{default_limits};
+ghost use Rattle.otel_sdk_logs.specs.Processor.{IsProcessorsAnswer};
 
 use crate::export::LogData;
 use crate::intake::RecordIntake;
@@ -11,7 +12,7 @@ use crate::logger::SdkLogger;
 use crate::processor::LogProcessor;
 use opentelemetry::logs::{LoggerProvider, Severity};
 use opentelemetry::{InstrumentationScope, StringValue};
-use otel_sdk_base::error::{OTelSdkError, OTelSdkResult};
+use otel_sdk_base::error::OTelSdkResult;
 use otel_sdk_base::resource::Resource;
 use otel_sdk_base::{Clock, SystemClock};
 use std::alloc::{AllocError, Global};
@@ -37,18 +38,40 @@ impl<P: RecordIntake, C> LoggerProviderInner<P, C> {
     {
         match self.processor.try_borrow_mut() {
             Ok(mut processor) => processor.take(given),
-            Err(_) => P::count_missed(&self.dropped_records),
+            Err(error) => P::count_missed(&self.dropped_records, error),
         }
     }
 
     /// Returns `true` if the processor is open, wants such records, and isn't at work.
     pub(crate) fn is_enabled(&self, level: Severity, target: &str, name: Option<&str>) -> bool
-        ensures { let asked = option_map (λ n. n.now) name.entry in
+        ensures wanted { let asked = option_map (λ n. n.now) name.entry in
             result ≡ true → P.is_wanted level target.now asked }
+        ensures unwanted { let asked = option_map (λ n. n.now) name.entry in
+            result ≡ false → P.is_unwanted level target.now asked ⊎ P.is_at_work }
     {
         match self.processor.try_borrow() {
             Ok(processor) => processor.wants(level, target, name),
-            Err(_) => false,
+            Err(error) => P::wants_none(error),
+        }
+    }
+
+    /// Flushes the processor.
+    fn force_flush(&self) -> OTelSdkResult
+        ensures { IsProcessorsAnswer P.may_flush P.is_at_work result }
+    {
+        match self.processor.try_borrow_mut() {
+            Ok(mut processor) => processor.flush(),
+            Err(error) => Err(P::refusal(self.alloc, error)),
+        }
+    }
+
+    /// Shuts the processor down.
+    fn shutdown(&self) -> OTelSdkResult
+        ensures { IsProcessorsAnswer P.may_shut_down P.is_at_work result }
+    {
+        match self.processor.try_borrow_mut() {
+            Ok(mut processor) => processor.shut_down(),
+            Err(error) => Err(P::refusal(self.alloc, error)),
         }
     }
 }
@@ -60,14 +83,6 @@ impl<P: LogProcessor, C> LoggerProviderInner<P, C> {
         match self.processor.try_borrow() {
             Ok(processor) => dropped.saturating_add(processor.dropped_records()),
             Err(_) => dropped,
-        }
-    }
-
-    /// Returns the error of a processor that is at work.
-    fn at_work(&self) -> OTelSdkError {
-        match String::from_str(self.alloc, "the processor is at work") {
-            Ok(words) => OTelSdkError::InternalFailure(words),
-            Err(error) => OTelSdkError::from(error),
         }
     }
 }
@@ -119,7 +134,7 @@ impl<R: std::time::Clock + Copy + Drop> SdkLoggerProvider<(), SystemClock<R>> {
     }
 }
 
-impl<P: LogProcessor, C: Clock> SdkLoggerProvider<P, C> {
+impl<P: RecordIntake, C: Clock> SdkLoggerProvider<P, C> {
     /// Returns the resource, the entity that the telemetry describes.
     pub fn resource(&self) -> &Resource
         ensures { result.now ≡ self.now.resource }
@@ -149,11 +164,10 @@ impl<P: LogProcessor, C: Clock> SdkLoggerProvider<P, C> {
     ///
     /// The errors of [`LogProcessor::force_flush`], or `InternalFailure` if called from within the
     /// processor's own work.
-    pub fn force_flush(&self) -> OTelSdkResult {
-        match self.inner.processor.try_borrow_mut() {
-            Ok(mut processor) => processor.force_flush(),
-            Err(_) => Err(self.inner.at_work()),
-        }
+    pub fn force_flush(&self) -> OTelSdkResult
+        ensures { IsProcessorsAnswer P.may_flush P.is_at_work result }
+    {
+        self.inner.force_flush()
     }
 
     /// Shuts down the processor. The provider's loggers then enable no event, and later records are
@@ -163,11 +177,10 @@ impl<P: LogProcessor, C: Clock> SdkLoggerProvider<P, C> {
     ///
     /// The errors of [`LogProcessor::shutdown`], or `InternalFailure` if called from within the
     /// processor's own work. If the flush failed, the provider stays open for another try.
-    pub fn shutdown(&self) -> OTelSdkResult {
-        match self.inner.processor.try_borrow_mut() {
-            Ok(mut processor) => processor.shutdown(),
-            Err(_) => Err(self.inner.at_work()),
-        }
+    pub fn shutdown(&self) -> OTelSdkResult
+        ensures { IsProcessorsAnswer P.may_shut_down P.is_at_work result }
+    {
+        self.inner.shutdown()
     }
 }
 
@@ -320,17 +333,18 @@ impl<P: Drop, C: Clock> LoggerProviderBuilder<P, C> {
     }
 }
 
-impl<P: LogProcessor, C: Clock> LoggerProviderBuilder<P, C> {
+impl<P: RecordIntake, C: Clock> LoggerProviderBuilder<P, C> {
     /// Builds the provider, and passes the resource to the processor.
     ///
     /// # Errors
     ///
     /// `AllocError` if out of memory. The builder is dropped.
     pub fn build(self, alloc: Global) -> Result<SdkLoggerProvider<P, C>, AllocError>
-        ensures { IfOk result (λ p. p ≡ record {
+        ensures built { IfOk result (λ p. p ≡ record {
           resource = unwrap_or self.resource with_defaults;
           limits = self.limits;
         }) }
+        ensures told { OnOk result (P.is_told (unwrap_or self.resource with_defaults)) }
     {
         let LoggerProviderBuilder {
             resource,
@@ -343,7 +357,7 @@ impl<P: LogProcessor, C: Clock> LoggerProviderBuilder<P, C> {
             None => Resource::builder(alloc)?.build(),
         };
         let resource = Rc::new(alloc, resource)?;
-        processor.set_resource(resource.clone()?);
+        processor.tell(resource.clone()?);
         let inner = LoggerProviderInner {
             alloc,
             resource,

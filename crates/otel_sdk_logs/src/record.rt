@@ -122,6 +122,26 @@ fn copy_body(body: &Option<AnyValue>) -> Result<Option<AnyValue>, AllocError>
     }
 }
 
+// Copies of the texts of a record.
+#[derive(Drop)]
+struct Texts {
+    event_name: Option<StringValue>,
+    target: Option<StringValue>,
+    severity_text: Option<StringValue>,
+}
+
+fn copy_texts(log: &SdkLogRecord) -> Result<Texts, AllocError>
+    ensures event_name { IfOk result (λ copies. copies.event_name ≡ log.now.event_name) }
+    ensures target { IfOk result (λ copies. copies.target ≡ log.now.target) }
+    ensures severity_text { IfOk result (λ copies. copies.severity_text ≡ log.now.severity_text) }
+{
+    Ok(Texts {
+        event_name: log.event_name.clone()?,
+        target: log.target.clone()?,
+        severity_text: log.severity_text.clone()?,
+    })
+}
+
 impl Clone for SdkLogRecord {
     ghost use Rattle.std.specs.Prelude.{◌≡◌};
 
@@ -133,15 +153,18 @@ impl Clone for SdkLogRecord {
     ///
     /// `AllocError` if out of memory.
     fn clone(&self) -> Result<SdkLogRecord, AllocError> {
+        let attributes = copy_all(&self.attributes)?;
+        let body = copy_body(&self.body)?;
+        let texts = copy_texts(self)?;
         Ok(SdkLogRecord {
-            event_name: self.event_name.clone()?,
-            target: self.target.clone()?,
+            event_name: texts.event_name,
+            target: texts.target,
             timestamp: self.timestamp,
             observed_timestamp: self.observed_timestamp,
-            severity_text: self.severity_text.clone()?,
+            severity_text: texts.severity_text,
             severity_number: self.severity_number,
-            body: copy_body(&self.body)?,
-            attributes: copy_all(&self.attributes)?,
+            body,
+            attributes,
             dropped_attributes_count: self.dropped_attributes_count,
             trace_context: self.trace_context,
             limits: self.limits,

@@ -1,9 +1,10 @@
 //! The processor that exports each log record when it is emitted.
-ghost use Rattle.std.specs.Prelude.{◌≡◌, true, false, not, length, IfOk};
+ghost use Rattle.std.specs.Prelude.{◌≡◌, true, false, not, length, IfOk, Result};
 ghost use Rattle.std.specs.Rc.{rc_value};
 ghost use Rattle.otel_sdk_base.specs.Queue as spec;
-ghost use Rattle.otel_sdk_base.specs.Queue.{IsFlushed, IsForceFlushed, IsKeptOrDropped, IsShutDown};
+ghost use Rattle.otel_sdk_base.specs.Queue.{IsForceFlushed, IsKeptOrDropped, IsShutDown};
 ghost use Rattle.otel_sdk_base.specs.Queue.{TellsResource, received_of, with_dropped};
+ghost use Rattle.otel_sdk_base.specs.declared.error.OTelSdkError.{OTelSdkError};
 ghost use Rattle.otel_sdk_logs.specs.Processor.{after_emit};
 ghost use Rattle.otel_sdk_logs.specs.Batch.{simple_state};
 
@@ -74,7 +75,8 @@ impl<E: LogExporter> LogProcessor for SimpleLogProcessor<E> {
     /// Queues the record, or drops and counts it if the processor is closed or the queue is full.
     /// Then flushes the processor. Records that the exporter didn't accept stay queued, in order.
     fn on_emit(&mut self, given: LogData)
-        ensures flushed { IsFlushed E.accepted (after_emit given (simple_state self.old))
+        ensures flushed { (answer : Result (Unit {0}) OTelSdkError)
+            × IsForceFlushed E.accepted E.calls answer (after_emit given (simple_state self.old))
             (simple_state self.new) }
         ensures handed_in { IsKeptOrDropped given (received_of E.accepted (simple_state self.old))
             (received_of E.accepted (simple_state self.new)) }
