@@ -83,3 +83,9 @@ warned_more f ps n k piece old ws more next turn step h =
 pub warned_all : {X Y : Type 0} (f : X → List Y) (ps : List X) (n : ℕ) (old ws : List Y) → length ps ≤ n
     → ws ≡ old ++ flat_map f (take n ps) → ws ≡ old ++ flat_map f ps
 warned_all f ps n old ws h is = is ∙ ap (λ (l : List _). old ++ flat_map f l) (take_all n ps h)
+
+-- the same for any chain of steps
+pub folded_more : {A X : Type 0} (f : List A → X → List A) (ps : List X) (n k : ℕ) (piece : X) (known more : List A) → k ≡ n + 1
+    → (n < length ps) × (piece ≡ get_or ps n piece) → more ≡ f known piece → known ≡ fold f [] (take n ps) → more ≡ fold f [] (take k ps)
+folded_more f ps n k piece known more next turn step h =
+    step ∙ ap (λ (l : List _). f l piece) h ∙ sym (fold-take_more f [] ps n piece turn.0 turn.1) ∙ ap (λ (i : ℕ). fold f [] (take i ps)) (sym next)

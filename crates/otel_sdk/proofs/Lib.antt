@@ -6,6 +6,7 @@ mod EnvLemmas
 mod JournalLemmas
 mod KinLemmas
 mod KinRuns
+mod ListedFields
 mod LiveLemmas
 mod LosesNone
 mod Outcomes

@@ -1,6 +1,7 @@
 -- The configuration that environment variables give. Not in the Rust crate, where each part reads
 -- its own variables.
-use Rattle.std.specs.Prelude.{◌≡◌, ℕ, Bool, List, [], ◌++◌, codes, refl, if◌then◌else◌}
+use Rattle.std.specs.Prelude.{◌≡◌, ℕ, Bool, List, [], ◌++◌, Some, codes, refl, if◌then◌else◌}
+use Rattle.std.specs.Option.{option_map_or}
 use Rattle.std.specs.declared.alloc.Global.{Global}
 use Rattle.std.specs.declared.vec.Vec.{Vec}
 use Rattle.otel_sdk_base.specs.Queue.{effective}
@@ -8,11 +9,12 @@ use Rattle.otel_sdk_base.specs.Resource.{Parts, merge, with_defaults}
 use Rattle.otel_sdk_base.specs.ResourceTexts.{from_texts}
 use Rattle.otel_sdk_span.specs.declared.limits.SpanLimits.{SpanLimits}
 use Rattle.otel_sdk.specs.EnvExport as export
+use Rattle.otel_sdk.specs.EnvHeaders.{header_warnings}
 use Rattle.otel_sdk.specs.EnvLimits as limits
 use Rattle.otel_sdk.specs.EnvPropagators.{propagators, propagator_warnings}
 use Rattle.otel_sdk.specs.EnvSampler.{sampler, sampler_warnings}
 use Rattle.otel_sdk.specs.EnvTexts.{Variables}
-use Rattle.otel_sdk.specs.Tracer.{with_resource, with_sampler}
+use Rattle.otel_sdk.specs.Tracer.{ProviderParts, with_resource, with_sampler}
 use Rattle.otel_sdk.specs.TracingBuilder.{BuilderParts}
 use Rattle.otel_sdk.specs.declared.env.EnvConfig.{EnvConfig}
 use Rattle.otel_sdk.specs.declared.env.export.EnvExporter.{EnvExporter}
@@ -21,7 +23,8 @@ use Rattle.otel_sdk.specs.declared.env.groups.Choices.{Choices}
 use Rattle.otel_sdk.specs.declared.env.groups.Limits.{Limits}
 use Rattle.otel_sdk.specs.declared.env.groups.Outlets.{Outlets}
 use Rattle.otel_sdk.specs.declared.env.limits.EnvBatches.{EnvBatches}
-use Rattle.otel_sdk.specs.declared.env.limits.EnvLogLimits.{EnvLogLimits}
+use Rattle.otel_sdk_logs.specs.Provider.{ProviderParts as LoggerParts}
+use Rattle.otel_sdk_logs.specs.declared.limits.LogRecordLimits.{LogRecordLimits}
 use Rattle.otel_sdk.specs.declared.env.propagators.EnvPropagator.{EnvPropagator}
 use Rattle.otel_sdk.specs.declared.env.sampler.EnvSampler.{EnvSampler}
 use Rattle.otel_sdk.specs.declared.env.sampler.EnvSampler.TheVariants.{Plain}
@@ -36,7 +39,7 @@ pub record Config : Type 0 where
   pub propagators : List EnvPropagator
   pub sampler : EnvSampler
   pub span_limits : SpanLimits
-  pub log_limits : EnvLogLimits
+  pub log_limits : LogRecordLimits
   pub span_batches : EnvBatches
   pub log_batches : EnvBatches
   pub traces_exporter : EnvExporter
@@ -113,6 +116,7 @@ abbrev pub outlet_warnings : Variables → List EnvWarning
 outlet_warnings vars =
     export.exporter_warnings (codes "OTEL_TRACES_EXPORTER") vars
     ++ export.exporter_warnings (codes "OTEL_LOGS_EXPORTER") vars
+    ++ header_warnings vars
     ++ export.otlp_warnings vars
 
 -- the warnings about all variables
@@ -147,14 +151,27 @@ resource_of c = merge with_defaults (from_texts c.resource_attributes c.service_
 abbrev pub sampler_of : EnvConfig → EnvSampler
 sampler_of c = if c.is_disabled then Plain AlwaysOff else c.sampler
 
+-- the provider's builder with the configuration's sampler, resource and limits of spans
+abbrev pub provider_with_env : {S G : Type 0} → EnvConfig → ProviderParts S G
+    → ProviderParts EnvSampler G
+provider_with_env c b =
+    record (with_resource (resource_of c) (with_sampler (sampler_of c) b)) {
+      limits = c.span_limits;
+    }
+
 -- the builder with the configuration's sampler, resource, limits of spans and sizes of batches
 abbrev pub with_env : {S G E : Type 0} → EnvConfig → BuilderParts S G E → BuilderParts EnvSampler G E
 with_env c b = record {
-  provider = record (with_resource (resource_of c) (with_sampler (sampler_of c) b.provider)) {
-    limits = c.span_limits;
-  };
+  provider = provider_with_env c b.provider;
   exporter = b.exporter;
   config = effective (limits.sizes_of c.span_batches);
+}
+
+-- the builder of a provider of loggers with the configuration's resource and limits of log records
+abbrev pub loggers_with_env : {P : Type 0} → EnvConfig → LoggerParts P → LoggerParts P
+loggers_with_env c b = record b {
+  resource = Some (option_map_or (λ old. merge old (resource_of c)) b.resource (resource_of c));
+  limits = c.log_limits;
 }
 
 -- ---- worked rows

@@ -5,6 +5,7 @@ use Rattle.std.specs.Char.{to_ascii_lowercase}
 use Rattle.std.specs.Option.{unwrap_or}
 use Rattle.std.specs.Str.{bytes_eq}
 use Rattle.otel_sdk_base.specs.ResourceTexts.{fault}
+use Rattle.otel_sdk.specs.EnvHeaders.{headers_in}
 use Rattle.otel_sdk.specs.EnvTexts.{Variables, is_unset, text_of, warned, warning, number_or, number_warnings}
 use Rattle.otel_sdk.specs.declared.env.export.EnvEndpoint.{EnvEndpoint}
 use Rattle.otel_sdk.specs.declared.env.export.EnvEndpoint.TheVariants.{Base, Exact}
@@ -80,7 +81,7 @@ endpoint own vars =
 -- the headers of a signal: its own, or the ones of all signals
 abbrev pub headers : List ℕ → Variables → List ℕ
 headers own vars =
-    given_or (text_of own vars) (text_of (codes "OTEL_EXPORTER_OTLP_HEADERS") vars)
+    headers_in (given_or (text_of own vars) (text_of (codes "OTEL_EXPORTER_OTLP_HEADERS") vars))
 
 -- where a signal is sent, whose own endpoint and headers have these names
 abbrev pub otlp : List ℕ → List ℕ → Variables → EnvOtlp

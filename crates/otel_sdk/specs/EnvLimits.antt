@@ -7,7 +7,7 @@ use Rattle.otel_sdk_span.specs.declared.limits.SpanLimits.{SpanLimits}
 use Rattle.otel_sdk.specs.EnvTexts.{Variables, number, number_or, number_warnings, limit_or, limit_warnings}
 use Rattle.otel_sdk.specs.EnvTexts.{text_of, warned, warning}
 use Rattle.otel_sdk.specs.declared.env.limits.EnvBatches.{EnvBatches}
-use Rattle.otel_sdk.specs.declared.env.limits.EnvLogLimits.{EnvLogLimits}
+use Rattle.otel_sdk_logs.specs.declared.limits.LogRecordLimits.{LogRecordLimits}
 use Rattle.otel_sdk.specs.declared.env.limits.Names.{Names}
 use Rattle.otel_sdk.specs.declared.env.warning.EnvWarning.{EnvWarning}
 use Rattle.otel_sdk.specs.declared.env.warning.Instead.TheVariants.{Number}
@@ -49,7 +49,7 @@ span_warnings vars =
     ++ limit_warnings (codes "OTEL_SPAN_ATTRIBUTE_VALUE_LENGTH_LIMIT") (general_length vars) vars
 
 -- the limits of log records
-abbrev pub log_limits : Variables → EnvLogLimits
+abbrev pub log_limits : Variables → LogRecordLimits
 log_limits vars = record {
   max_attributes_per_record =
       number_or (codes "OTEL_LOGRECORD_ATTRIBUTE_COUNT_LIMIT") 0 (general_count vars) vars;

@@ -1,8 +1,10 @@
 pub mod Ended
 pub mod EnvConfig
 pub mod EnvExport
+pub mod EnvHeaders
 pub mod EnvLimits
 pub mod EnvPropagators
+pub mod ConfiguredPropagator
 pub mod EnvSampler
 pub mod EnvTexts
 pub mod IdGenerator

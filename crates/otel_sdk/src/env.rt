@@ -1,23 +1,31 @@
 //! The configuration of an SDK by environment variables.
-ghost use Rattle.std.specs.Prelude.{◌≡◌, IfOk};
+ghost use Rattle.std.specs.Prelude.{◌≡◌, [], IsOk, IfOk};
 ghost use Rattle.otel_sdk.specs.EnvConfig as spec;
 ghost use Rattle.otel_sdk.specs.EnvConfig.{config_of};
 ghost use Rattle.otel_sdk.specs.EnvTexts.{variables_of};
 
+mod builders;
+mod configured;
 mod export;
 mod groups;
+mod headers;
+mod help;
 mod limits;
 mod propagators;
+mod read;
 mod sampler;
 mod texts;
 mod warning;
 
 use crate::trace::Sampler;
+pub use builders::WithEnv;
+pub use configured::ConfiguredPropagator;
 pub use export::{EnvEndpoint, EnvExporter, EnvOtlp};
 use groups::{Choices, Limits, Outlets, read_choices, read_limits, read_outlets};
-pub use limits::{EnvBatches, EnvLogLimits};
+pub use limits::EnvBatches;
 use opentelemetry::StringValue;
 use otel_sdk_base::resource::Resource;
+use otel_sdk_logs::LogRecordLimits;
 use otel_sdk_span::SpanLimits;
 pub use propagators::EnvPropagator;
 pub use sampler::EnvSampler;
@@ -52,7 +60,7 @@ pub use warning::{EnvWarning, Instead};
 /// - `OTEL_TRACES_EXPORTER`, `OTEL_LOGS_EXPORTER`: `otlp`, `console` or `none` (`otlp`).
 /// - `OTEL_EXPORTER_OTLP_ENDPOINT` (`http://localhost:4318`), and in its place
 ///   `OTEL_EXPORTER_OTLP_TRACES_ENDPOINT` and `OTEL_EXPORTER_OTLP_LOGS_ENDPOINT`.
-/// - `OTEL_EXPORTER_OTLP_HEADERS`: `key=value,..` (none), and in its place
+/// - `OTEL_EXPORTER_OTLP_HEADERS`: `NAME=VALUE,..` (none), and in its place
 ///   `OTEL_EXPORTER_OTLP_TRACES_HEADERS` and `OTEL_EXPORTER_OTLP_LOGS_HEADERS`.
 /// - `OTEL_EXPORTER_OTLP_TIMEOUT`, in milliseconds (10000).
 /// - `OTEL_EXPORTER_OTLP_PROTOCOL`: `http/json`.
@@ -82,7 +90,7 @@ pub struct EnvConfig {
     /// The limits of spans.
     pub span_limits: SpanLimits,
     /// The limits of log records.
-    pub log_limits: EnvLogLimits,
+    pub log_limits: LogRecordLimits,
     /// The sizes and times of a batch processor of spans.
     pub span_batches: EnvBatches,
     /// The sizes and times of a batch processor of log records.
@@ -130,6 +138,10 @@ fn joined(
 }
 
 impl EnvConfig {
+    /// The variables, a line each: the name, the values, and in parentheses the default. For the
+    /// `--help` of a program.
+    pub const HELP: &'static str = help::HELP;
+
     /// Reads the configuration from the names and texts of environment variables. If a name is
     /// given twice, the first text counts, as for the `getenv` of C.
     ///
@@ -170,5 +182,17 @@ impl EnvConfig {
         } else {
             self.sampler
         }
+    }
+
+    /// Returns the propagator of the listed ones, in order.
+    ///
+    /// # Errors
+    ///
+    /// `AllocError` if out of memory, which can't happen if none is listed.
+    pub fn propagator(&self, alloc: Global) -> Result<ConfiguredPropagator, AllocError>
+        ensures made { self.now.propagators.items ≡ [] → IsOk result }
+        ensures names { IfOk result (λ p. p ≡ self.now.propagators.items) }
+    {
+        ConfiguredPropagator::new(alloc, self.propagators.as_slice())
     }
 }

@@ -1,5 +1,6 @@
 //! Resources, samplers, tracers and spans, and the path of spans to an exporter.
 mod attributes;
+mod configured;
 mod env;
 mod export;
 mod json;
@@ -7,7 +8,9 @@ mod json_logs;
 mod live;
 mod loggers;
 mod logs;
+mod otlp_http;
 mod spans;
+mod stream_client;
 mod tracer;
 mod tracing;
 
@@ -35,11 +38,14 @@ pub fn play<R: Print>(rt: HostRuntime, lines: &Lines<'_, R>) {
     attributes::play(alloc, lines);
     resources(alloc, lines);
     env::play(rt, lines);
+    configured::play(alloc, lines);
     tracer::play(rt, lines);
     spans::play(alloc, lines);
     export::play(alloc, lines);
     json::play(alloc, lines);
+    otlp_http::play(alloc, lines);
     json_logs::play(alloc, lines);
+    stream_client::play(rt, lines);
     live::play(rt, lines);
     logs::play(alloc, lines);
     loggers::play(rt, lines);

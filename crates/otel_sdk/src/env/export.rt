@@ -3,6 +3,7 @@ ghost use Rattle.std.specs.Prelude.{◌≡◌, ◌++◌, IfOk, OnOk};
 ghost use Rattle.otel_sdk.specs.EnvExport as spec;
 ghost use Rattle.otel_sdk.specs.EnvTexts.{variables_of};
 
+use super::headers::listed_headers;
 use super::texts::{number_or, text_of};
 use super::warning::{EnvWarning, Instead, warn};
 use opentelemetry::StringValue;
@@ -34,7 +35,7 @@ pub enum EnvEndpoint {
 pub struct EnvOtlp {
     /// The address of the collector.
     pub endpoint: EnvEndpoint,
-    /// The text of the headers to add, a list `key=value,..` that isn't checked here.
+    /// The headers to add, a list `NAME=VALUE,..` whose names are tokens (RFC 9110, section 5.6.2).
     pub headers: StringValue,
 }
 
@@ -197,11 +198,12 @@ fn headers(alloc: Global, vars: &[(String, String)], own: &str) -> Result<String
     ensures { IfOk result (λ h. h ≡ spec.headers own.now (variables_of vars.now)) }
 {
     let own = text_of(vars, own);
-    if own.is_empty() {
-        kept(alloc, text_of(vars, "OTEL_EXPORTER_OTLP_HEADERS"))
+    let listed = if own.is_empty() {
+        text_of(vars, "OTEL_EXPORTER_OTLP_HEADERS")
     } else {
-        kept(alloc, own)
-    }
+        own
+    };
+    Ok(StringValue::from(listed_headers(alloc, listed)?))
 }
 
 /// Returns where a signal is sent whose own endpoint and headers have these names.

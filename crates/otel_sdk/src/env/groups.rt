@@ -8,12 +8,13 @@ ghost use Rattle.otel_sdk.specs.EnvSampler.{sampler};
 ghost use Rattle.otel_sdk.specs.EnvTexts.{variables_of};
 
 use super::export::{EnvExporter, EnvOtlp};
-use super::limits::{EnvBatches, EnvLogLimits};
+use super::limits::EnvBatches;
 use super::propagators::EnvPropagator;
 use super::sampler::EnvSampler;
 use super::warning::EnvWarning;
-use super::{export, limits, propagators, sampler};
+use super::{export, headers, limits, propagators, sampler};
 use opentelemetry::StringValue;
+use otel_sdk_logs::LogRecordLimits;
 use otel_sdk_span::SpanLimits;
 use std::alloc::{AllocError, Global};
 
@@ -67,7 +68,7 @@ pub(super) fn read_choices(
 #[derive(Drop)]
 pub(super) struct Limits {
     pub(super) span_limits: SpanLimits,
-    pub(super) log_limits: EnvLogLimits,
+    pub(super) log_limits: LogRecordLimits,
     pub(super) span_batches: EnvBatches,
     pub(super) log_batches: EnvBatches,
 }
@@ -141,6 +142,7 @@ pub(super) fn read_outlets(
     let otlp_logs = export::otlp_logs(alloc, vars)?;
     let traces_exporter = export::exporter(alloc, vars, warnings, "OTEL_TRACES_EXPORTER")?;
     let logs_exporter = export::exporter(alloc, vars, warnings, "OTEL_LOGS_EXPORTER")?;
+    headers::warn_of_headers(alloc, vars, warnings)?;
     let otlp_timeout_millis = export::timeout_millis(alloc, vars, warnings)?;
     Ok(Outlets {
         traces_exporter,

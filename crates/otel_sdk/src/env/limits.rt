@@ -7,17 +7,9 @@ ghost use Rattle.otel_sdk.specs.EnvTexts.{variables_of};
 use super::texts::{limit_or, number, number_or, text_of};
 use super::warning::{EnvWarning, Instead, warn};
 use otel_sdk_base::{BatchConfig, BatchConfigBuilder};
+use otel_sdk_logs::LogRecordLimits;
 use otel_sdk_span::SpanLimits;
 use std::alloc::{AllocError, Global};
-
-/// The limits of log records.
-#[derive(Clone, Copy, Debug, PartialEq, Eq)]
-pub struct EnvLogLimits {
-    /// The maximum number of attributes per record.
-    pub max_attributes_per_record: u32,
-    /// The maximum length of a text in an attribute, in characters.
-    pub max_attribute_length: Option<u32>,
-}
 
 /// The sizes and times of a batch processor. Nothing waits in this crate: the times are for the
 /// caller.
@@ -138,7 +130,7 @@ pub(super) fn log_limits(
     vars: &[(String, String)],
     warnings: &mut Vec<EnvWarning>,
     general: AttributeLimits,
-) -> Result<EnvLogLimits, AllocError>
+) -> Result<LogRecordLimits, AllocError>
     requires count { general.count ≡ spec.general_count (variables_of vars.now) }
     requires length { general.length ≡ spec.general_length (variables_of vars.now) }
     ensures limits { IfOk result (λ limits. limits ≡ spec.log_limits (variables_of vars.now)) }
@@ -146,7 +138,7 @@ pub(super) fn log_limits(
         ++ spec.log_warnings (variables_of vars.now)) }
 {
     let own = "OTEL_LOGRECORD_ATTRIBUTE_COUNT_LIMIT";
-    Ok(EnvLogLimits {
+    Ok(LogRecordLimits {
         max_attributes_per_record: number_or(alloc, vars, warnings, own, 0, general.count)?,
         max_attribute_length: general.length,
     })

@@ -322,6 +322,14 @@ impl<P: Pipeline, E: SpanExporter> Tracing<P, E> {
         self.journal.open_spans()
     }
 
+    /// Returns the number of spans that have ended since the last flush. A service exports them once
+    /// they fill a batch.
+    pub fn ended_spans(&self) -> usize
+        ensures { result ≡ length self.now.spans.ended }
+    {
+        self.journal.ended_spans()
+    }
+
     /// Returns how often [`Tracing::in_span`] couldn't enter a span, and [`Tracing::try_in_span`]
     /// couldn't record an error. Stops at the greatest `u64`.
     pub fn unrecorded(&self) -> u64

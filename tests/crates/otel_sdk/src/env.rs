@@ -7,7 +7,7 @@ use std::alloc::Global;
 use std::test::Fail;
 
 /// The variables as `std::env::vars` gives them.
-fn owned(alloc: Global, vars: &[(&str, &str)]) -> Result<Vec<(String, String)>, Fail> {
+pub fn owned(alloc: Global, vars: &[(&str, &str)]) -> Result<Vec<(String, String)>, Fail> {
     let mut owned = Vec::new(alloc);
     for (name, text) in vars {
         owned.push((
@@ -19,7 +19,7 @@ fn owned(alloc: Global, vars: &[(&str, &str)]) -> Result<Vec<(String, String)>, 
 }
 
 /// The configuration of these variables.
-fn config(alloc: Global, vars: &[(&str, &str)]) -> Result<EnvConfig, Fail> {
+pub fn config(alloc: Global, vars: &[(&str, &str)]) -> Result<EnvConfig, Fail> {
     let vars = owned(alloc, vars)?;
     Ok(EnvConfig::from_vars(alloc, vars.as_slice())?)
 }
@@ -337,5 +337,50 @@ fn tracing_obeys_the_environment(rt: HostRuntime) -> Result<(), Fail> {
     assert!(rt; arrived(rt, &[])? == 1);
     assert!(rt; arrived(rt, &[("OTEL_TRACES_SAMPLER", "always_off")])? == 0);
     assert!(rt; arrived(rt, &[("OTEL_SDK_DISABLED", "true")])? == 0);
+    Ok(())
+}
+
+#[test]
+fn help_names_each_variable(rt: HostRuntime) -> Result<(), Fail> {
+    let alloc = rt.alloc();
+    assert!(rt; EnvConfig::HELP.ends_with("\n"));
+    let mut named = 0;
+    for line in EnvConfig::HELP.lines() {
+        if line.starts_with("OTEL_") {
+            named += 1;
+        } else {
+            assert!(rt; line.starts_with("    "));
+        }
+    }
+    assert_eq!(rt; named, 33);
+    // Whatever is read from a faulty text is in the help.
+    for name in [
+        "OTEL_PROPAGATORS",
+        "OTEL_BLRP_SCHEDULE_DELAY",
+        "OTEL_LOGS_EXPORTER",
+    ] {
+        let config = config(alloc, &[(name, "x")])?;
+        assert!(rt; EnvConfig::HELP.contains(config.warnings[0].name.as_str()));
+    }
+    Ok(())
+}
+
+#[test]
+fn header_names_are_tokens(rt: HostRuntime) -> Result<(), Fail> {
+    let alloc = rt.alloc();
+    let name = "OTEL_EXPORTER_OTLP_HEADERS";
+    let some = config(alloc, &[(name, "api-key=k%2C, a b=1 ,c,=d, x = y,")])?;
+    assert!(rt; some.otlp_traces.headers.as_str() == "api-key=k%2C,x = y");
+    assert!(rt; some.otlp_logs.headers.as_str() == "api-key=k%2C,x = y");
+    let lines = "OTEL_EXPORTER_OTLP_HEADERS can't be \"a b=1\": it is left out
+OTEL_EXPORTER_OTLP_HEADERS can't be \"c\": it is left out
+OTEL_EXPORTER_OTLP_HEADERS can't be \"=d\": it is left out
+";
+    assert!(rt; warns(alloc, &some, lines)?);
+    let own = ("OTEL_EXPORTER_OTLP_TRACES_HEADERS", "n:=1");
+    let none = config(alloc, &[(name, "a=1"), own])?;
+    assert!(rt; none.otlp_traces.headers.as_str().is_empty());
+    assert!(rt; none.otlp_logs.headers.as_str() == "a=1");
+    assert!(rt; none.warnings.len() == 1);
     Ok(())
 }

@@ -4,12 +4,14 @@
 
 // Depends on: anyhow test_support
 
+mod builders;
 mod ended;
 mod env;
 mod errors;
 mod exporter;
 mod id_generator;
 mod processor;
+mod propagator;
 mod ratio;
 mod run;
 mod sampler;

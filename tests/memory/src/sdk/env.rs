@@ -1,14 +1,19 @@
 //! The configuration by environment variables.
 use crate::lines::Lines;
 use otel_sdk::EnvConfig;
-use otel_sdk::env::EnvSampler;
-use otel_sdk::trace::{Sampler, ShouldSample, Tracing};
+use otel_sdk::env::{EnvSampler, WithEnv};
+use otel_sdk::logs::SdkLoggerProvider;
+use otel_sdk::trace::{Sampler, SdkTracerProvider, ShouldSample, Tracing};
 use std::alloc::{AllocError, Global};
 
 pub fn play<R: Print>(rt: HostRuntime, lines: &Lines<'_, R>) {
     let alloc = rt.alloc();
     if lines.begin("env-config") {
         lines.end(read(alloc, lines));
+    }
+    if lines.begin("env-of-the-process") {
+        let config = EnvConfig::from_env(&rt);
+        lines.answer_of(config.map(|config| config.warnings.len()));
     }
     if lines.begin("env-resource") {
         lines.end(resource(alloc, lines));
@@ -20,9 +25,15 @@ pub fn play<R: Print>(rt: HostRuntime, lines: &Lines<'_, R>) {
     if lines.begin("tracing-builder-with-env") {
         lines.end(with_env(rt, lines));
     }
+    if lines.begin("tracer-provider-with-env") {
+        lines.end(provider_with_env(rt, lines));
+    }
+    if lines.begin("logger-provider-with-env") {
+        lines.end(loggers_with_env(rt, lines));
+    }
 }
 
-/// Variables of which one has two faults.
+/// Variables of which one has two faults, and another one.
 fn vars(alloc: Global) -> Result<Vec<(String, String)>, AllocError> {
     let mut vars = Vec::new(alloc);
     for (name, text) in [
@@ -30,6 +41,7 @@ fn vars(alloc: Global) -> Result<Vec<(String, String)>, AllocError> {
         ("OTEL_RESOURCE_ATTRIBUTES", "a=b%2Cc"),
         ("OTEL_PROPAGATORS", "b3,none,zipkin"),
         ("OTEL_EXPORTER_OTLP_ENDPOINT", "http://h"),
+        ("OTEL_EXPORTER_OTLP_HEADERS", "a=1,b c=2"),
     ] {
         vars.push((
             String::from_str(alloc, name)?,
@@ -60,6 +72,24 @@ fn with_env<R: Print>(rt: HostRuntime, lines: &Lines<'_, R>) -> Result<(), Alloc
     let vars = vars(alloc)?;
     let config = EnvConfig::from_vars(alloc, vars.as_slice())?;
     let builder = Tracing::builder(rt);
+    lines.answer_named("set", builder.with_env(alloc, &config));
+    Ok(())
+}
+
+fn provider_with_env<R: Print>(rt: HostRuntime, lines: &Lines<'_, R>) -> Result<(), AllocError> {
+    let alloc = rt.alloc();
+    let vars = vars(alloc)?;
+    let config = EnvConfig::from_vars(alloc, vars.as_slice())?;
+    let builder = SdkTracerProvider::builder(rt);
+    lines.answer_named("set", builder.with_env(alloc, &config));
+    Ok(())
+}
+
+fn loggers_with_env<R: Print>(rt: HostRuntime, lines: &Lines<'_, R>) -> Result<(), AllocError> {
+    let alloc = rt.alloc();
+    let vars = vars(alloc)?;
+    let config = EnvConfig::from_vars(alloc, vars.as_slice())?;
+    let builder = SdkLoggerProvider::builder(rt);
     lines.answer_named("set", builder.with_env(alloc, &config));
     Ok(())
 }

@@ -221,6 +221,13 @@ impl<E: SpanExporter> Journal<E> {
         self.entered.len()
     }
 
+    /// Returns the number of ended spans that the processor hasn't taken.
+    pub fn ended_spans(&self) -> usize
+        ensures { result ≡ length self.now.spans.ended }
+    {
+        self.live.ended().len()
+    }
+
     /// Returns the processor.
     pub fn processor(&self) -> &BatchSpanProcessor<E>
         ensures { result.now ≡ self.now.processor }
