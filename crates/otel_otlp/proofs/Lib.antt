@@ -18,3 +18,7 @@ pub mod WholeTrees
 pub mod Writing
 pub mod Sorting
 pub mod SortedEntries
+pub mod Streams
+pub mod StreamSteps
+pub mod StreamText
+pub mod StreamRequest

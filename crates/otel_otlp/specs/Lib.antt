@@ -3,6 +3,11 @@ pub mod Lossless
 pub mod Common
 pub mod Groups
 pub mod Exporter
+pub mod HttpClient
+pub mod HttpConfig
+pub mod HttpResponse
+pub mod HttpStatus
+pub mod Backoff
 pub mod Trees
 pub mod Logs
 pub mod Traces
@@ -10,3 +15,4 @@ pub mod View
 pub mod Written
 pub mod Sorted
 pub mod SortedView
+pub mod StreamClient

@@ -9,10 +9,14 @@ pub mod laws;
 mod lines;
 mod logs;
 mod object;
+mod otlp_http;
 mod traces;
 mod trees;
 mod written;
 
+pub use crate::otlp_http::{
+    Backoff, ConfigError, HttpClient, HttpError, OtlpHttpConfig, StreamClient,
+};
 pub use append_file::AppendFile;
 pub use exporter::{OtlpJsonExporter, OtlpJsonLogExporter, OtlpJsonSpanExporter};
 pub use logs::{logs_data, logs_text};

@@ -1,0 +1,232 @@
+-- What a call of a connection's `read` says of a stream.
+use Rattle.std.proofs.Common.{◌≡◌, ℕ, ◌+◌, ◌-◌, ◌≤◌, nat_lt, ◌/◌, ◌==◌, ◌&&◌, ◌||◌, Bool, true, false, cond, List, [], ◌∷◌, ◌++◌, length, take, drop, map, fold, Ok, All, IsTrue, inl, inr, refl, sym, ap, ◌∙◌, subst, subst₂, arith, append-nil, append_assoc}
+use Rattle.std.proofs.lemmas.Bool.Decides.{nat_tests}
+use Rattle.std.proofs.lemmas.List.{drop_all, drop-take, take-take}
+use Rattle.std.proofs.lemmas.List.Elements.{All-nil, All-cons, All-head, All-tail}
+use Rattle.httparse.specs.Grammar.{status_code}
+use Rattle.httparse.specs.Spans.{span_bytes, header_bytes, IsWithin, IsHeaderWithin}
+use Rattle.httparse.specs.declared.spans.Span.{Span}
+use Rattle.httparse.specs.declared.spans.HeaderSpan.{HeaderSpan}
+use Rattle.httparse.specs.declared.spans.ResponseSpans.{ResponseSpans}
+use Rattle.http_header.specs.Token.{lowercase}
+use Rattle.http_header.specs.FieldValue.{FieldValue, plain_value}
+use Rattle.http_header.specs.HeaderMap.{Entries, append}
+use Rattle.http.specs.declared.response.Parts as Response
+use Rattle.http1.specs.declared.client.Client.{Client}
+use Rattle.http1.specs.declared.framing.MethodKind.{MethodKind}
+use Rattle.http1.specs.declared.framing.MethodKind.TheVariants as Method
+use Rattle.http1.specs.declared.conn.Event.{Event}
+use Rattle.http1.specs.declared.conn.Event.TheVariants as Found
+use Rattle.http1.specs.declared.conn.Progress.{Progress}
+use Rattle.http1.specs.declared.conn.Reading.{Reading}
+use Rattle.http1.specs.declared.conn.Reading.TheVariants as Reads
+use Rattle.http1.specs.declared.decode.Decoder.{Decoder}
+use Rattle.http1.specs.declared.decode.Decoder.TheVariants.{Length, Chunked, UntilClose}
+use Rattle.http1.specs.Conn.{no_progress, awaits_head, is_connect, ReadsPiece}
+use Rattle.http1.specs.Decoder.{AwaitsTrailers}
+use Rattle.http1.specs.Client.{new_client, closed_client, upgraded_client, is_written, is_interim, switches, after_piece, ReadsHead, ReadsInBody, ReadsFirst, ReadsAt, ClientReads, at_eof, reading}
+use Rattle.http1.specs.ServerTrace.{no_body, headers_at}
+use Rattle.http1.specs.ClientTrace.{SeenResponse, nothing, observe, IsBetween, Trace, stops, peer_closes, reads}
+use Rattle.http1_typed.specs.Parts.{entry_at, map_at, IsResponseParts}
+use Rattle.otel_otlp.specs.StreamClient.{map_of, with_body, Skips, FindsHead, with_front, Gives, FindsBody}
+use Rattle.otel_otlp.proofs.Streams.{skips_none}
+
+-- ---- parts of a head
+span_bytes-take : (n : ℕ) (u : List ℕ) (s : Span) → IsWithin n s → span_bytes (take n u) s ≡ span_bytes u s
+span_bytes-take n u s within =
+    let sum : n ≡ s.start + (n - s.start) = omega arith in
+    let fits : s.end - s.start ≤ n - s.start = omega arith in
+    ap (λ (j : ℕ). take (s.end - s.start) (drop s.start (take j u))) sum ∙ rw (drop-take, take-take)
+
+headers-take : (n : ℕ) (u : List ℕ) (hs : List HeaderSpan) → All (IsHeaderWithin n) hs → map (header_bytes (take n u)) hs ≡ map (header_bytes u) hs
+headers-take n u [] all = refl
+headers-take n u (h ∷ hs) all =
+    let within = All-head (IsHeaderWithin n) h hs all in
+    λ i. (span_bytes-take n u h.name within.0 i, span_bytes-take n u h.value within.1 i)
+    ∷ headers-take n u hs (All-tail (IsHeaderWithin n) h hs all) i
+
+map_at-fold : (head : List ℕ) (spans : List HeaderSpan) (m : Entries FieldValue)
+    → fold (λ j h. append j (entry_at head h).0 (entry_at head h).1) m spans
+    ≡ fold (λ j h. append j (lowercase h.0) (plain_value h.1)) m (map (header_bytes head) spans)
+map_at-fold head [] m = refl
+map_at-fold head (h ∷ spans) m = map_at-fold head spans _
+
+map_at_is : (head : List ℕ) (spans : List HeaderSpan) → map_at head spans ≡ map_of (map (header_bytes head) spans)
+map_at_is head spans = map_at-fold head spans []
+
+-- the map of the first bytes is the map of all, if they contain the spans
+pub map_at-take : (n : ℕ) (u : List ℕ) (hs : List HeaderSpan) → All (IsHeaderWithin n) hs → map_at (take n u) hs ≡ map_at u hs
+map_at-take n u hs all = map_at_is (take n u) hs ∙ ap map_of (headers-take n u hs all) ∙ sym (map_at_is u hs)
+
+-- ---- heads
+-- a status of 1xx other than 101 switches no protocols
+by_method : (m : MethodKind) (status : ℕ) → IsTrue (is_interim status) → (((status == 101) || (is_connect m && (status / 100 == 2))) ≡ false) × (nat_lt status 200 ≡ true)
+by_method Method.Head status is = grind (arith, nat_tests)
+by_method Method.Connect status is = grind (arith, nat_tests)
+by_method Method.Other status is = grind (arith, nat_tests)
+
+-- the connection is unchanged by it
+interim_stays : (c : Client) (status : ℕ) (other : Client) → IsTrue (is_interim status) → cond (switches c status) (upgraded_client c) (cond (nat_lt status 200) c other) ≡ c
+interim_stays c status other is =
+    let tests = by_method c.method status is in
+    ap (λ b. cond b (upgraded_client c) (cond (nat_lt status 200) c other)) tests.0 ∙ ap (λ b. cond b c other) tests.1
+
+module _ (c new : Client) (input : List ℕ) (spans : List HeaderSpan) (read : Progress ResponseSpans) (is : reading c ≡ Reads.Head) (found : ClientReads c input spans new read) where
+  at_head : ReadsFirst (awaits_head c.writing) c input spans new read
+  at_head = subst (λ r. ReadsAt r c input spans new read) is found
+
+  -- more bytes are needed
+  waits_by : (idle : Bool) → ReadsFirst idle c input spans new read → read.event ≡ Found.NeedMore → new ≡ c
+  waits_by true h event = h.2
+  waits_by false h event = (subst (λ e. ReadsHead c input spans new read.consumed e) event h).1
+
+  pub waits : read.event ≡ Found.NeedMore → (came : List ℕ) → Skips c (input ++ came) new (input ++ came)
+  waits event came = subst (λ n. Skips c (input ++ came) n (input ++ came)) (sym (waits_by _ at_head event)) (skips_none c (input ++ came))
+
+  interim_by : (idle : Bool) (r : ResponseSpans) → ReadsFirst idle c input spans new read → read.event ≡ Found.Informational r → IsTrue (is_interim r.code) × (new ≡ c)
+  interim_by true r h event = let it = h.1 in cc
+  interim_by false r h event =
+      let (low, t) = subst (λ e. ReadsHead c input spans new read.consumed e) event h in
+      (low, t.next ∙ interim_stays c (status_code t.head) _ (subst (λ n. IsTrue (is_interim n)) t.covered.code low))
+
+  -- a response of status 1xx was skipped
+  pub skips_one : (r : ResponseSpans) → read.event ≡ Found.Informational r → Skips c (input ++ []) new (drop read.consumed input)
+  skips_one r event =
+      let (low, same) = interim_by _ r at_head event in
+      let seen : SeenResponse = record { method = c.method; minor = r.version; status = r.code; reason = span_bytes input r.reason; headers = headers_at input spans r.headers; body = no_body } in
+      record {
+        interim = seen ∷ [];
+        are_interim = All-cons (λ (s : SeenResponse). IsTrue (is_interim s.status)) seen [] low (All-nil _);
+        same = same;
+        goes_on = λ more later rest none t.
+            let first = reads c new input more spans read later rest found t in
+            let told = subst (λ e. Trace c (input ++ more) (observe c.method input spans e later) rest) event first in
+            subst₂ (λ s b. Trace c (s ++ more) (record { body = no_body; responses = record seen { body = b } ∷ later.responses }) rest) (sym (append-nil input)) none told;
+      }
+
+  final_by : (idle : Bool) (r : ResponseSpans) → ReadsFirst idle c input spans new read → read.event ≡ Found.Head r → is_interim r.code ≡ false
+  final_by true r h event = let it = h.1 in cc
+  final_by false r h event = (subst (λ e. ReadsHead c input spans new read.consumed e) event h).0
+
+  -- a head was found
+  pub finds_head : (r : ResponseSpans) (p : Response.Parts) → read.event ≡ Found.Head r → IsResponseParts input spans r p → FindsHead c (input ++ []) new (drop read.consumed input) p
+  finds_head r p event is_parts =
+      let seen : SeenResponse = record { method = c.method; minor = r.version; status = r.code; reason = span_bytes input r.reason; headers = headers_at input spans r.headers; body = no_body } in
+      record {
+        interim = [];
+        are_interim = All-nil _;
+        head = seen;
+        is_final = final_by _ r at_head event;
+        method = refl;
+        parts = record { status = is_parts.status; version = is_parts.version; headers = is_parts.headers ∙ map_at_is input (take r.headers spans) };
+        goes_on = λ more later rest t.
+            let first = reads c new input more spans read later rest found t in
+            let told = subst (λ e. Trace c (input ++ more) (observe c.method input spans e later) rest) event first in
+            subst (λ s. Trace c (s ++ more) (record { body = no_body; responses = with_body seen later.body ∷ later.responses }) rest) (sym (append-nil input)) told;
+      }
+
+-- ---- bodies
+-- a connection that has read a whole response is at no body
+between_cycle : (c : Client) (again : Bool) → IsBetween (reading (cond again (new_client c.limits) (closed_client c)))
+between_cycle c true = tt
+between_cycle c false = tt
+
+-- only an end of the stream ends a body without a length
+pub until_close : (r : Reading) (c : Client) (count : ℕ) → (at_eof r c).0 ≡ Ok (Found.End count) → r ≡ Reads.Body UntilClose
+until_close Reads.Head c count is = absurd (grind arith)
+until_close (Reads.Body (Length left)) c count is = cc
+until_close (Reads.Body (Chunked chunks max_len)) c count is = cc
+until_close (Reads.Body UntilClose) c count is = refl
+until_close Reads.Done c count is = cc
+until_close Reads.Upgraded c count is = cc
+until_close Reads.Closed c count is = cc
+until_close (Reads.Failed e) c count is = cc
+
+-- the end of the stream leaves what was read
+pub eof_body : (r : Reading) (c : Client) → r ≡ Reads.Body UntilClose → (at_eof r c).0 ≡ Ok (Found.End 0)
+eof_body r c is = ap (λ x. (at_eof x c).0) is
+
+module _ (c new : Client) (input : List ℕ) (spans : List HeaderSpan) (read : Progress ResponseSpans) where
+  event_of : (e : Event ResponseSpans) → read ≡ no_progress e → read.event ≡ e
+  event_of e is = ap (λ (p : Progress ResponseSpans). p.event) is
+
+  module _ (count : ℕ) (event : read.event ≡ Found.End count) where
+    ends_first : (idle : Bool) → ReadsFirst idle c input spans new read → ⊥
+    ends_first true h = let it = sym (event_of _ h.1) ∙ event in cc
+    ends_first false h = subst (λ e. ReadsHead c input spans new read.consumed e) event h
+
+    ends_piece : (d : Decoder) → ReadsInBody d c input spans new read → IsBetween (reading new)
+    ends_piece d h =
+        let done = (subst (λ e. ReadsPiece d input spans h.0 read.consumed e) event h.1).0 in
+        subst (λ n. IsBetween (reading n)) (sym (h.2 ∙ ap (after_piece c) done)) (between_cycle (record c { reading = Reads.Done }) (c.keep_alive && is_written c.writing))
+
+    ends_between : (r : Reading) → ReadsAt r c input spans new read → IsBetween (reading new)
+    ends_between Reads.Head h = absurd (ends_first _ h)
+    ends_between (Reads.Body d) h = ends_piece d h
+    ends_between Reads.Done h = let it = sym (event_of _ h.0) ∙ event in absurd cc
+    ends_between Reads.Upgraded h = let it = sym (event_of _ h.0) ∙ event in absurd cc
+    ends_between Reads.Closed h = let it = sym (event_of _ h.0) ∙ event in absurd cc
+    ends_between (Reads.Failed e) h = absurd h
+
+  module _ (event : read.event ≡ Found.NeedMore) where
+    drains_first : (idle : Bool) → reading c ≡ Reads.Head → ReadsFirst idle c input spans new read → reading new ≡ Reads.Body UntilClose → ⊥
+    drains_first true head h is = let it = sym (event_of _ h.1) ∙ event in cc
+    drains_first false head h is =
+        let same = (subst (λ e. ReadsHead c input spans new read.consumed e) event h).1 in
+        let it = sym head ∙ sym (ap reading same) ∙ is in cc
+
+    drains_piece : (d : Decoder) → ReadsInBody d c input spans new read → reading new ≡ Reads.Body UntilClose → drop read.consumed input ≡ []
+    drains_piece d h is =
+        let (kept, next, starves) = subst (λ e. ReadsPiece d input spans h.0 read.consumed e) event h.1 in
+        let body : Reads.Body kept ≡ Reads.Body UntilClose = sym (ap reading (h.2 ∙ ap (after_piece c) next)) ∙ is in
+        let until : kept ≡ UntilClose = cc in
+        elim starves.drained [
+          | inl all ↦ drop_all read.consumed input (omega (arith, all))
+          | inr more ↦ absurd (subst (λ v. AwaitsTrailers v (length (drop read.consumed input))) until more)
+        ]
+
+    drains : (r : Reading) → reading c ≡ r → ReadsAt r c input spans new read → reading new ≡ Reads.Body UntilClose → drop read.consumed input ≡ []
+    drains Reads.Head head h is = absurd (drains_first _ head h is)
+    drains (Reads.Body d) body h is = drains_piece d h is
+    drains Reads.Done done h is = let it = sym (event_of _ h.0) ∙ event in absurd cc
+    drains Reads.Upgraded done h is = let it = sym (event_of _ h.0) ∙ event in absurd cc
+    drains Reads.Closed done h is = let it = sym (event_of _ h.0) ∙ event in absurd cc
+    drains (Reads.Failed e) failed h is = absurd h
+
+  module _ (found : ClientReads c input spans new read) where
+    abbrev left : List ℕ
+    left = drop read.consumed input
+
+    -- a piece was found
+    pub gives_data : (s : Span) → read.event ≡ Found.Data s → Gives c (input ++ []) new left (span_bytes input s)
+    gives_data s event more later rest t =
+        let told = subst (λ e. Trace c (input ++ more) (observe c.method input spans e later) rest) event (reads c new input more spans read later rest found t) in
+        subst (λ xs. Trace c (xs ++ more) (with_front (span_bytes input s) later) rest) (sym (append-nil input)) told
+
+    -- more bytes were read
+    pub gives_more : read.event ≡ Found.NeedMore → (came : List ℕ) → Gives c (input ++ came) new (left ++ came) []
+    gives_more event came more later rest t =
+        let next = subst (λ xs. Trace new xs later rest) (append_assoc left came more) t in
+        let told = subst (λ e. Trace c (input ++ (came ++ more)) (observe c.method input spans e later) rest) event (reads c new input (came ++ more) spans read later rest found next) in
+        subst (λ xs. Trace c xs (with_front [] later) rest) (sym (append_assoc input came more)) told
+
+    -- the end was found
+    pub finds_end : (count : ℕ) → read.event ≡ Found.End count → FindsBody c (input ++ []) [] left
+    finds_end count event =
+        let ended = reads c new input [] spans read nothing (left ++ []) found (stops new (left ++ []) (ends_between count event (reading c) found)) in
+        let told = subst (λ e. Trace c (input ++ []) (observe c.method input spans e nothing) (left ++ [])) event ended in
+        record {
+          trailers = headers_at input spans count;
+          trace = subst (λ xs. Trace c (input ++ []) (record { body = record { bytes = []; trailers = headers_at input spans count }; responses = [] }) xs) (append-nil left) told;
+        }
+
+    -- the stream has ended, and so has a body without a length
+    pub finds_close : read.event ≡ Found.NeedMore → reading new ≡ Reads.Body UntilClose → FindsBody c (input ++ []) [] (left ++ [])
+    finds_close event is =
+        let none : left ++ [] ≡ [] = append-nil left ∙ drains event (reading c) refl found is in
+        let closed = subst (λ xs. Trace new xs nothing []) (sym none) (peer_closes new is) in
+        let told = subst (λ e. Trace c (input ++ []) (observe c.method input spans e nothing) []) event (reads c new input [] spans read nothing [] found closed) in
+        record {
+          trailers = [];
+          trace = subst (λ xs. Trace c (input ++ []) nothing xs) (sym none) told;
+        }

@@ -1,0 +1,73 @@
+-- How a collector is reached, and the head of each request [OpenTelemetry protocol, "OTLP/HTTP
+-- Request"].
+use Rattle.std.specs.Prelude.{◌≡◌, ◌⊎◌, ℕ, ◌-◌, ◌==◌, ◌&&◌, Bool, true, false, not, List, [], ◌∷◌, ◌++◌}
+use Rattle.std.specs.Prelude.{length, take, slice_index, codes, string_bytes, if◌then◌else◌, ⊤, refl}
+use Rattle.http_header.specs.HeaderMap.{Entries, insert}
+use Rattle.http_header.specs.FieldValue.{FieldValue, plain_value}
+use Rattle.http_uri.specs.Uri.{Spells}
+use Rattle.http.specs.declared.request.Parts.{Parts}
+use Rattle.otel_otlp.specs.declared.otlp_http.config.ConfigError.{ConfigError}
+use Rattle.otel_otlp.specs.declared.otlp_http.config.ConfigError.TheVariants as error
+
+-- the endpoint, whether it is the endpoint of one signal, the headers of each request, and the
+-- greatest length of a body
+pub record Config : Type 0 where
+  pub endpoint : List ℕ
+  pub is_of_signal : Bool
+  pub headers : Entries FieldValue
+  pub max_body : ℕ
+
+-- a collector on the same machine
+abbrev pub local : Config
+local = record {
+  endpoint = codes "http://localhost:4318";
+  is_of_signal = false;
+  headers = insert [] (codes "user-agent") (plain_value (codes "OTel-OTLP-Exporter-Rattle/0.1.0"));
+  max_body = 4194304;
+}
+
+-- ---- headers
+-- the header, in lower case, is the exporter's own: no configuration sets it
+abbrev pub IsOwn : List ℕ → Type 0
+IsOwn name =
+    (name ≡ codes "content-type") ⊎ ((name ≡ codes "content-length") ⊎ (name ≡ codes "host"))
+
+-- the error names the header, unless memory ran out
+abbrev pub NamesHeader : List ℕ → ConfigError → Type 0
+NamesHeader name (error.Endpoint text) = ⊥
+NamesHeader name (error.Header text) = string_bytes text ≡ name
+NamesHeader name (error.Memory failed) = ⊤
+
+-- ---- the target
+-- whether the text ends with a slash
+abbrev pub ends_with_slash : List ℕ → Bool
+ends_with_slash text = slice_index text (length text - 1) == 47
+
+-- the path added to the endpoint: a slash that both have is written once
+abbrev pub joined : List ℕ → List ℕ → List ℕ
+joined endpoint [] = endpoint
+joined endpoint (c ∷ path) =
+    (if ends_with_slash endpoint then take (length endpoint - 1) endpoint else endpoint) ++ c ∷ path
+
+-- the target of requests for the signal with this path
+abbrev pub target : Config → List ℕ → List ℕ
+target config path = joined config.endpoint (if config.is_of_signal then [] else path)
+
+-- ---- the head
+-- the headers with the content type of JSON, in place of any other
+abbrev pub with_json : Entries FieldValue → Entries FieldValue
+with_json headers =
+    insert headers (codes "content-type") (plain_value (codes "application/json"))
+
+-- a POST to the target, with the configured headers and the content type of JSON
+pub record IsHead (config : Config) (path : List ℕ) (head : Parts) : Type 0 where
+  pub method : head.method ≡ codes "POST"
+  pub uri : Spells (target config path) head.uri
+  pub headers : head.headers ≡ with_json config.headers
+
+-- ---- worked rows
+slash_once : joined (codes "http://h:4318/") (codes "/v1/traces") ≡ codes "http://h:4318/v1/traces"
+slash_once = refl
+
+own_path : joined (codes "http://h/a") [] ≡ codes "http://h/a"
+own_path = refl

@@ -1,0 +1,229 @@
+-- What a client over a reader and a writer sends, and the answer that it reads
+-- [RFC 9110; RFC 9112].
+use Rattle.std.specs.Prelude.{◌≡◌, ◌≤◌, ◌*◌, ℕ, Bool, true, false, List, [], ◌∷◌, ◌++◌, length}
+use Rattle.std.specs.Prelude.{Ok, Option, Some, None, option_map, unwrap_or, Vec, All, IsTrue}
+use Rattle.std.specs.Prelude.{map, fold, codes}
+use Rattle.std.specs.declared.alloc.Global.{Global}
+use Rattle.httparse.specs.Grammar.{print_request}
+use Rattle.httparse.specs.Spans.{name_and_value}
+use Rattle.http_header.specs.Token.{lowercase}
+use Rattle.http_header.specs.FieldValue.{FieldValue, plain_value}
+use Rattle.http_header.specs.HeaderMap.{Entries, append}
+use Rattle.http_uri.specs.declared.uri.Uri.{Uri}
+use Rattle.http_uri.specs.ByteClasses.{framed_text, rsplit_once_back, at_sign}
+use Rattle.http_uri.specs.Uri.{uri_authority, uri_path, uri_query}
+use Rattle.http.specs.declared.request.Parts as Request
+use Rattle.http.specs.declared.response.Parts as Response
+use Rattle.http.specs.declared.response.Response.{Response as Answering}
+use Rattle.http.specs.Response as answered
+use Rattle.http1.specs.declared.client.Client.{Client}
+use Rattle.http1.specs.declared.conn.BodySize.TheVariants.{Known}
+use Rattle.http1.specs.declared.conn.Limits.{Limits}
+use Rattle.http1.specs.Fields.{Header}
+use Rattle.http1.specs.Framing.{method_kind}
+use Rattle.http1.specs.Encoder.{encoder_for, AreAccepted}
+use Rattle.http1.specs.Head.{is_request_line, head_refusal}
+use Rattle.http1.specs.Message as Wire
+use Rattle.http1.specs.Message.{Answer, ReadsAnswers}
+use Rattle.http1.specs.Conn.{Plan, length_header, data_text, after_data, finish_text}
+use Rattle.http1.specs.Client.{new_client, is_interim, request_plan, planned_request}
+use Rattle.http1.specs.Client.{after_request, after_end, with_writing, writing}
+use Rattle.http1.specs.ServerTrace.{SeenBody, no_body}
+use Rattle.http1.specs.ClientTrace.{SeenResponse, answer_view, Seen, Trace}
+use Rattle.http1_typed.specs.Parts.{fields_of, version_of}
+use Rattle.otel_otlp.specs.HttpClient.{Sent}
+
+-- the limits of a response: 64 KiB for its head, 16 KiB for its trailers, and for its chunks'
+-- extensions
+abbrev pub limits : Limits
+limits = record {
+  max_head_len = 64 * 1024;
+  max_extensions_len = 16 * 1024;
+  max_trailers_len = 16 * 1024;
+}
+
+-- the most bytes of a body, 4 MiB
+abbrev pub max_body_len : ℕ
+max_body_len = 4 * 1024 * 1024
+
+-- the requests that it was asked to send, its reader and writer, the bytes that the reader gave
+-- past the last response, and whether another request can be sent
+pub record Streaming (R W : Type 0) : Type 0 where
+  pub sent : List Sent
+  pub reader : R
+  pub writer : W
+  pub unread : List ℕ
+  pub is_open : Bool
+
+-- a new client of the reader and the writer
+abbrev pub initial : {R W : Type 0} → R → W → Streaming R W
+initial reader writer = record {
+  sent = [];
+  reader = reader;
+  writer = writer;
+  unread = [];
+  is_open = true;
+}
+
+-- ---- the request
+-- the URI's host with its port, without the user; empty if the URI has none
+abbrev pub host_of : Uri → List ℕ
+host_of uri = unwrap_or (option_map (λ a. rsplit_once_back at_sign a) (uri_authority uri)) []
+
+-- the URI's path and query
+abbrev pub origin_form : Uri → List ℕ
+origin_form uri = uri_path uri ++ framed_text (codes "?") (uri_query uri) []
+
+-- the headers: `Host`, `Connection`, and then the request's own
+abbrev pub headers_of : Request.Parts → List Header
+headers_of p =
+    (codes "host", host_of p.uri) ∷ (codes "connection", codes "keep-alive") ∷ fields_of p.headers
+
+-- the connection once the head was written
+abbrev pub started : Request.Parts → List ℕ → Client
+started p body = after_request (new_client limits) p.method (Known (length body)) (headers_of p)
+
+-- the connection once the whole request was written
+abbrev pub asking : Request.Parts → List ℕ → Client
+asking p body =
+    after_end (with_writing (started p body) (after_data (writing (started p body)) (length body)))
+
+-- the text of the request: its head, to which a `Content-Length` is added unless the request has
+-- one, and its body
+abbrev pub request_text : Request.Parts → List ℕ → List ℕ
+request_text p body =
+    planned_request (new_client limits) p.method (origin_form p.uri) (Known (length body))
+    (headers_of p)
+    ++ data_text (writing (started p body)) body
+    ++ finish_text (after_data (writing (started p body)) (length body)) []
+
+-- The text is one request: each server whose limits its head is within reads it as the method, the
+-- URI's target, the headers, then a `Content-Length` unless they have one, and the body.
+pub record IsRequest (p : Request.Parts) (body text : List ℕ) : Type 0 where
+  pub message : Wire.Request
+  pub reads : (limits : Limits) → length (print_request message.head) ≤ limits.max_head_len
+      → 2 ≤ limits.max_trailers_len → Wire.ReadsRequestMessage limits text message []
+  pub method : message.head.method ≡ p.method
+  pub target : message.head.target ≡ origin_form p.uri
+  pub added : List Header
+  pub headers : map name_and_value message.head.fields ≡ headers_of p ++ added
+  pub is_added : All (λ h. h ≡ length_header (length body)) added
+  pub content : message.body.bytes ≡ body
+
+-- a connection writes the request
+pub record IsWritable (p : Request.Parts) (body : List ℕ) : Type 0 where
+  pub plan : Plan
+  pub planned :
+      request_plan (new_client limits) p.method (Known (length body)) (headers_of p) ≡ Ok plan
+  pub head :
+      head_refusal (is_request_line p.method (origin_form p.uri) 1) (headers_of p ++ plan.extra)
+      ≡ None
+  pub content : AreAccepted (body ∷ []) (encoder_for plan.framing) []
+
+-- ---- the answer
+-- names in lower case, and the values of one name together
+abbrev pub map_of : List Header → Entries FieldValue
+map_of headers = fold (λ m h. append m (lowercase h.0) (plain_value h.1)) [] headers
+
+-- the parts are the ones of the response
+pub record ArePartsOf (seen : SeenResponse) (p : Response.Parts) : Type 0 where
+  pub status : p.status ≡ seen.status
+  pub version : p.version ≡ version_of seen.minor
+  pub headers : p.headers ≡ map_of seen.headers
+
+-- the statuses are 1xx, but for 101
+abbrev pub AreInterim : List SeenResponse → Type 0
+AreInterim seen = All (λ s. IsTrue (is_interim s.status)) seen
+
+-- The bytes begin with the answer to the request, and `rest` follows it: responses of status 1xx,
+-- which are skipped, and then a response whose parts and whose body, decoded, are the answer's.
+pub record Answers (p : Request.Parts) (stream : List ℕ) (answer : Answering (Vec ℕ Global))
+    (rest : List ℕ) : Type 0 where
+  pub responses : List Answer
+  pub reads : ReadsAnswers limits stream responses rest
+  pub interim : List SeenResponse
+  pub are_interim : AreInterim interim
+  pub last : SeenResponse
+  pub seen : map answer_view responses ≡ interim ++ last ∷ []
+  pub is_final : is_interim last.status ≡ false
+  pub method : last.method ≡ method_kind p.method
+  pub parts : ArePartsOf last (answered.head_of answer)
+  pub body : (answered.body_of answer).items ≡ last.body.bytes
+  pub within : length last.body.bytes ≤ max_body_len
+
+-- ---- steps
+-- the response with this body
+abbrev pub with_body : SeenResponse → SeenBody → SeenResponse
+with_body seen body = record seen { body = body }
+
+-- The connection `first`, which is given the stream, has skipped responses of status 1xx, and
+-- waits for `unread`.
+pub record Skips (first : Client) (stream : List ℕ) (now : Client) (unread : List ℕ) : Type 0 where
+  pub interim : List SeenResponse
+  pub are_interim : AreInterim interim
+  pub same : now ≡ first
+  pub goes_on : (more : List ℕ) (later : Seen) (rest : List ℕ) → later.body ≡ no_body
+      → Trace now (unread ++ more) later rest
+      → Trace first (stream ++ more)
+      (record { body = no_body; responses = interim ++ later.responses }) rest
+
+-- the same, and then the head of a response with these parts, whose body is to come
+pub record FindsHead (first : Client) (stream : List ℕ) (now : Client) (unread : List ℕ)
+    (p : Response.Parts) : Type 0 where
+  pub interim : List SeenResponse
+  pub are_interim : AreInterim interim
+  pub head : SeenResponse
+  pub is_final : is_interim head.status ≡ false
+  pub method : head.method ≡ first.method
+  pub parts : ArePartsOf head p
+  pub goes_on : (more : List ℕ) (later : Seen) (rest : List ℕ)
+      → Trace now (unread ++ more) later rest
+      → Trace first (stream ++ more)
+      (record {
+        body = no_body;
+        responses = interim ++ with_body head later.body ∷ later.responses;
+      }) rest
+
+-- a step towards a head: it is there, or some responses of status 1xx were skipped
+abbrev pub StepsToHead :
+    Client → List ℕ → Client → List ℕ → Option Response.Parts → Type 0
+StepsToHead first stream now unread None = Skips first stream now unread
+StepsToHead first stream now unread (Some p) = FindsHead first stream now unread p
+
+-- what is seen, with more bytes of a body in front
+abbrev pub with_front : List ℕ → Seen → Seen
+with_front bytes later = record later {
+  body = record (later.body) { bytes = bytes ++ later.body.bytes };
+}
+
+-- the connection has given these bytes of a body, and waits for `unread`
+abbrev pub Gives : Client → List ℕ → Client → List ℕ → List ℕ → Type 0
+Gives first stream now unread body =
+    (more : List ℕ) (later : Seen) (rest : List ℕ) → Trace now (unread ++ more) later rest
+    → Trace first (stream ++ more) (with_front body later) rest
+
+-- the connection has given a whole body, and `rest` follows it
+pub record FindsBody (first : Client) (stream body rest : List ℕ) : Type 0 where
+  pub trailers : List Header
+  pub trace : Trace first stream
+      (record { body = record { bytes = body; trailers = trailers }; responses = [] }) rest
+
+-- a step in a body: it has ended without more bytes, or has given this piece
+abbrev pub StepsInBody : Client → List ℕ → Client → List ℕ → List ℕ → Bool → Type 0
+StepsInBody first stream now unread piece true = FindsBody first stream piece unread
+StepsInBody first stream now unread piece false = Gives first stream now unread piece
+
+-- The connection `first`, which is given the stream, has read responses of status 1xx, then the
+-- answer, and `rest` follows it.
+pub record Replies (first : Client) (stream : List ℕ) (answer : Answering (Vec ℕ Global))
+    (rest : List ℕ) : Type 0 where
+  pub interim : List SeenResponse
+  pub are_interim : AreInterim interim
+  pub last : SeenResponse
+  pub is_final : is_interim last.status ≡ false
+  pub method : last.method ≡ first.method
+  pub parts : ArePartsOf last (answered.head_of answer)
+  pub body : (answered.body_of answer).items ≡ last.body.bytes
+  pub within : length last.body.bytes ≤ max_body_len
+  pub trace :
+      Trace first stream (record { body = no_body; responses = interim ++ last ∷ [] }) rest

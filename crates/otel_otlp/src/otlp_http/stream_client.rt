@@ -1,0 +1,188 @@
+//! A client over a reader and a writer, which together carry one connection.
+ghost use Rattle.std.specs.Prelude.{◌≡◌, ℕ, List, [], ◌∷◌, ◌++◌, take, false};
+ghost use Rattle.std.specs.Prelude.{IsTrue, IsErr, IfOk, OnOk, OnErr};
+ghost use Rattle.std.specs.Io.KnownBytes.{Appends, Consumes};
+ghost use Rattle.http.specs.Request.{head_of, body_of};
+ghost use Rattle.http1.specs.Client.{reading};
+ghost use Rattle.http1.specs.Framing.{method_kind};
+ghost use Rattle.http1.specs.declared.conn.Reading.TheVariants as Reading;
+ghost use Rattle.otel_otlp.specs.StreamClient.{initial, request_text, asking, IsRequest, Answers};
+
+mod request;
+mod source;
+
+use crate::otlp_http::client::{HttpClient, HttpError};
+use crate::otlp_http::stream_client::request::write_request;
+use crate::otlp_http::stream_client::source::Source;
+use crate::written::write_bytes;
+use bytes::BytesMut;
+use http::{Request, Response};
+use http1::{Client, Limits};
+use otel_sdk_base::Accepted;
+use std::alloc::Global;
+use std::hash::RandomState;
+use std::io::{Read, Write};
+use std::marker::Model;
+
+/// The most bytes of a response's head.
+pub const MAX_HEAD_LEN: usize = 64 * 1024;
+
+/// The most bytes of a response's body.
+pub const MAX_BODY_LEN: usize = 4 * 1024 * 1024;
+
+/// The limits of a response, beside its body's.
+const LIMITS: Limits = Limits {
+    max_head_len: MAX_HEAD_LEN,
+    max_extensions_len: 16 * 1024,
+    max_trailers_len: 16 * 1024,
+};
+
+/// Sends requests over one connection: writes HTTP/1.1 to a writer, and reads the responses from
+/// a reader, such as both halves of a socket, or the standard output and input of a program that
+/// another one connects. Not in the Rust crates.
+///
+/// ```
+/// let mut client = StreamClient::new(alloc, RandomState::new(&rt)?, reader, writer);
+/// let sent = client.send_bytes(&request(alloc)?);
+/// ```
+///
+/// A request is written with `Host`, from its URI, `Connection: keep-alive`, its own headers, and
+/// `Content-Length`. It isn't written if its own headers name the host or another length. The
+/// URI's scheme isn't looked at. Responses of status 1xx are skipped. The body of the response has
+/// a `Content-Length`, is chunked, or ends where the reader ends. An interrupted read or write is
+/// tried again.
+///
+/// After an error, after a response that closes the connection, and if the reader gave bytes past
+/// the response, no other request is sent: make a new client, of a new connection.
+///
+/// Contracts see the requests that it was asked to send, the reader, the writer, the bytes that
+/// the reader gave past the last response, and whether another request can be sent.
+#[derive(Drop)]
+pub struct StreamClient<R, W> {
+    source: Source<R>,
+    writer: W,
+    is_open: bool,
+    sent: Accepted<Request<Vec<u8>>>,
+}
+
+impl<R, W> Model for StreamClient<R, W> {
+    ghost use Rattle.std.specs.Prelude.{flat_map};
+    ghost use Rattle.otel_otlp.specs.StreamClient.{Streaming};
+
+    ghost Value = { Streaming R W };
+
+    ghost view = { λ c. record {
+      sent = flat_map (λ batch. batch) c.sent.batches;
+      reader = c.source.reader;
+      writer = c.writer;
+      unread = c.source.unread.items;
+      is_open = c.is_open;
+    } };
+}
+
+impl<R, W> StreamClient<R, W> {
+    /// Creates a client of a new connection. The keys are for the maps of headers, whose names
+    /// the server chooses: `RandomState::new(&rt)`.
+    pub fn new(alloc: Global, keys: RandomState, reader: R, writer: W) -> StreamClient<R, W>
+        ensures { result ≡ initial reader writer }
+    {
+        let unread = BytesMut::new(alloc);
+        StreamClient {
+            source: Source {
+                reader,
+                unread,
+                alloc,
+                keys,
+            },
+            writer,
+            is_open: true,
+            sent: Accepted::new(),
+        }
+    }
+
+    /// Returns `true` if another request can be sent.
+    pub fn is_open(&self) -> bool
+        ensures { result ≡ self.now.is_open }
+    {
+        self.is_open
+    }
+
+    /// Returns the reader and the writer.
+    pub fn get_ref(&self) -> (&R, &W)
+        ensures reader { result.0.now ≡ self.now.reader }
+        ensures writer { result.1.now ≡ self.now.writer }
+    {
+        (&self.source.reader, &self.writer)
+    }
+}
+
+// Writes the request. Returns the connection, which waits for the response.
+fn write<W: Write>(
+    alloc: Global,
+    writer: &mut W,
+    request: &Request<Vec<u8>>,
+) -> Result<Client, HttpError>
+    ensures part { (count : ℕ) × Appends (W.contents writer.old) (W.contents writer.new)
+        (take count (request_text (head_of request.now) (body_of request.now).items)) }
+    ensures whole { OnOk result (Appends (W.contents writer.old) (W.contents writer.new)
+        (request_text (head_of request.now) (body_of request.now).items)) }
+    ensures message { OnOk result (IsRequest (head_of request.now) (body_of request.now).items
+        (request_text (head_of request.now) (body_of request.now).items)) }
+    ensures asking { IfOk result (λ connection. connection
+        ≡ asking (head_of request.now) (body_of request.now).items) }
+    ensures waits { IfOk result (λ connection. reading connection ≡ Reading.Head) }
+    ensures method { IfOk result (λ connection. connection.method
+        ≡ method_kind (head_of request.now).method) }
+{
+    let mut connection = Client::new(LIMITS);
+    let text = write_request(alloc, &mut connection, request)?;
+    if write_bytes(writer, &text) < text.len() || writer.flush().is_err() {
+        return Err(HttpError::Unreachable);
+    }
+    Ok(connection)
+}
+
+impl<R: Read + Drop, W: Write + Drop> HttpClient for StreamClient<R, W> {
+    ghost sent = { λ c. c.sent };
+
+    /// Sends the request, and reads its response.
+    ///
+    /// # Errors
+    ///
+    /// After each, no other request is sent.
+    ///
+    /// - `Unreachable` if no other request can be sent or this one can't be written, if the writer
+    ///   or the reader failed, or if the reader ended before the response.
+    /// - `Malformed` if the bytes are no response: also if its head has more than 64 KiB or 128
+    ///   headers, its body more than 4 MiB, or the reader ended in it.
+    /// - `Memory` if out of memory.
+    fn send_bytes(&mut self, request: &Request<Vec<u8>>) -> Result<Response<Vec<u8>>, HttpError>
+        ensures sent { self.new.sent ≡ self.old.sent ++ request.now ∷ [] }
+        ensures part { (count : ℕ)
+            × Appends (W.contents self.old.writer) (W.contents self.new.writer)
+            (take count (request_text (head_of request.now) (body_of request.now).items)) }
+        ensures whole { OnOk result
+            (Appends (W.contents self.old.writer) (W.contents self.new.writer)
+            (request_text (head_of request.now) (body_of request.now).items)) }
+        ensures message { OnOk result
+            (IsRequest (head_of request.now) (body_of request.now).items
+            (request_text (head_of request.now) (body_of request.now).items)) }
+        ensures answer { IfOk result (λ answer. (came : List ℕ)
+            × Consumes (R.remaining self.old.reader) (R.remaining self.new.reader) came
+            × Answers (head_of request.now) (self.old.unread ++ came) answer self.new.unread) }
+        ensures closed { OnErr result (self.new.is_open ≡ false) }
+        ensures quiet { IsTrue self.new.is_open → self.new.unread ≡ [] }
+        ensures refused { self.old.is_open ≡ false → IsErr result
+            × (self.new ≡ record self.old { sent = self.new.sent }) }
+    {
+        self.sent = self.sent.and_one(request);
+        if !self.is_open {
+            return Err(HttpError::Unreachable);
+        }
+        self.is_open = false;
+        let mut connection = write(self.source.alloc, &mut self.writer, request)?;
+        let response = self.source.read_response(&mut connection)?;
+        self.is_open = connection.is_idle() && self.source.unread.is_empty();
+        Ok(response)
+    }
+}

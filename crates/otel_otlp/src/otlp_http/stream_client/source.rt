@@ -1,0 +1,252 @@
+//! Reads a response.
+ghost use Rattle.std.specs.Prelude.{◌≡◌, ℕ, List, ◌++◌, ◌≤◌, length, drop, IfOk, OnOk};
+ghost use Rattle.std.specs.Io.KnownBytes.{Consumes};
+ghost use Rattle.httparse.specs.Spans.{IsResponseWithin};
+ghost use Rattle.http1.specs.Client.{reading};
+ghost use Rattle.http1.specs.declared.conn.Reading.TheVariants as Reading;
+ghost use Rattle.http1_typed.specs.Parts.{IsResponseParts};
+ghost use Rattle.otel_otlp.specs.StreamClient.{StepsToHead, FindsHead, StepsInBody, FindsBody};
+ghost use Rattle.otel_otlp.specs.StreamClient.{Replies, max_body_len};
+
+use crate::otlp_http::client::HttpError;
+use crate::otlp_http::stream_client::MAX_BODY_LEN;
+use bytes::BytesMut;
+use http::Response;
+use http::response::Parts;
+use http1::{Client, Event};
+use http1_typed::response_parts;
+use httparse::spans::{EMPTY_HEADER_SPAN, HeaderSpan, ResponseSpans};
+use std::alloc::{AllocError, Global};
+use std::hash::RandomState;
+use std::io::{ErrorKind, Read};
+
+/// The most headers, and the most trailers, of a response.
+const MAX_HEADERS: usize = 128;
+
+/// The number of bytes for which a read has room.
+const READ_SIZE: usize = 16 * 1024;
+
+/// A reader, and the bytes that it gave and that aren't used yet.
+#[derive(Drop)]
+pub(crate) struct Source<R> {
+    /// The reader.
+    pub reader: R,
+    /// The bytes.
+    pub unread: BytesMut,
+    /// For the responses.
+    pub alloc: Global,
+    /// For the maps of headers, whose names the server chooses.
+    pub keys: RandomState,
+}
+
+// Returns the parts of the head that the connection found, and drops its bytes.
+fn take_head(
+    alloc: Global,
+    keys: RandomState,
+    unread: &mut BytesMut,
+    head: &ResponseSpans,
+    spans: &[HeaderSpan],
+) -> Result<Parts, HttpError>
+    requires { IsResponseWithin unread.old.items spans.now head.now }
+    ensures parts { IfOk result (IsResponseParts unread.old.items spans.now head.now) }
+    ensures rest { OnOk result (unread.new.items ≡ drop head.now.len unread.old.items) }
+{
+    let Ok(text) = unread.freeze_to(head.len) else {
+        return Err(HttpError::Memory(AllocError));
+    };
+    match response_parts(alloc, keys, &text, head, spans) {
+        Ok(parts) => Ok(parts),
+        Err(http::Error::OutOfMemory) => Err(HttpError::Memory(AllocError)),
+        Err(_) => Err(HttpError::Malformed),
+    }
+}
+
+// Appends the piece to the body, if the body stays within its limit.
+fn add_piece(body: &mut Vec<u8>, piece: &[u8]) -> Result<(), HttpError>
+    requires { length body.old.items ≤ max_body_len }
+    ensures added { OnOk result (body.new.items ≡ body.old.items ++ piece.now) }
+    ensures within { OnOk result (length body.new.items ≤ max_body_len) }
+{
+    if piece.len() > MAX_BODY_LEN - body.len() {
+        return Err(HttpError::Malformed);
+    }
+    body.extend_from_slice(piece).map_err(HttpError::Memory)
+}
+
+impl<R: Read> Source<R> {
+    // Reads once, and again if the read was interrupted. Returns the number of bytes, 0 at the end
+    // of the stream.
+    fn fill(&mut self) -> Result<usize, HttpError>
+        ensures { IfOk result (λ count. (came : List ℕ) × (length came ≡ count)
+            × (self.new.unread.items ≡ self.old.unread.items ++ came)
+            × Consumes (R.remaining self.old.reader) (R.remaining self.new.reader) came) }
+    {
+        self.unread.reserve(READ_SIZE).map_err(HttpError::Memory)?;
+        for _ in 0..u64::MAX {
+            match self.unread.read_from(&mut self.reader) {
+                Ok(count) => return Ok(count),
+                Err(error) => match error.kind() {
+                    ErrorKind::Interrupted => {}
+                    _ => return Err(HttpError::Unreachable),
+                },
+            }
+        }
+        Err(HttpError::Unreachable)
+    }
+
+    // Reads more of a head.
+    fn fill_head(&mut self) -> Result<(), HttpError>
+        ensures { OnOk result ((came : List ℕ)
+            × (self.new.unread.items ≡ self.old.unread.items ++ came)
+            × Consumes (R.remaining self.old.reader) (R.remaining self.new.reader) came) }
+    {
+        if self.fill()? > 0 {
+            return Ok(());
+        }
+        if self.unread.is_empty() {
+            return Err(HttpError::Unreachable);
+        }
+        Err(HttpError::Malformed)
+    }
+
+    // Takes a step towards a head. Returns it once it is there.
+    fn step_head(
+        &mut self,
+        connection: &mut Client,
+        spans: &mut [HeaderSpan],
+    ) -> Result<Option<Parts>, HttpError>
+        requires { reading connection.old ≡ Reading.Head }
+        ensures steps { IfOk result (λ found. (came : List ℕ)
+            × Consumes (R.remaining self.old.reader) (R.remaining self.new.reader) came
+            × StepsToHead connection.old (self.old.unread.items ++ came) connection.new
+            self.new.unread.items found) }
+    {
+        let Ok(read) = connection.read(self.unread.as_slice(), spans) else {
+            return Err(HttpError::Malformed);
+        };
+        match read.event {
+            Event::Head(head) => {
+                let parts = take_head(self.alloc, self.keys, &mut self.unread, &head, spans)?;
+                Ok(Some(parts))
+            }
+            Event::Informational(_) => {
+                self.unread.advance(read.consumed);
+                Ok(None)
+            }
+            Event::NeedMore => {
+                self.fill_head()?;
+                Ok(None)
+            }
+            _ => Err(HttpError::Malformed),
+        }
+    }
+
+    /// Reads the head of a response. Skips responses of status 1xx.
+    ///
+    /// # Errors
+    ///
+    /// - `Unreachable` if the reader failed, or ended before the first byte.
+    /// - `Malformed` if the bytes are no head within the limits, or the reader ended in it.
+    /// - `Memory` if out of memory.
+    pub(crate) fn read_head(&mut self, connection: &mut Client) -> Result<Parts, HttpError>
+        requires { reading connection.old ≡ Reading.Head }
+        ensures { IfOk result (λ parts. (came : List ℕ)
+            × Consumes (R.remaining self.old.reader) (R.remaining self.new.reader) came
+            × FindsHead connection.old (self.old.unread.items ++ came) connection.new
+            self.new.unread.items parts) }
+    {
+        let mut spans = [EMPTY_HEADER_SPAN; MAX_HEADERS];
+        for _ in 0..u64::MAX {
+            if let Some(parts) = self.step_head(connection, &mut spans)? {
+                return Ok(parts);
+            }
+        }
+        Err(HttpError::Malformed)
+    }
+
+    // Takes a step in a body. Returns `true` if the body has ended.
+    fn step_body(
+        &mut self,
+        connection: &mut Client,
+        body: &mut Vec<u8>,
+        spans: &mut [HeaderSpan],
+    ) -> Result<bool, HttpError>
+        requires { length body.old.items ≤ max_body_len }
+        ensures within { OnOk result (length body.new.items ≤ max_body_len) }
+        ensures steps { IfOk result (λ ended. (came : List ℕ) × (piece : List ℕ)
+            × Consumes (R.remaining self.old.reader) (R.remaining self.new.reader) came
+            × (body.new.items ≡ body.old.items ++ piece)
+            × StepsInBody connection.old (self.old.unread.items ++ came) connection.new
+            self.new.unread.items piece ended) }
+    {
+        let Ok(read) = connection.read(self.unread.as_slice(), spans) else {
+            return Err(HttpError::Malformed);
+        };
+        match read.event {
+            Event::Data(piece) => {
+                add_piece(body, piece.of(self.unread.as_slice()))?;
+                self.unread.advance(read.consumed);
+                Ok(false)
+            }
+            Event::End(_) => {
+                self.unread.advance(read.consumed);
+                Ok(true)
+            }
+            Event::NeedMore => {
+                self.unread.advance(read.consumed);
+                if self.fill()? > 0 {
+                    return Ok(false);
+                }
+                match connection.read_eof() {
+                    Ok(Event::End(_)) => Ok(true),
+                    _ => Err(HttpError::Malformed),
+                }
+            }
+            _ => Err(HttpError::Malformed),
+        }
+    }
+
+    /// Reads the body of the response whose head was read.
+    ///
+    /// # Errors
+    ///
+    /// - `Unreachable` if the reader failed.
+    /// - `Malformed` if the bytes are no body within the limits, or the reader ended in it.
+    /// - `Memory` if out of memory.
+    pub(crate) fn read_body(&mut self, connection: &mut Client) -> Result<Vec<u8>, HttpError>
+        ensures within { IfOk result (λ body. length body.items ≤ max_body_len) }
+        ensures body { IfOk result (λ body. (came : List ℕ)
+            × Consumes (R.remaining self.old.reader) (R.remaining self.new.reader) came
+            × FindsBody connection.old (self.old.unread.items ++ came) body.items
+            self.new.unread.items) }
+    {
+        let mut body = Vec::new(self.alloc);
+        let mut spans = [EMPTY_HEADER_SPAN; MAX_HEADERS];
+        for _ in 0..u64::MAX {
+            if self.step_body(connection, &mut body, &mut spans)? {
+                return Ok(body);
+            }
+        }
+        Err(HttpError::Malformed)
+    }
+
+    /// Reads the response to the request that the connection has sent.
+    ///
+    /// # Errors
+    ///
+    /// Those of [`Source::read_head`] and [`Source::read_body`].
+    pub(crate) fn read_response(
+        &mut self,
+        connection: &mut Client,
+    ) -> Result<Response<Vec<u8>>, HttpError>
+        requires { reading connection.old ≡ Reading.Head }
+        ensures { IfOk result (λ answer. (came : List ℕ)
+            × Consumes (R.remaining self.old.reader) (R.remaining self.new.reader) came
+            × Replies connection.old (self.old.unread.items ++ came) answer
+            self.new.unread.items) }
+    {
+        let parts = self.read_head(connection)?;
+        let body = self.read_body(connection)?;
+        Ok(Response::from_parts(parts, body))
+    }
+}
