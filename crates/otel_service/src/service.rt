@@ -2,6 +2,7 @@
 
 use anyhow::{Context, Error, Result, bail, ensure};
 use bytes::{BufMut, Bytes};
+use clap::ArgMatches;
 use http::{HeaderMap, HeaderName, HeaderValue, Request, StatusCode};
 use http_server::{Config, Connection, Reason, Response, State};
 use opentelemetry::logs::{Logger, LoggerProvider};
@@ -10,9 +11,9 @@ use opentelemetry::{KeyValue, Value};
 use otel_appender_log::OpenTelemetryLogBridge;
 use otel_http::{HeaderExtractor, HeaderInjector};
 use otel_otlp::OtlpJsonLogExporter;
-use otel_propagators::W3cPropagator;
-use otel_sdk::logs::{SdkLogger, SdkLoggerProvider, SimpleLogProcessor};
-use otel_sdk::trace::{Clock, Pipeline, SpanExporter, Tracing};
+use otel_sdk::env::{ConfiguredPropagator, EnvConfig, WithEnv};
+use otel_sdk::logs::{SdkLoggerProvider, SimpleLogProcessor, SimpleLogger};
+use otel_sdk::trace::{Pipeline, SpanExporter, Tracing};
 use std::alloc::AllocError;
 use std::hash::RandomState;
 use std::io::{self, Read, Stderr, Write};
@@ -20,20 +21,30 @@ use std::io::{self, Read, Stderr, Write};
 /// The name of the service.
 pub const NAME: &str = "otel_service";
 
-/// The number of requests whose spans are exported together.
-const BATCH: u64 = 170;
+/// The number of spans that are exported together.
+const BATCH: usize = 512;
 
 /// A logger that writes its records to standard error, as lines of JSON.
-type LineLogger<C> = SdkLogger<SimpleLogProcessor<OtlpJsonLogExporter<Stderr>>, C>;
+type LineLogger = SimpleLogger<OtlpJsonLogExporter<Stderr>, HostRuntime>;
 
-/// Makes the logger, whose records have the time of the clock, and the propagator.
-fn tools<C: Clock>(rt: HostRuntime, clock: C) -> Result<(LineLogger<C>, W3cPropagator)> {
+/// Makes the logger and the propagator.
+fn tools(rt: HostRuntime, config: &EnvConfig) -> Result<(LineLogger, ConfiguredPropagator)> {
     let exporter = OtlpJsonLogExporter::new(rt.alloc(), rt.stderr())?;
     let lines = SimpleLogProcessor::new(rt.alloc(), exporter)?;
     let loggers = SdkLoggerProvider::builder(rt).with_log_processor(lines);
-    let loggers = loggers.with_clock(clock).build(rt.alloc())?;
+    let loggers = loggers.with_env(rt.alloc(), config)?.build(rt.alloc())?;
     let logger = loggers.logger(rt.alloc(), NAME.into())?;
-    Ok((logger, W3cPropagator::new(rt.alloc())?))
+    Ok((logger, config.propagator(rt.alloc())?))
+}
+
+/// Reads a line `name: value`.
+fn header(rt: HostRuntime, line: &str) -> Option<(HeaderName, HeaderValue)> {
+    let (name, value) = line.split_once(':')?;
+    let name = HeaderName::from_bytes(rt.alloc(), name.as_bytes()).ok()?;
+    Some((
+        name,
+        HeaderValue::from_str(rt.alloc(), value.trim_ascii()).ok()?,
+    ))
 }
 
 /// A service that answers requests.
@@ -44,45 +55,43 @@ pub struct Service<P, E: SpanExporter, L> {
     /// Starts and exports the spans.
     pub tracing: Tracing<P, E>,
     /// Reads and writes the headers.
-    pub propagator: W3cPropagator,
+    pub propagator: ConfiguredPropagator,
     /// Writes the log lines.
     pub log: OpenTelemetryLogBridge<L>,
-    /// The number of requests that were answered.
-    pub requests: u64,
     /// Whether a failed export was told.
     pub is_told: bool,
 }
 
-impl<P: Pipeline, E: SpanExporter, C: Clock> Service<P, E, LineLogger<C>> {
-    /// Answers the requests of standard input, and exports their spans. The log lines have the time
-    /// of the clock.
-    ///
-    /// # Errors
-    ///
-    /// The reason why the input isn't read, an answer isn't written, or the spans aren't exported.
-    pub fn serve(rt: HostRuntime, is_http: bool, tracing: Tracing<P, E>, clock: C) -> Result<()> {
-        let (logger, propagator) = tools(rt, clock)?;
-        let mut service = Service {
-            rt,
-            tracing,
-            propagator,
-            log: OpenTelemetryLogBridge::new(rt.alloc(), logger),
-            requests: 0,
-            is_told: false,
-        };
-        let answered = service.answer_input(rt, is_http);
-        let exported = service.tracing.shutdown();
-        exported.context("some spans are lost").and(answered)
-    }
+/// Answers the requests of standard input, and exports their spans.
+///
+/// # Errors
+///
+/// The reason why the input isn't read, an answer isn't written, or spans are lost.
+pub fn serve<P: Pipeline, E: SpanExporter>(
+    rt: HostRuntime,
+    config: &EnvConfig,
+    matches: &ArgMatches<'_>,
+    tracing: Tracing<P, E>,
+) -> Result<()> {
+    let (logger, propagator) = tools(rt, config)?;
+    let mut service = Service {
+        rt,
+        tracing,
+        propagator,
+        log: OpenTelemetryLogBridge::new(rt.alloc(), logger),
+        is_told: false,
+    };
+    let answered = service.answer_input(rt, matches);
+    service.finish().and(answered)
 }
 
 impl<P: Pipeline, E: SpanExporter, L: Logger> Service<P, E, L> {
     /// Answers the requests of standard input, until it ends or a request is refused.
-    fn answer_input(&mut self, rt: HostRuntime, is_http: bool) -> Result<()> {
-        if !is_http {
+    fn answer_input(&mut self, rt: HostRuntime, matches: &ArgMatches<'_>) -> Result<()> {
+        if matches.get_flag("headers") {
             return self.answer_lines(rt.stdin(), &mut rt.stdout());
         }
-        let mut peer = Connection::new(self.rt.alloc(), RandomState::new(&rt)?, Config::default());
+        let mut peer = Connection::new(rt.alloc(), RandomState::new(&rt)?, Config::default());
         self.answer_peer(rt, &mut peer)
     }
 
@@ -105,18 +114,14 @@ impl<P: Pipeline, E: SpanExporter, L: Logger> Service<P, E, L> {
         let text = io::read_to_string(self.rt.alloc(), input)?;
         let mut headers = HeaderMap::new(self.rt.alloc());
         for line in text.trim_ascii().lines() {
-            if let Some((name, value)) = line.split_once(':')
-                && let Ok(name) = HeaderName::from_bytes(self.rt.alloc(), name.as_bytes())
-                && let Ok(value) = HeaderValue::from_str(self.rt.alloc(), value.trim_ascii())
-            {
+            if let Some((name, value)) = header(self.rt, line) {
                 headers.append(name, value)?;
             } else if line.is_empty() && !headers.is_empty() {
-                output.write_all(&self.answer("/cart", &headers)?)?;
-                writeln!(output)?;
+                writeln!(output, "{}", self.answer("/cart", &headers)?)?;
                 headers.clear();
             }
         }
-        Ok(output.write_all(&self.answer("/cart", &headers)?)?)
+        Ok(write!(output, "{}", self.answer("/cart", &headers)?)?)
     }
 
     /// Answers the request under the span that its headers name. Returns the headers that are sent
@@ -125,7 +130,7 @@ impl<P: Pipeline, E: SpanExporter, L: Logger> Service<P, E, L> {
     /// # Errors
     ///
     /// The reason why the request isn't served, which its span shows.
-    pub fn answer(&mut self, path: &str, headers: &HeaderMap) -> Result<Vec<u8>> {
+    pub fn answer(&mut self, path: &str, headers: &HeaderMap) -> Result<String> {
         let received = HeaderExtractor::new(self.rt.alloc(), headers)?;
         let caller = self.tracing.receive(&self.propagator, &received)?;
         let builder = SpanBuilder::from_name("serve".into());
@@ -134,12 +139,9 @@ impl<P: Pipeline, E: SpanExporter, L: Logger> Service<P, E, L> {
         if let Err(error) = &lines {
             drop(self.show(error));
         }
-        if let Ok(span) = span {
-            self.tracing.exit(span);
-        }
+        drop(span.map(|span| self.tracing.exit(span)));
         self.tracing.detach(caller);
-        self.requests = self.requests.wrapping_add(1);
-        if self.requests % BATCH == 0 {
+        if self.tracing.ended_spans() >= BATCH {
             self.export();
         }
         lines
@@ -161,34 +163,38 @@ impl<P: Pipeline, E: SpanExporter, L: Logger> Service<P, E, L> {
         }
     }
 
-    /// Does the work of a request in two spans. Returns the headers that are sent on.
-    fn work(&mut self, path: &str) -> Result<Vec<u8>> {
+    /// Exports the last spans.
+    fn finish(&mut self) -> Result<()> {
+        self.tracing.shutdown().context("some spans are lost")?;
+        let dropped = self.tracing.dropped_spans();
+        ensure!(dropped == 0, "{dropped} spans are lost: the queue was full");
+        Ok(())
+    }
+
+    /// Does the work of a request in two spans. Returns the headers that are sent on, as lines.
+    fn work(&mut self, path: &str) -> Result<String> {
         let load = self.tracing.enter("load cart")?;
-        let baggage = self.tracing.context().baggage();
-        if let Some(user) = baggage.and_then(|baggage| baggage.get("userId")) {
-            let user = KeyValue::new("user.id".into(), Value::from(user.clone()?));
-            self.tracing.set_attribute(user)?;
-        }
-        let none = Vec::new(self.rt.alloc());
-        self.tracing.add_event("cache miss".into(), none)?;
+        self.load()?;
         self.tracing.exit(load);
         let price = self.tracing.enter("price")?;
         self.tracing.exit(price);
         ensure!(path == "/cart", "no price for {path}");
         let text = format!(in self.rt.alloc(); "served {path}")?;
         log::info!(self.log.sink(self.tracing.context()); target: NAME, "{text}");
-        self.forward()
-    }
-
-    /// Sends headers on. Returns them as lines.
-    fn forward(&self) -> Result<Vec<u8>> {
         let mut sent = HeaderInjector::new(HeaderMap::new(self.rt.alloc()));
         self.tracing.send(&self.propagator, &mut sent)?;
-        let mut lines = Vec::new(self.rt.alloc());
-        for (name, value) in &sent.headers {
-            writeln!(lines, "{}: {}", name.as_str(), value.to_str()?)?;
+        Ok(sent.to_string(self.rt.alloc())?)
+    }
+
+    /// Loads the cart of the user that the baggage names.
+    fn load(&mut self) -> Result<()> {
+        let baggage = self.tracing.context().baggage();
+        if let Some(user) = baggage.and_then(|baggage| baggage.get("userId")) {
+            let user = KeyValue::new("user.id".into(), Value::from(user.clone()?));
+            self.tracing.set_attribute(user)?;
         }
-        Ok(lines)
+        let none = Vec::new(self.rt.alloc());
+        Ok(self.tracing.add_event("cache miss".into(), none)?)
     }
 }
 
@@ -197,7 +203,7 @@ impl<P: Pipeline, E: SpanExporter, L: Logger> http_server::Service for Service<P
 
     fn call(&mut self, request: &Request<Bytes>, answer: &mut Response) -> Result<(), AllocError> {
         match self.answer(request.uri().path(), request.headers()) {
-            Ok(lines) => drop(answer.body.put_slice(&lines)),
+            Ok(lines) => drop(answer.body.put_slice(lines.as_bytes())),
             Err(_) => answer.status = StatusCode::INTERNAL_SERVER_ERROR,
         }
         Ok(())

@@ -8,7 +8,7 @@ use opentelemetry::trace::{SpanId, SpanKind, Status};
 use opentelemetry::{StringValue, Value};
 use otel_appender_log::OpenTelemetryLogBridge;
 use otel_otlp::OtlpJsonLogExporter;
-use otel_propagators::W3cPropagator;
+use otel_sdk::EnvConfig;
 use otel_sdk::logs::{SdkLoggerProvider, SimpleLogProcessor};
 use otel_sdk::trace::{CountedClock, FinishedSpans, InMemorySpanExporter, SpanData, Tracing};
 use std::process::Abort;
@@ -38,9 +38,8 @@ fn answered(rt: HostRuntime, given: &[u8], fails: bool) -> anyhow::Result<Outcom
     let mut service = Service {
         rt,
         tracing,
-        propagator: W3cPropagator::new(alloc)?,
+        propagator: EnvConfig::from_vars(alloc, &[])?.propagator(alloc)?,
         log: OpenTelemetryLogBridge::new(alloc, loggers.logger(alloc, StringValue::from("test"))?),
-        requests: 0,
         is_told: false,
     };
     let mut lines = Vec::new(alloc);
