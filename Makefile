@@ -6,6 +6,7 @@
 #   make example                    runs a service: prints the headers that it sends on for examples/service and for no headers,
 #                                   a picture of its traces, its log lines, and its spans as lines of JSON
 #   make example-c                  runs a C program with the static library of crates/otel_c, which is proved first
+#   make install PREFIX=P           installs this library with its header under P: libraries, pkg-config's file and a manual page
 #   make test                       checks every proof, test, vector, misuse case and run out of memory, and the wrong bodies that
 #                                   may have become right
 #
@@ -18,7 +19,9 @@
 #   make vectors                    compares answers with recorded ones of the Rust crate
 #   make otlp                       reads lines of JSON with another implementation
 #   make b3                         exchanges headers of B3 with Zipkin's libraries
-#   make c                          calls the library from C
+#   make collector                  sends spans to a collector on the loopback address, by OTLP over HTTP
+#   make c                          calls the library from C, Python and Go
+#   make fuzz-c                     fuzzes the library for C; RUNS=N sets the number of runs
 #   make misuse                     checks that misuse doesn't compile; CASE=NAME one case
 #   make memory                     runs programs out of memory: each allocation fails in turn
 #   make long                       runs the programs on long inputs
@@ -34,14 +37,16 @@ MAKEFLAGS += --no-print-directory
 SHELL := /bin/bash
 
 INPUT ?= examples/first-run
+PREFIX ?= /usr/local
 COUNT ?= 10000
 SEED ?= 1
+RUNS ?= 10000000
 GIVEN := $(if $(filter -,$(INPUT)),,< "$(INPUT)")
 # Stops if CRATE isn't a crate.
 CRATES := $(patsubst crates/%/src,%,$(wildcard crates/*/src))
 IS_CRATE = @$(if $(filter $(CRATE),$(CRATES)),true,echo 'make $@: name a crate, as in `make $@ CRATE=otel_ids`: $(CRATES)' >&2; exit 2)
 
-.PHONY: run prove example example-c test check tests edit mutants vectors otlp b3 c misuse memory long calls new-crate fuzz documents bench
+.PHONY: run prove example example-c install test check tests edit mutants vectors otlp b3 collector c fuzz-c misuse memory long calls new-crate fuzz documents bench
 
 run:
 	@program=$$(tests/tools/programs.py path otel_carry) && "$$program" $(GIVEN)
@@ -56,8 +61,11 @@ example:
 
 example-c:
 	@archive=$$(tests/tools/programs.py archive) && room=$$(mktemp -d) && trap 'rm -rf "$$room"' EXIT \
-		&& cc -Icrates/otel_c/include examples/c/forward.c "$$archive" "$$(dirname "$$(rt doc)")/c/liblibc_c.a" -o "$$room/forward" \
+		&& crates/otel_c/install "$$archive" "$$room" && cc -I"$$room/include" examples/c/forward.c "$$room/lib/libotel_c.a" -o "$$room/forward" \
 		&& "$$room/forward" < examples/c/received
+
+install:
+	@archive=$$(tests/tools/programs.py archive) && crates/otel_c/install "$$archive" "$(PREFIX)"
 
 test:
 	@tests/tools/all
@@ -85,8 +93,15 @@ otlp:
 b3:
 	@tests/tools/progress.py --part b3 tests/b3/run
 
+collector:
+	@tests/tools/progress.py --part 'spans to a collector' tests/otlp_http/run
+
 c:
 	@tests/tools/progress.py --part 'calls from C' tests/c/run
+
+fuzz-c:
+	@archive=$$(tests/tools/programs.py archive) && room=$$(mktemp -d) && trap 'rm -rf "$$room"' EXIT \
+		&& crates/otel_c/install "$$archive" "$$room" && tests/tools/progress.py --part 'the fuzzer' tests/c/fuzzed "$$room" "$(RUNS)"
 
 misuse:
 	@tests/tools/progress.py --part misuse tests/misuse/run $(CASE)

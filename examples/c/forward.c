@@ -1,6 +1,7 @@
 /* Prints the headers to send on for those received, one `name: value` a line on standard input.
  *
  *     make example-c
+ *     cc forward.c $(pkg-config --cflags --libs otel_c)
  */
 #include <stdio.h>
 #include <string.h>
@@ -8,30 +9,33 @@
 #include "otel.h"
 
 /* Adds the header of a line. One that isn't valid is left out. */
-static uint32_t add(otel_handle *headers, const char *line) {
+static otel_status add(otel_handle *headers, const char *line) {
     size_t name = strcspn(line, ":"), end = strcspn(line, "\r\n");
     size_t value = name < end ? name + 1 + strspn(line + name + 1, " \t") : end;
-    uint32_t status = otel_headers_append(headers, line, name, line + value, end - value);
-    return status == OTEL_NO_MEMORY ? status : OTEL_OK;
+    otel_status status = otel_headers_append(headers, line, name, line + value, end - value);
+    return status == OTEL_STATUS_NO_MEMORY ? status : OTEL_STATUS_OK;
 }
 
 int main(void) {
     static const char *const names[] = {"traceparent", "tracestate", "baggage"};
-    static char room[32768];
+    static char buffer[32768];
     size_t length;
     otel_handle received = OTEL_NOTHING, context = OTEL_NOTHING, sent = OTEL_NOTHING;
-    uint32_t status = otel_headers_new(&received);
-    while (status == OTEL_OK && fgets(room, sizeof room, stdin) != NULL)
-        status = add(&received, room);
-    if (status == OTEL_OK && (status = otel_context_new(&context)) == OTEL_OK
-        && (status = otel_context_extract(&received, &context)) == OTEL_OK
-        && (status = otel_headers_new(&sent)) == OTEL_OK)
+    otel_status status = otel_headers_new(&received);
+    while (status == OTEL_STATUS_OK && fgets(buffer, sizeof buffer, stdin) != NULL)
+        status = add(&received, buffer);
+    if (status == OTEL_STATUS_OK && (status = otel_context_new(&context)) == OTEL_STATUS_OK
+        && (status = otel_context_extract(&received, &context)) == OTEL_STATUS_OK
+        && (status = otel_headers_new(&sent)) == OTEL_STATUS_OK)
         status = otel_context_inject(&context, &sent);
-    for (size_t at = 0; at < 3 && status == OTEL_OK; at++)
-        if (otel_headers_get(&sent, names[at], strlen(names[at]), room, sizeof room, &length) == OTEL_OK)
-            printf("%s: %.*s\n", names[at], (int)length, room);
+    for (size_t at = 0; at < 3 && status == OTEL_STATUS_OK; at++)
+        if (otel_headers_get(&sent, names[at], strlen(names[at]), buffer, sizeof buffer, &length)
+            == OTEL_STATUS_OK)
+            printf("%s: %.*s\n", names[at], (int)length, buffer);
     otel_free(&received);
     otel_free(&context);
     otel_free(&sent);
-    return status != OTEL_OK;
+    if (status != OTEL_STATUS_OK)
+        fprintf(stderr, "forward: %s\n", otel_status_text(status));
+    return status != OTEL_STATUS_OK;
 }

@@ -7,53 +7,54 @@
 static void reads(void) {
     otel_handle context = OTEL_NOTHING;
     size_t length = 7;
-    CALL(OTEL_INVALID, otel_baggage_length(&context, &length));
+    CALL(OTEL_STATUS_INVALID, otel_baggage_length(&context, &length));
     check(length == 7, "the length of nothing");
-    LEAVES(OTEL_INVALID, otel_baggage_key, &context, 0);
-    LEAVES(OTEL_INVALID, otel_baggage_get, &context, TEXT("k"));
-    LEAVES(OTEL_INVALID, otel_baggage_metadata, &context, TEXT("k"));
-    CALL(OTEL_OK, otel_context_new(&context));
-    CALL(OTEL_OK, otel_baggage_length(&context, &length));
+    LEAVES(OTEL_STATUS_INVALID, otel_baggage_key, &context, 0);
+    LEAVES(OTEL_STATUS_INVALID, otel_baggage_get, &context, TEXT("k"));
+    LEAVES(OTEL_STATUS_INVALID, otel_baggage_metadata, &context, TEXT("k"));
+    CALL(OTEL_STATUS_OK, otel_context_new(&context));
+    CALL(OTEL_STATUS_OK, otel_baggage_length(&context, &length));
     check(length == 0, "the length of no baggage");
-    LEAVES(OTEL_ABSENT, otel_baggage_key, &context, 0);
-    LEAVES(OTEL_ABSENT, otel_baggage_get, &context, TEXT("k"));
-    LEAVES(OTEL_ABSENT, otel_baggage_metadata, &context, TEXT("k"));
+    LEAVES(OTEL_STATUS_ABSENT, otel_baggage_key, &context, 0);
+    LEAVES(OTEL_STATUS_ABSENT, otel_baggage_get, &context, TEXT("k"));
+    LEAVES(OTEL_STATUS_ABSENT, otel_baggage_metadata, &context, TEXT("k"));
     /* A header of W3C baggage, "baggage", with an escaped value. */
     extract(&context, "baggage",
             "key1=value1;property1;property2, serverNode=DF%2028, key3=value3; p=v");
-    CALL(OTEL_OK, otel_baggage_length(&context, &length));
+    CALL(OTEL_STATUS_OK, otel_baggage_length(&context, &length));
     check(length == 3, "the length of three members");
     WRITES("key1", otel_baggage_key, &context, 0);
     WRITES("serverNode", otel_baggage_key, &context, 1);
     WRITES("key3", otel_baggage_key, &context, 2);
-    LEAVES(OTEL_ABSENT, otel_baggage_key, &context, 3);
-    LEAVES(OTEL_ABSENT, otel_baggage_key, &context, SIZE_MAX);
+    LEAVES(OTEL_STATUS_ABSENT, otel_baggage_key, &context, 3);
+    LEAVES(OTEL_STATUS_ABSENT, otel_baggage_key, &context, SIZE_MAX);
     WRITES("value1", otel_baggage_get, &context, TEXT("key1"));
     WRITES("DF 28", otel_baggage_get, &context, TEXT("serverNode"));
     WRITES("property1;property2", otel_baggage_metadata, &context, TEXT("key1"));
     WRITES("", otel_baggage_metadata, &context, TEXT("serverNode"));
     WRITES("p=v", otel_baggage_metadata, &context, TEXT("key3"));
-    LEAVES(OTEL_ABSENT, otel_baggage_get, &context, TEXT("Key1"));
-    LEAVES(OTEL_ABSENT, otel_baggage_metadata, &context, TEXT("key2"));
-    LEAVES(OTEL_NOT_TEXT, otel_baggage_get, &context, TEXT("key\xff"));
-    LEAVES(OTEL_NOT_TEXT, otel_baggage_metadata, &context, TEXT("\xff"));
+    LEAVES(OTEL_STATUS_ABSENT, otel_baggage_get, &context, TEXT("Key1"));
+    LEAVES(OTEL_STATUS_ABSENT, otel_baggage_metadata, &context, TEXT("key2"));
+    LEAVES(OTEL_STATUS_NOT_TEXT, otel_baggage_get, &context, TEXT("key\xff"));
+    LEAVES(OTEL_STATUS_NOT_TEXT, otel_baggage_metadata, &context, TEXT("\xff"));
     otel_free(&context);
 }
 
 static void sets(void) {
     otel_handle context = OTEL_NOTHING, changed = OTEL_NOTHING;
     extract(&context, "traceparent", PARENT);
-    CALL(OTEL_OK,
+    CALL(OTEL_STATUS_OK,
          otel_baggage_set(&context, TEXT("k1"), TEXT("a, b"), TEXT(" p=1 ;q\t"), &changed));
     injects(&changed, "baggage", "k1=a%2C%20b;p=1 ;q");
     injects(&changed, "traceparent", PARENT);
     WRITES("p=1 ;q", otel_baggage_metadata, &changed, TEXT("k1"));
     injects(&context, "baggage", "");
     /* The other handle's object is freed. A new key goes last. */
-    CALL(OTEL_OK, otel_baggage_set(&changed, TEXT("k2"), TEXT("\xc3\xa9"), TEXT(""), &context));
+    CALL(OTEL_STATUS_OK, otel_baggage_set(&changed, TEXT("k2"), TEXT("\xc3\xa9"), TEXT(""),
+         &context));
     injects(&context, "baggage", "k1=a%2C%20b;p=1 ;q,k2=%C3%A9");
     /* A present key keeps its place, but not its metadata. */
-    CALL(OTEL_OK, otel_baggage_set(&context, TEXT("k1"), TEXT("c"), TEXT(""), &changed));
+    CALL(OTEL_STATUS_OK, otel_baggage_set(&context, TEXT("k1"), TEXT("c"), TEXT(""), &changed));
     injects(&changed, "baggage", "k1=c,k2=%C3%A9");
     injects(&context, "baggage", "k1=a%2C%20b;p=1 ;q,k2=%C3%A9");
     otel_free(&changed);
@@ -63,13 +64,13 @@ static void sets(void) {
 static void removes(void) {
     otel_handle context = OTEL_NOTHING, changed = OTEL_NOTHING;
     extract(&context, "traceparent", PARENT);
-    CALL(OTEL_OK, otel_baggage_remove(&context, TEXT("k1"), &changed));
+    CALL(OTEL_STATUS_OK, otel_baggage_remove(&context, TEXT("k1"), &changed));
     injects(&changed, "baggage", "");
     extract(&context, "baggage", "k1=a;p,k2=b,k3=c;q");
-    CALL(OTEL_OK, otel_baggage_remove(&context, TEXT("k2"), &changed));
+    CALL(OTEL_STATUS_OK, otel_baggage_remove(&context, TEXT("k2"), &changed));
     injects(&changed, "baggage", "k1=a;p,k3=c;q");
     injects(&changed, "traceparent", PARENT);
-    CALL(OTEL_OK, otel_baggage_remove(&context, TEXT("K2"), &changed));
+    CALL(OTEL_STATUS_OK, otel_baggage_remove(&context, TEXT("K2"), &changed));
     injects(&changed, "baggage", "k1=a;p,k2=b,k3=c;q");
     injects(&context, "baggage", "k1=a;p,k2=b,k3=c;q");
     otel_free(&changed);
@@ -82,18 +83,21 @@ static void refuses(void) {
     otel_handle context = OTEL_NOTHING, changed = OTEL_NOTHING;
     extract(&context, "baggage", "k=v");
     extract(&changed, "baggage", "other=1");
-    CALL(OTEL_OK, otel_headers_new(&headers));
-    CALL(OTEL_INVALID, otel_baggage_set(&nothing, TEXT("k"), TEXT("v"), TEXT(""), &changed));
-    CALL(OTEL_INVALID, otel_baggage_set(&headers, TEXT("k"), TEXT("v"), TEXT(""), &changed));
-    CALL(OTEL_NOT_TEXT, otel_baggage_set(&context, TEXT("\xff"), TEXT("v"), TEXT(""), &changed));
-    CALL(OTEL_NOT_TEXT, otel_baggage_set(&context, TEXT("k"), TEXT("\xff"), TEXT(""), &changed));
-    CALL(OTEL_NOT_TEXT, otel_baggage_set(&context, TEXT("k"), TEXT("v"), TEXT("\xff"), &changed));
-    CALL(OTEL_KEY, otel_baggage_set(&context, TEXT(""), TEXT("v"), TEXT(""), &changed));
-    CALL(OTEL_KEY, otel_baggage_set(&context, TEXT("a b"), TEXT("v"), TEXT(""), &changed));
-    CALL(OTEL_KEY, otel_baggage_set(&context, TEXT("a=b"), TEXT("v"), TEXT(""), &changed));
-    CALL(OTEL_INVALID, otel_baggage_remove(&nothing, TEXT("k"), &changed));
-    CALL(OTEL_INVALID, otel_baggage_remove(&headers, TEXT("k"), &changed));
-    CALL(OTEL_NOT_TEXT, otel_baggage_remove(&context, TEXT("\xff"), &changed));
+    CALL(OTEL_STATUS_OK, otel_headers_new(&headers));
+    CALL(OTEL_STATUS_INVALID, otel_baggage_set(&nothing, TEXT("k"), TEXT("v"), TEXT(""), &changed));
+    CALL(OTEL_STATUS_INVALID, otel_baggage_set(&headers, TEXT("k"), TEXT("v"), TEXT(""), &changed));
+    CALL(OTEL_STATUS_NOT_TEXT, otel_baggage_set(&context, TEXT("\xff"), TEXT("v"), TEXT(""),
+         &changed));
+    CALL(OTEL_STATUS_NOT_TEXT, otel_baggage_set(&context, TEXT("k"), TEXT("\xff"), TEXT(""),
+         &changed));
+    CALL(OTEL_STATUS_NOT_TEXT, otel_baggage_set(&context, TEXT("k"), TEXT("v"), TEXT("\xff"),
+         &changed));
+    CALL(OTEL_STATUS_KEY, otel_baggage_set(&context, TEXT(""), TEXT("v"), TEXT(""), &changed));
+    CALL(OTEL_STATUS_KEY, otel_baggage_set(&context, TEXT("a b"), TEXT("v"), TEXT(""), &changed));
+    CALL(OTEL_STATUS_KEY, otel_baggage_set(&context, TEXT("a=b"), TEXT("v"), TEXT(""), &changed));
+    CALL(OTEL_STATUS_INVALID, otel_baggage_remove(&nothing, TEXT("k"), &changed));
+    CALL(OTEL_STATUS_INVALID, otel_baggage_remove(&headers, TEXT("k"), &changed));
+    CALL(OTEL_STATUS_NOT_TEXT, otel_baggage_remove(&context, TEXT("\xff"), &changed));
     injects(&context, "baggage", "k=v");
     injects(&changed, "baggage", "other=1");
     otel_free(&headers);
@@ -107,20 +111,22 @@ static void limits(void) {
     char key[] = "k00", header[64 * 7] = "";
     otel_handle context = OTEL_NOTHING, changed = OTEL_NOTHING;
     memset(text, 'v', sizeof text);
-    CALL(OTEL_OK, otel_context_new(&context));
-    CALL(OTEL_OK, otel_baggage_set(&context, TEXT("k"), text, 8189, TEXT(" mm "), &changed));
-    CALL(OTEL_REFUSED, otel_baggage_set(&context, TEXT("k"), text, 8190, TEXT("mm"), &changed));
-    CALL(OTEL_REFUSED, otel_baggage_set(&changed, TEXT("j"), TEXT(""), TEXT(""), &context));
-    CALL(OTEL_OK, otel_baggage_set(&changed, TEXT("k"), text, 8191, TEXT(""), &context));
-    CALL(OTEL_OK, otel_baggage_remove(&context, TEXT("k"), &changed));
-    CALL(OTEL_OK, otel_baggage_set(&changed, text, 8192, TEXT(""), TEXT(""), &context));
-    CALL(OTEL_KEY, otel_baggage_set(&changed, text, 8193, TEXT(""), TEXT(""), &context));
+    CALL(OTEL_STATUS_OK, otel_context_new(&context));
+    CALL(OTEL_STATUS_OK, otel_baggage_set(&context, TEXT("k"), text, 8189, TEXT(" mm "), &changed));
+    CALL(OTEL_STATUS_REFUSED, otel_baggage_set(&context, TEXT("k"), text, 8190, TEXT("mm"),
+         &changed));
+    CALL(OTEL_STATUS_REFUSED, otel_baggage_set(&changed, TEXT("j"), TEXT(""), TEXT(""), &context));
+    CALL(OTEL_STATUS_OK, otel_baggage_set(&changed, TEXT("k"), text, 8191, TEXT(""), &context));
+    CALL(OTEL_STATUS_OK, otel_baggage_remove(&context, TEXT("k"), &changed));
+    CALL(OTEL_STATUS_OK, otel_baggage_set(&changed, text, 8192, TEXT(""), TEXT(""), &context));
+    CALL(OTEL_STATUS_KEY, otel_baggage_set(&changed, text, 8193, TEXT(""), TEXT(""), &context));
     for (int at = 0; at < 64; at++)
         sprintf(header + strlen(header), "%sk%02d=%d", at == 0 ? "" : ",", at, at % 10);
     extract(&context, "baggage", header);
-    CALL(OTEL_REFUSED, otel_baggage_set(&context, TEXT("new"), TEXT(""), TEXT(""), &changed));
-    CALL(OTEL_KEY, otel_baggage_set(&context, TEXT("n,"), TEXT(""), TEXT(""), &changed));
-    CALL(OTEL_OK, otel_baggage_set(&context, TEXT(key), TEXT("9"), TEXT(""), &changed));
+    CALL(OTEL_STATUS_REFUSED, otel_baggage_set(&context, TEXT("new"), TEXT(""), TEXT(""),
+         &changed));
+    CALL(OTEL_STATUS_KEY, otel_baggage_set(&context, TEXT("n,"), TEXT(""), TEXT(""), &changed));
+    CALL(OTEL_STATUS_OK, otel_baggage_set(&context, TEXT(key), TEXT("9"), TEXT(""), &changed));
     WRITES("9", otel_baggage_get, &changed, TEXT(key));
     otel_free(&changed);
     otel_free(&context);

@@ -1,6 +1,6 @@
 /* Code shared by the tests. Each run is repeated with each of its allocations failing in turn, by
- * the number in `refused`. The call that requests it then returns OTEL_NO_MEMORY, its arguments
- * are unchanged, and the run continues from there. */
+ * the number in `refused`. The call that requests it then returns OTEL_STATUS_NO_MEMORY, its
+ * arguments are unchanged, and the run continues from there. */
 #include <stdio.h>
 #include <stdlib.h>
 #include <string.h>
@@ -35,7 +35,7 @@ static void check(int good, const char *what) {
 #define CALL(wanted, call)                                                                         \
     do {                                                                                           \
         uint32_t status = call;                                                                    \
-        if (status == OTEL_NO_MEMORY && (wanted) != OTEL_NO_MEMORY && refused != 0) {              \
+        if (status == OTEL_STATUS_NO_MEMORY && (wanted) != OTEL_STATUS_NO_MEMORY && refused != 0) {\
             starved++;                                                                             \
             status = call;                                                                         \
         }                                                                                          \
@@ -50,10 +50,10 @@ static void check(int good, const char *what) {
         size_t length = strlen(text), written = 0;                                                 \
         memset(room, '#', sizeof room);                                                            \
         if (length != 0) {                                                                         \
-            CALL(OTEL_NO_ROOM, function(__VA_ARGS__, room, length - 1, &written));                 \
+            CALL(OTEL_STATUS_NO_ROOM, function(__VA_ARGS__, room, length - 1, &written));          \
             check(written == length && room[0] == '#', #function);                                 \
         }                                                                                          \
-        CALL(OTEL_OK, function(__VA_ARGS__, room, length, &written));                              \
+        CALL(OTEL_STATUS_OK, function(__VA_ARGS__, room, length, &written));                       \
         check(written == length && memcmp(room, text, length) == 0, #function);                    \
         check(room[length] == '#', "the rest of the room");                                        \
     } while (0)
@@ -70,19 +70,19 @@ static void check(int good, const char *what) {
 /* Reads the header into a new context of the handle. */
 static inline void extract(otel_handle *context, const char *name, const char *value) {
     otel_handle headers = OTEL_NOTHING;
-    CALL(OTEL_OK, otel_headers_new(&headers));
-    CALL(OTEL_OK, otel_headers_append(&headers, TEXT(name), TEXT(value)));
+    CALL(OTEL_STATUS_OK, otel_headers_new(&headers));
+    CALL(OTEL_STATUS_OK, otel_headers_append(&headers, TEXT(name), TEXT(value)));
     if (context->object == NULL)
-        CALL(OTEL_OK, otel_context_new(context));
-    CALL(OTEL_OK, otel_context_extract(&headers, context));
+        CALL(OTEL_STATUS_OK, otel_context_new(context));
+    CALL(OTEL_STATUS_OK, otel_context_extract(&headers, context));
     otel_free(&headers);
 }
 
 /* Whether the context is sent on with the header. */
 static inline void injects(otel_handle *context, const char *name, const char *value) {
     otel_handle headers = OTEL_NOTHING;
-    CALL(OTEL_OK, otel_headers_new(&headers));
-    CALL(OTEL_OK, otel_context_inject(context, &headers));
+    CALL(OTEL_STATUS_OK, otel_headers_new(&headers));
+    CALL(OTEL_STATUS_OK, otel_context_inject(context, &headers));
     WRITES(value, otel_headers_get, &headers, TEXT(name));
     otel_free(&headers);
 }

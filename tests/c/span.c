@@ -9,15 +9,15 @@ static const otel_span_context example = {
      0xa3, 0xce, 0x92, 0x9d, 0x0e, 0x0e, 0x47, 0x36},
     {0x00, 0xf0, 0x67, 0xaa, 0x0b, 0xa9, 0x02, 0xb7},
     0x01,
-    true,
+    1,
 };
 
 static const otel_span_context none = OTEL_NO_SPAN;
 
 /* Whether the context's span has these parts. */
 static void shows(otel_handle *context, const otel_span_context *wanted) {
-    otel_span_context span = {{0xff}, {0xff}, 0xff, false};
-    CALL(OTEL_OK, otel_context_span(context, &span));
+    otel_span_context span = {{0xff}, {0xff}, 0xff, 0};
+    CALL(OTEL_STATUS_OK, otel_context_span(context, &span));
     check(memcmp(span.trace_id, wanted->trace_id, 16) == 0, "trace_id");
     check(memcmp(span.span_id, wanted->span_id, 8) == 0, "span_id");
     check(span.flags == wanted->flags, "flags");
@@ -27,17 +27,18 @@ static void shows(otel_handle *context, const otel_span_context *wanted) {
 static void reads(void) {
     otel_handle context = OTEL_NOTHING, headers = OTEL_NOTHING;
     otel_span_context span = example;
-    CALL(OTEL_INVALID, otel_context_span(&context, &span));
-    LEAVES(OTEL_INVALID, otel_context_trace_state, &context);
-    CALL(OTEL_OK, otel_context_new(&context));
+    CALL(OTEL_STATUS_INVALID, otel_context_span(&context, &span));
+    LEAVES(OTEL_STATUS_INVALID, otel_context_trace_state, &context);
+    CALL(OTEL_STATUS_OK, otel_context_new(&context));
     shows(&context, &none);
     WRITES("", otel_context_trace_state, &context);
-    CALL(OTEL_OK, otel_headers_new(&headers));
-    CALL(OTEL_INVALID, otel_context_span(&headers, &span));
+    CALL(OTEL_STATUS_OK, otel_headers_new(&headers));
+    CALL(OTEL_STATUS_INVALID, otel_context_span(&headers, &span));
     check(memcmp(&span, &example, sizeof span) == 0, "the span of no context");
-    CALL(OTEL_OK, otel_headers_append(&headers, TEXT("traceparent"), TEXT(PARENT)));
-    CALL(OTEL_OK, otel_headers_append(&headers, TEXT("tracestate"), TEXT("rojo=1, congo=2")));
-    CALL(OTEL_OK, otel_context_extract(&headers, &context));
+    CALL(OTEL_STATUS_OK, otel_headers_append(&headers, TEXT("traceparent"), TEXT(PARENT)));
+    CALL(OTEL_STATUS_OK, otel_headers_append(&headers, TEXT("tracestate"),
+                                             TEXT("rojo=1, congo=2")));
+    CALL(OTEL_STATUS_OK, otel_context_extract(&headers, &context));
     shows(&context, &example);
     WRITES("rojo=1,congo=2", otel_context_trace_state, &context);
     otel_free(&headers);
@@ -47,26 +48,26 @@ static void reads(void) {
 static void sets(void) {
     otel_handle context = OTEL_NOTHING;
     otel_span_context local = example;
-    CALL(OTEL_INVALID, otel_context_set_span(&context, &example, "", 0));
+    CALL(OTEL_STATUS_INVALID, otel_context_set_span(&context, &example, "", 0));
     extract(&context, "baggage", "k=v");
-    CALL(OTEL_OK, otel_context_set_span(&context, &example, TEXT("rojo=1 , congo=2")));
+    CALL(OTEL_STATUS_OK, otel_context_set_span(&context, &example, TEXT("rojo=1 , congo=2")));
     shows(&context, &example);
     WRITES("rojo=1,congo=2", otel_context_trace_state, &context);
     injects(&context, "traceparent", PARENT);
     injects(&context, "tracestate", "rojo=1,congo=2");
     injects(&context, "baggage", "k=v");
-    local.is_remote = false;
+    local.is_remote = 0;
     local.flags = 0xff;
-    CALL(OTEL_OK, otel_context_set_span(&context, &local, "", 0));
+    CALL(OTEL_STATUS_OK, otel_context_set_span(&context, &local, "", 0));
     shows(&context, &local);
     WRITES("", otel_context_trace_state, &context);
     /* An invalid trace state changes nothing. */
-    CALL(OTEL_LIST, otel_context_set_span(&context, &example, TEXT("rojo")));
-    CALL(OTEL_KEY, otel_context_set_span(&context, &example, TEXT("Rojo=1")));
-    CALL(OTEL_VALUE, otel_context_set_span(&context, &example, TEXT("rojo=1=2")));
-    CALL(OTEL_NOT_TEXT, otel_context_set_span(&context, &example, TEXT("rojo=\xff")));
+    CALL(OTEL_STATUS_LIST, otel_context_set_span(&context, &example, TEXT("rojo")));
+    CALL(OTEL_STATUS_KEY, otel_context_set_span(&context, &example, TEXT("Rojo=1")));
+    CALL(OTEL_STATUS_VALUE, otel_context_set_span(&context, &example, TEXT("rojo=1=2")));
+    CALL(OTEL_STATUS_NOT_TEXT, otel_context_set_span(&context, &example, TEXT("rojo=\xff")));
     shows(&context, &local);
-    CALL(OTEL_OK, otel_context_set_span(&context, &none, "", 0));
+    CALL(OTEL_STATUS_OK, otel_context_set_span(&context, &none, "", 0));
     shows(&context, &none);
     otel_free(&context);
 }

@@ -1,29 +1,65 @@
 /* Contexts of traces and the headers that carry them: traceparent and tracestate (W3C
- * trace-context-2) and baggage (W3C baggage). The functions are proved; crates/otel_c/README.md
- * says what.
+ * trace-context-2) and baggage (W3C baggage). Link with `pkg-config --cflags --libs otel_c`. The
+ * functions are proved to do with valid arguments what is said here, and tested to refuse others.
  *
- * Headers, contexts and stacks are held by handles. A handle begins as OTEL_NOTHING, calls put
- * objects into it, and otel_free frees what it holds, after which it is OTEL_NOTHING again. A
- * handle isn't copied but handed on: two copies of one would be freed twice.
+ * Receives a header and sends it on:
  *
- * A text is a pointer and a length in bytes, with no NUL at its end. It is never null, even if its
- * length is 0: pass "". Each text of an answer is written to room that the caller gives, with no
- * NUL either. Reading a header cuts the blanks that end a value. Positions begin at 0, those of a
- * stack at 1.
+ *     static char buffer[OTEL_MAX_HEADER];
+ *     size_t length;
+ *     otel_handle in = OTEL_NOTHING, context = OTEL_NOTHING, out = OTEL_NOTHING;
+ *     if (otel_headers_new(&in)
+ *         || otel_headers_append(&in, "traceparent", 11, value, strlen(value))
+ *         || otel_context_new(&context) || otel_context_extract(&in, &context)
+ *         || otel_headers_new(&out) || otel_context_inject(&context, &out))
+ *         puts("refused, or out of memory");
+ *     else if (!otel_headers_get(&out, "traceparent", 11, buffer, sizeof buffer, &length))
+ *         printf("traceparent: %.*s\n", (int)length, buffer);
+ *     otel_free(&in), otel_free(&context), otel_free(&out);
  *
- * The caller promises, at each call, that
- *   - each text points to as many readable bytes as its length says, at most PTRDIFF_MAX;
- *   - each handle is OTEL_NOTHING or as a call left it, and no two of one call are the same;
- *   - the room points to as many bytes, all of them set, and `written` to a size_t;
- *   - a pointer to anything else points to one such thing, each of whose bytes is set;
- *   - what a call changes is used by no other thread meanwhile, and overlaps nothing else that is
- *     passed; a handle stays on one thread;
- *   - it isn't in a signal handler, nor in the forked child of a process with threads.
+ * Handles. Headers, contexts and stacks are held by handles. A handle begins as OTEL_NOTHING, calls
+ * put objects into it, and otel_free frees what it holds, after which it is OTEL_NOTHING again.
+ * Don't copy a handle's bytes: two copies would free one object twice. To hand a handle on, move it
+ * and set the old one to OTEL_NOTHING. Each call writes to the handles it is given, even one that
+ * only reads their objects, so none is const.
+ *
+ * Texts. A text is a pointer and a length in bytes, with no NUL at its end. A call reads it, and
+ * keeps no pointer to it. It may be null if its length is 0.
+ *
+ * Output. A call that writes a text takes a buffer, its capacity, and `length`. After
+ * OTEL_STATUS_OK the text is in front, with no NUL, the rest of the buffer is unchanged, and
+ * *length is the text's length. After OTEL_STATUS_NO_ROOM the buffer is unchanged and *length is
+ * the capacity that is needed: ask with a capacity of 0, or give a buffer of OTEL_MAX_.. bytes.
+ * After another status *length means nothing. `length` may be null, and so may a buffer if its
+ * capacity is 0. No call reads a buffer, *length, *span, *count or *position that it writes to, so
+ * they may be uninitialised: this is tested and not proved.
+ *
+ * Statuses. After another status than OTEL_STATUS_OK each handle holds what it held, and nothing
+ * else is changed except *length, unless the call says more. Any call that returns a status may
+ * return OTEL_STATUS_NO_MEMORY, also if too many contexts share one object.
+ *
+ * Threads. Contexts and stacks share memory, counted by numbers that aren't atomic: a clone, what
+ * otel_baggage_set and otel_baggage_remove make, what a stack has attached and gives back, and the
+ * context that each was made from, also after it was changed. On a handle and all that shares with
+ * it, one call at a time, from any thread: use a lock, or hand them on together, by anything that
+ * orders the threads' accesses. Handles that share nothing may be used at the same time. Headers
+ * share nothing: to give a thread a context of its own, inject it, and extract it into a new one.
+ *
+ * Misuse. OTEL_STATUS_INVALID, and nothing is changed, if a pointer that may not be null is null, a
+ * length or a capacity is over PTRDIFF_MAX, a handle holds nothing or the wrong kind of object for
+ * what the call does with it, or one handle, or its copy, is given twice.
+ *
+ * The caller promises, and nothing checks, that
+ *   - each text points to as many readable bytes as its length says;
+ *   - each handle is OTEL_NOTHING or as a call left it;
+ *   - a buffer has as many bytes as its capacity says;
+ *   - any other pointer points to one such thing;
+ *   - what a call writes to overlaps nothing else that is passed, and isn't used meanwhile;
+ *   - the call isn't in a signal handler, nor in the forked child of a process with threads;
+ *   - malloc, realloc and free are of one allocator, and align as C says.
  */
 #ifndef OTEL_H
 #define OTEL_H
 
-#include <stdbool.h>
 #include <stddef.h>
 #include <stdint.h>
 
@@ -31,61 +67,121 @@
 extern "C" {
 #endif
 
-/* What a call returns. After all but OTEL_OK the room is unchanged, and so is each handle and what
- * else the call would write, unless it says more. `written` has a meaning only after OTEL_OK and
- * OTEL_NO_ROOM. */
-enum otel_status {
-    OTEL_OK = 0,
-    OTEL_NO_MEMORY = 1, /* out of memory */
-    OTEL_NOT_TEXT = 2,  /* a text isn't UTF-8 */
-    OTEL_NO_ROOM = 3,   /* the room is too short; `written` is the length that is needed */
-    OTEL_ABSENT = 4,    /* there is no such entry */
-    OTEL_KEY = 5,       /* a key, or the name of a header, isn't valid */
-    OTEL_VALUE = 6,     /* a value isn't valid */
-    OTEL_LIST = 7,      /* a member of the header has no `=` */
-    OTEL_INVALID = 8,   /* a handle is OTEL_NOTHING, or holds another kind of object */
-    OTEL_REFUSED = 9    /* headers can't carry a text, a baggage can't take a member, or no position
-                         * of a stack is left */
-};
+/* The version of this header. Versions with the same major number, or for 0 the same minor number,
+ * have the same ABI. */
+#define OTEL_VERSION_MAJOR 0
+#define OTEL_VERSION_MINOR 1
+#define OTEL_VERSION_PATCH 0
+#define OTEL_VERSION "0.1.0"
 
-/* What holds headers, a context, a stack, or nothing. */
+/* Capacities that are always enough, in bytes. */
+#define OTEL_MAX_TRACEPARENT 55   /* traceparent */
+#define OTEL_MAX_TRACESTATE 16447 /* the header of a trace state */
+#define OTEL_MAX_BAGGAGE 24575    /* the header of a baggage */
+#define OTEL_MAX_HEADER 24575     /* any header that otel_context_inject sets */
+#define OTEL_MAX_MEMBER 8192      /* a key, a value or the metadata of a baggage's member */
+#define OTEL_MAX_PAIR 256         /* a key or a value of a trace state */
+
+/* Other limits. */
+#define OTEL_MAX_MEMBERS 64         /* members of a baggage */
+#define OTEL_MAX_BAGGAGE_BYTES 8192 /* bytes of all keys, values (decoded) and metadata of one */
+#define OTEL_MAX_PAIRS 32           /* pairs of a trace state */
+#define OTEL_MAX_POSITION 65534     /* the last position of a stack */
+
+/* What a call returns. */
+typedef enum otel_status {
+    OTEL_STATUS_OK = 0,
+    OTEL_STATUS_NO_MEMORY = 1, /* out of memory */
+    OTEL_STATUS_NOT_TEXT = 2,  /* a text isn't UTF-8 */
+    OTEL_STATUS_NO_ROOM = 3,   /* the capacity is too small; *length is what is needed */
+    OTEL_STATUS_ABSENT = 4,    /* there is no such entry */
+    OTEL_STATUS_KEY = 5,       /* a key, or the name of a header, isn't valid */
+    OTEL_STATUS_VALUE = 6,     /* a value isn't valid */
+    OTEL_STATUS_LIST = 7,      /* a member of a trace state has no `=` */
+    OTEL_STATUS_INVALID = 8,   /* misuse, such as a handle with another kind of object: above */
+    OTEL_STATUS_REFUSED = 9    /* headers, a baggage or a stack can't take it: see the call */
+} otel_status;
+
+/* The version of the library, as OTEL_VERSION was when it was built. */
+const char *otel_version(void);
+
+/* What the status means, in English, without a line's end. It is never null, also of other numbers,
+ * and stays as it is until the process ends. */
+const char *otel_status_text(otel_status status);
+
+/* What holds headers, a context, a stack, or nothing. `object` is null if it is nothing, and
+ * otherwise the library's. */
 typedef struct otel_handle {
     void *object;
 } otel_handle;
 
 #define OTEL_NOTHING {0}
 
-/* Frees what the handle holds, if anything. */
+/* Frees what the handle holds, if anything. The handle, which may be null, is OTEL_NOTHING then. */
 void otel_free(otel_handle *handle);
 
 /* ---- headers */
 
 /* Makes empty headers, and frees what the handle held. */
-uint32_t otel_headers_new(otel_handle *headers);
+otel_status otel_headers_new(otel_handle *headers);
 
-/* Adds a header, after those of the same name. */
-uint32_t otel_headers_append(otel_handle *headers, const char *name, size_t name_length,
-                             const char *value, size_t value_length);
+/* Adds a header, after those of the same name. A name is read in any case, and held in lower case.
+ *
+ * OTEL_STATUS_KEY if the name is no token (RFC 9110, section 5.6.2) or has more than 65535 bytes.
+ * OTEL_STATUS_VALUE if the value has a control character other than a tab: CR, LF and NUL never
+ * get into headers. OTEL_STATUS_REFUSED if there are too many headers: 24576 always fit. */
+otel_status otel_headers_append(otel_handle *headers, const char *name, size_t name_length,
+                                const char *value, size_t value_length);
 
-/* Writes the first value of the name. */
-uint32_t otel_headers_get(otel_handle *headers, const char *name, size_t name_length,
-                          char *room, size_t room_length, size_t *written);
+/* Writes the first value of the name, which is read in any case. The value may have bytes that
+ * aren't UTF-8. OTEL_STATUS_ABSENT if there is none. */
+otel_status otel_headers_get(otel_handle *headers, const char *name, size_t name_length,
+                             char *buffer, size_t capacity, size_t *length);
+
+/* Removes all values of the name, if there are any. The name is read in any case. Headers that are
+ * used again lose the old traceparent, tracestate and baggage so, before otel_context_inject. */
+otel_status otel_headers_remove(otel_handle *headers, const char *name, size_t name_length);
 
 /* ---- contexts */
 
-/* Makes the empty context, and frees what the handle held. */
-uint32_t otel_context_new(otel_handle *context);
+/* Makes the empty context, which has no span and no baggage, and frees what the handle held. */
+otel_status otel_context_new(otel_handle *context);
 
-/* Reads the headers into the context, which keeps what they don't carry. A header that can't be
- * read is as if it weren't there. */
-uint32_t otel_context_extract(otel_handle *headers, otel_handle *context);
+/* Reads the headers into the context. Nothing in a header makes the call fail:
+ *
+ *   - A value counts only if its bytes are tabs and the ASCII characters from space to `~`: one
+ *     other byte makes it unreadable, as if it weren't there.
+ *   - traceparent, if it is there once and is version 00 with two ids that aren't 0, replaces the
+ *     context's span, which is then remote. All eight bits of the flags are kept. Otherwise, as of
+ *     another version, the context keeps its span, and tracestate isn't read.
+ *   - tracestate, whose values are joined by commas, becomes the trace state of that span. If it is
+ *     missing or has a fault, the trace state is empty.
+ *   - baggage, whose values are joined by commas, replaces the context's baggage, even if it has no
+ *     member that can be read: after `baggage: x` the baggage is empty. A member counts if it has
+ *     a `=`, its decoded value is UTF-8, and otel_baggage_set would take it. A comma always begins
+ *     another member, also in metadata. Without a baggage header the context keeps its baggage.
+ *
+ * The headers are unchanged. */
+otel_status otel_context_extract(otel_handle *headers, otel_handle *context);
 
-/* Sets the headers that carry the context. After another status than OTEL_OK some may be set. */
-uint32_t otel_context_inject(otel_handle *context, otel_handle *headers);
+/* Sets the headers that carry the context, each in place of all values of its name:
+ *
+ *   - traceparent and tracestate, if neither id of the context's span is 0; tracestate even if it
+ *     is empty. Otherwise headers of these names stay as they are: begin with new headers, or
+ *     remove these first.
+ *   - baggage, even if it is empty, which is also set.
+ *
+ * traceparent is of version 00, with all eight bits of the flags. A value of a baggage is escaped;
+ * metadata isn't, so that after a comma in it others will read another member.
+ *
+ * OTEL_STATUS_REFUSED if the trace state or metadata has a byte other than tabs and the ASCII
+ * characters from space to `~`, or there are too many headers. They are set in the order above, up
+ * to the one that is refused: after a status other than OTEL_STATUS_INVALID some may be set. */
+otel_status otel_context_inject(otel_handle *context, otel_handle *headers);
 
-/* Puts a copy of the context into the other handle, and frees what that held. Both share what the
- * context holds. */
-uint32_t otel_context_clone(otel_handle *context, otel_handle *clone);
+/* Puts a copy of the context into the other handle, and frees what that held. They share memory,
+ * but a change of one isn't seen in the other. */
+otel_status otel_context_clone(otel_handle *context, otel_handle *clone);
 
 /* ---- the span of a context */
 
@@ -93,96 +189,116 @@ uint32_t otel_context_clone(otel_handle *context, otel_handle *clone);
 typedef struct otel_span_context {
     uint8_t trace_id[16]; /* the most significant byte first */
     uint8_t span_id[8];
-    uint8_t flags;        /* bit 0 is the flag sampled */
-    bool is_remote;       /* whether the span is of another process */
+    uint8_t flags;        /* bit 0 is the flag sampled; all bits are kept */
+    uint8_t is_remote;    /* 1 if the span is of another process, 0 if not */
 } otel_span_context;
 
-#define OTEL_NO_SPAN {{0}, {0}, 0, false}
+#define OTEL_NO_SPAN {{0}, {0}, 0, 0}
 
 /* Writes what identifies the context's span: OTEL_NO_SPAN if it has none. */
-uint32_t otel_context_span(otel_handle *context, otel_span_context *span);
+otel_status otel_context_span(otel_handle *context, otel_span_context *span);
 
-/* Writes the header of the trace state of the context's span. 16447 bytes are always room
- * enough. */
-uint32_t otel_context_trace_state(otel_handle *context, char *room, size_t room_length,
-                                  size_t *written);
+/* Writes the header of the trace state of the context's span, which is empty if it has none.
+ * OTEL_MAX_TRACESTATE bytes are enough. */
+otel_status otel_context_trace_state(otel_handle *context,
+                                     char *buffer, size_t capacity, size_t *length);
 
-/* Sets the context's span, with the trace state of the header, which is "" for none. Any ids and
- * flags are taken. */
-uint32_t otel_context_set_span(otel_handle *context, const otel_span_context *span,
-                               const char *trace_state, size_t trace_state_length);
+/* Sets the context's span, with the trace state of the header, which is "" for none. Any ids, flags
+ * and is_remote, which counts as 1 if it isn't 0, are taken, but a span with an id that is 0 isn't
+ * injected. Any trace state that can be read is taken, but one with control or non-ASCII characters
+ * can't be injected.
+ *
+ * OTEL_STATUS_NOT_TEXT, _LIST, _KEY or _VALUE if the trace state can't be read. */
+otel_status otel_context_set_span(otel_handle *context, const otel_span_context *span,
+                                  const char *trace_state, size_t trace_state_length);
 
-/* ---- the baggage of a context: at most 64 members of distinct keys, and 8192 bytes in all */
+/* ---- the baggage of a context: at most OTEL_MAX_MEMBERS members of distinct keys, with at most
+ * OTEL_MAX_BAGGAGE_BYTES bytes */
 
 /* Writes the number of members. */
-uint32_t otel_baggage_length(otel_handle *context, size_t *length);
+otel_status otel_baggage_length(otel_handle *context, size_t *count);
 
-/* Writes the key of the member at the position. For each text of a member 8192 bytes are always
- * room enough. */
-uint32_t otel_baggage_key(otel_handle *context, size_t position,
-                          char *room, size_t room_length, size_t *written);
+/* Writes the key of the member at the position, which counts from 0. OTEL_STATUS_ABSENT if there
+ * are no more. OTEL_MAX_MEMBER bytes are enough for each text of a member. */
+otel_status otel_baggage_key(otel_handle *context, size_t position,
+                             char *buffer, size_t capacity, size_t *length);
 
-/* Writes the value of the key, which isn't escaped as in a header. */
-uint32_t otel_baggage_get(otel_handle *context, const char *key, size_t key_length,
-                          char *room, size_t room_length, size_t *written);
+/* Writes the value of the key, decoded: not escaped as in a header. OTEL_STATUS_ABSENT if no member
+ * has the key, whose case counts, and OTEL_STATUS_NOT_TEXT if the key isn't UTF-8. */
+otel_status otel_baggage_get(otel_handle *context, const char *key, size_t key_length,
+                             char *buffer, size_t capacity, size_t *length);
 
-/* Writes the metadata of the key: its properties, as in "ttl=30;private", or "". */
-uint32_t otel_baggage_metadata(otel_handle *context, const char *key, size_t key_length,
-                               char *room, size_t room_length, size_t *written);
+/* Writes the metadata of the key: its properties, as in "ttl=30;private", or "". Fails as
+ * otel_baggage_get does. */
+otel_status otel_baggage_metadata(otel_handle *context, const char *key, size_t key_length,
+                                  char *buffer, size_t capacity, size_t *length);
 
 /* Puts the context with the member in its baggage into the other handle, and frees what that held.
- * The member takes the place of the one with its key, or else comes last. The metadata is "" for
- * none, and loses the white space at its ends. OTEL_KEY if the key is no token of RFC 7230, or has
- * more than 8192 bytes; OTEL_REFUSED if the baggage would be larger than it may be. */
-uint32_t otel_baggage_set(otel_handle *context, const char *key, size_t key_length,
-                          const char *value, size_t value_length,
-                          const char *metadata, size_t metadata_length, otel_handle *changed);
+ * The context is unchanged. The member takes the place of the one with its key, or else comes last.
+ * The metadata is "" for none, and loses the white space at its ends. It may have any characters,
+ * but with control or non-ASCII ones it can't be injected.
+ *
+ * OTEL_STATUS_NOT_TEXT if one of the texts isn't UTF-8. OTEL_STATUS_KEY if the key is no token (RFC
+ * 7230, section 3.2.6), or has more than OTEL_MAX_MEMBER bytes. OTEL_STATUS_REFUSED if the baggage
+ * would be larger than it may be. */
+otel_status otel_baggage_set(otel_handle *context, const char *key, size_t key_length,
+                             const char *value, size_t value_length,
+                             const char *metadata, size_t metadata_length, otel_handle *changed);
 
 /* Puts the context without the member of the key, if there is one, into the other handle, and frees
- * what that held. */
-uint32_t otel_baggage_remove(otel_handle *context, const char *key, size_t key_length,
-                             otel_handle *changed);
+ * what that held. The context is unchanged. OTEL_STATUS_NOT_TEXT if the key isn't UTF-8. */
+otel_status otel_baggage_remove(otel_handle *context, const char *key, size_t key_length,
+                                otel_handle *changed);
 
 /* ---- stacks of attached contexts, such as one for each thread */
 
 /* Makes an empty stack, and frees what the handle held. */
-uint32_t otel_stack_new(otel_handle *stack);
+otel_status otel_stack_new(otel_handle *stack);
 
-/* Attaches a copy of the context, and writes its position, the one above the newest: from 1 to
- * 65534. OTEL_REFUSED if that is taken. */
-uint32_t otel_stack_attach(otel_handle *stack, otel_handle *context, uint16_t *position);
+/* Attaches a copy of the context, and writes its position, the one above the newest that is
+ * attached: from 1 to OTEL_MAX_POSITION. So the position of one that was detached may be given out
+ * again: detach each position once. OTEL_STATUS_REFUSED if OTEL_MAX_POSITION is taken. */
+otel_status otel_stack_attach(otel_handle *stack, otel_handle *context, uint16_t *position);
 
 /* Detaches what is attached at the position, whatever was attached since; the others keep theirs.
- * OTEL_ABSENT if nothing is. */
-uint32_t otel_stack_detach(otel_handle *stack, uint16_t position);
+ * OTEL_STATUS_ABSENT if nothing is, and always for 0. */
+otel_status otel_stack_detach(otel_handle *stack, uint16_t position);
 
 /* Puts a copy of the current context, the newest that is attached or else the empty one, into the
  * other handle, and frees what that held. */
-uint32_t otel_stack_current(otel_handle *stack, otel_handle *context);
+otel_status otel_stack_current(otel_handle *stack, otel_handle *context);
 
-/* ---- trace states, as texts; no call keeps memory */
+/* ---- trace states, as texts of a header; no call keeps memory
+ *
+ * The first OTEL_MAX_PAIRS members between commas are read, of which empty ones are left out. Each
+ * is a key, `=` and a value; blanks around it and at the end of the value are left out. Of a key
+ * that is there twice, the first counts. Faults: OTEL_STATUS_NOT_TEXT if a text isn't UTF-8, and
+ * for a member that isn't valid OTEL_STATUS_LIST, OTEL_STATUS_KEY or OTEL_STATUS_VALUE. */
 
-/* Writes the key of the pair at the position. */
-uint32_t otel_trace_state_key(const char *header, size_t header_length, size_t position,
-                              char *room, size_t room_length, size_t *written);
+/* Writes the key of the pair at the position, which counts from 0. OTEL_STATUS_ABSENT if there are
+ * no more. OTEL_MAX_PAIR bytes are enough. */
+otel_status otel_trace_state_key(const char *header, size_t header_length, size_t position,
+                                 char *buffer, size_t capacity, size_t *length);
 
-/* Writes the value that the trace state of the header has at the key. */
-uint32_t otel_trace_state_get(const char *header, size_t header_length,
-                              const char *key, size_t key_length,
-                              char *room, size_t room_length, size_t *written);
-
-/* Writes the header of the trace state with the pair in front, followed by at most 31 of the other
- * pairs; an old pair with the key is left out. 16447 bytes are always room enough. */
-uint32_t otel_trace_state_insert(const char *header, size_t header_length,
+/* Writes the value that the trace state of the header has at the key. OTEL_STATUS_ABSENT if it has
+ * none. OTEL_MAX_PAIR bytes are enough. */
+otel_status otel_trace_state_get(const char *header, size_t header_length,
                                  const char *key, size_t key_length,
-                                 const char *value, size_t value_length,
-                                 char *room, size_t room_length, size_t *written);
+                                 char *buffer, size_t capacity, size_t *length);
 
-/* Writes the header of the trace state without the pair that has the key, if one has it. 16447
- * bytes are always room enough. */
-uint32_t otel_trace_state_delete(const char *header, size_t header_length,
-                                 const char *key, size_t key_length,
-                                 char *room, size_t room_length, size_t *written);
+/* Writes the header of the trace state with the pair in front, followed by at most OTEL_MAX_PAIRS
+ * less one of the other pairs; an old pair with the key is left out. OTEL_STATUS_KEY or
+ * OTEL_STATUS_VALUE if the pair isn't valid. OTEL_MAX_TRACESTATE bytes are enough. */
+otel_status otel_trace_state_insert(const char *header, size_t header_length,
+                                    const char *key, size_t key_length,
+                                    const char *value, size_t value_length,
+                                    char *buffer, size_t capacity, size_t *length);
+
+/* Writes the header of the trace state without the pair that has the key, if one has it.
+ * OTEL_STATUS_KEY if the key isn't valid. OTEL_MAX_TRACESTATE bytes are enough. */
+otel_status otel_trace_state_delete(const char *header, size_t header_length,
+                                    const char *key, size_t key_length,
+                                    char *buffer, size_t capacity, size_t *length);
 
 #ifdef __cplusplus
 }

@@ -3,7 +3,7 @@ use Rattle.std.specs.Prelude.{◌≡◌, ◌⊎◌, ℕ, List, Option, Some}
 use Rattle.http_header.specs.FieldName.{IsFieldName}
 use Rattle.http_header.specs.Token.{lowercase}
 use Rattle.http_header.specs.FieldValue.{FieldValue, IsFieldValue, plain_value}
-use Rattle.http_header.specs.HeaderMap.{append, get, RefusesAppend}
+use Rattle.http_header.specs.HeaderMap.{append, get, remove, RefusesAppend}
 use Rattle.otel_http.specs.Headers.{Headers}
 use Rattle.otel_c.specs.declared.object.Object.{Object}
 use Rattle.otel_c.specs.declared.status.Status.{Status}
@@ -47,6 +47,12 @@ pub record HasHeaderRefused (name value : List ℕ) (old : Option Object) (s : S
 -- why nothing was appended
 abbrev pub AppendRefused : List ℕ → List ℕ → Option Object → Status → Type 0
 AppendRefused name value old s = IsOtherKind (headers_of old) s ⊎ HasHeaderRefused name value old s
+
+-- the headers have no value of the name
+pub record Removes (name : List ℕ) (old new : Option Object) : Type 0 where
+  pub headers : Headers
+  pub from : headers_of old ≡ Some headers
+  pub into : headers_of new ≡ Some (remove headers (lowercase name))
 
 -- the room holds the first value of the name
 pub record GetsHeader (object : Option Object) (name old new : List ℕ) (written : ℕ) : Type 0 where

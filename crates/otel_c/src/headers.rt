@@ -5,8 +5,8 @@ ghost use Rattle.http_header.specs.Token.{lowercase};
 ghost use Rattle.http_header.specs.FieldValue.{plain_value};
 ghost use Rattle.otel_c.specs.Object.{headers_of};
 ghost use Rattle.otel_c.specs.Headers.{Appends, AppendRefused, HeaderRefused};
-ghost use Rattle.otel_c.specs.Headers.{GetsHeader, GetHeaderRefused};
-ghost use Rattle.otel_c.specs.Status.{Refuses, IsOutOfMemory};
+ghost use Rattle.otel_c.specs.Headers.{GetsHeader, GetHeaderRefused, Removes};
+ghost use Rattle.otel_c.specs.Status.{Refuses, IsOtherKind, IsOutOfMemory};
 
 use crate::handle::Handle;
 use crate::object::Object;
@@ -158,4 +158,40 @@ pub extern "C" fn otel_headers_get(
         (GetHeaderRefused headers.old.object name.now room.old written.new) result }
 {
     code(get(alloc, headers, name, room, written))
+}
+
+fn remove_in(object: &mut Object, name: &[u8]) -> Result<(), Status>
+    ensures removed { OnOk result (Removes name.now (Some object.old) (Some object.new)) }
+    ensures unchanged { OnErr result (object.new ≡ object.old) }
+    ensures refused { IfErr result (λ status. IsOtherKind (headers_of (Some object.old)) status) }
+{
+    match object {
+        Object::Headers(injector) => {
+            drop(injector.headers.remove(name));
+            Ok(())
+        }
+        _ => Err(Status::Invalid),
+    }
+}
+
+fn remove(alloc: Global, headers: &mut Handle, name: &[u8]) -> Result<(), Status>
+    ensures removed { OnOk result (Removes name.now headers.old.object headers.new.object) }
+    ensures unchanged { OnErr result (headers.new.object ≡ headers.old.object) }
+    ensures refused { IfErr result (λ status. IsOtherKind (headers_of headers.old.object) status) }
+{
+    let mut object = headers.take(alloc)?;
+    let outcome = remove_in(&mut object, name);
+    headers.put(alloc, object);
+    outcome
+}
+
+/// Removes all values of the name.
+#[unsafe(no_mangle)]
+pub extern "C" fn otel_headers_remove(alloc: Global, headers: &mut Handle, name: &[u8]) -> u32
+    ensures removed { result ≡ 0 → Removes name.now headers.old.object headers.new.object }
+    ensures unchanged { (result ≡ 0 → ⊥) → headers.new.object ≡ headers.old.object }
+    ensures refused { (result ≡ 0 → ⊥)
+        → Refuses (λ status. IsOtherKind (headers_of headers.old.object) status) result }
+{
+    code(remove(alloc, headers, name))
 }
