@@ -4,8 +4,10 @@
 
 mod extractor;
 mod injector;
+mod lines;
 pub mod there_and_back;
 mod value;
 
 pub use extractor::HeaderExtractor;
 pub use injector::HeaderInjector;
+pub use lines::add_header_line;

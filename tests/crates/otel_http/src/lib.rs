@@ -6,4 +6,5 @@
 mod bytes;
 mod extractor;
 mod injector;
+mod lines;
 mod service;
