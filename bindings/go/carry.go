@@ -11,12 +11,17 @@ static otelc_text text_of(_GoString_ text) {
 }
 
 static otelc_read extract(_GoString_ parent, _GoString_ state, _GoString_ baggage, char *buffer, size_t capacity) {
-    const otelc_text given[3] = {text_of(parent), text_of(state), text_of(baggage)};
-    return otelc_extract(given, buffer, capacity);
+    return otelc_extract(text_of(parent), text_of(state), text_of(baggage), buffer, capacity);
 }
 
-static otelc_written inject(otel_span_context span, _GoString_ state, _GoString_ baggage, char *buffer, size_t capacity) {
-    return otelc_inject(&span, text_of(state), text_of(baggage), buffer, capacity);
+static otelc_child start_child(otel_span_context span) {
+    return otelc_start_child(&span);
+}
+
+static otelc_written inject(otel_span_context span, _GoString_ state, const char *members, size_t length, char *buffer,
+                            size_t capacity) {
+    const otelc_text baggage = {members, length};
+    return otelc_inject(&span, text_of(state), baggage, buffer, capacity);
 }
 */
 import "C"
@@ -26,6 +31,7 @@ import (
 	"sync"
 	"unsafe"
 
+	"go.opentelemetry.io/otel/baggage"
 	"go.opentelemetry.io/otel/trace"
 )
 
@@ -35,10 +41,17 @@ const usual = 1024
 // buffers holds buffers that are used again.
 var buffers = sync.Pool{New: func() interface{} { return &buffer{bytes: make([]byte, usual)} }}
 
-// A buffer holds texts, one after another.
-type buffer struct{ bytes []byte }
+// A buffer holds texts that the library writes, one after another, and members of a baggage that it is given.
+type buffer struct{ bytes, members []byte }
 
-func (b *buffer) start() *C.char     { return (*C.char)(unsafe.Pointer(&b.bytes[0])) }
+func startOf(bytes []byte) *C.char {
+	if len(bytes) == 0 {
+		return nil
+	}
+	return (*C.char)(unsafe.Pointer(&bytes[0]))
+}
+
+func (b *buffer) start() *C.char     { return startOf(b.bytes) }
 func (b *buffer) capacity() C.size_t { return C.size_t(len(b.bytes)) }
 
 // cut returns the texts of these lengths.
@@ -70,6 +83,41 @@ type extracted struct {
 	flags   trace.TraceFlags
 	// The trace state, and the baggage as a header.
 	texts [2]string
+	// Whether there is a header of a baggage that can be read.
+	hasBaggage bool
+}
+
+// set takes the ids and the flags over.
+func (made *extracted) set(span *C.otel_span_context) {
+	for at, digit := range span.trace_id {
+		made.traceID[at] = byte(digit)
+	}
+	for at, digit := range span.span_id {
+		made.spanID[at] = byte(digit)
+	}
+	made.flags = trace.TraceFlags(span.flags)
+}
+
+// partsOf returns the ids and the flags of the span, as C has them.
+func partsOf(sc trace.SpanContext) (span C.otel_span_context) {
+	for at, digit := range sc.TraceID() {
+		span.trace_id[at] = C.uint8_t(digit)
+	}
+	for at, digit := range sc.SpanID() {
+		span.span_id[at] = C.uint8_t(digit)
+	}
+	span.flags = C.uint8_t(sc.TraceFlags())
+	return span
+}
+
+// startChild returns the ids and the flags of a child of the span.
+func startChild(sc trace.SpanContext) (made extracted, err error) {
+	done := C.start_child(partsOf(sc))
+	if done.status != C.OTEL_STATUS_OK {
+		return made, errorOf(done.status)
+	}
+	made.set(&done.span)
+	return made, nil
 }
 
 // extract reads the headers. An empty text is a missing header.
@@ -80,14 +128,9 @@ func extract(parent, state, members string) (extracted, error) {
 		var made extracted
 		switch done := C.extract(parent, state, members, b.start(), b.capacity()); done.status {
 		case C.OTEL_STATUS_OK:
-			for at, digit := range done.span.trace_id {
-				made.traceID[at] = byte(digit)
-			}
-			for at, digit := range done.span.span_id {
-				made.spanID[at] = byte(digit)
-			}
-			made.flags = trace.TraceFlags(done.span.flags)
+			made.set(&done.span)
 			b.cut(done.lengths[:], made.texts[:])
+			made.hasBaggage = done.has_baggage != 0
 			return made, nil
 		case C.OTEL_STATUS_NO_ROOM:
 			b.grow(done.lengths[:])
@@ -97,22 +140,20 @@ func extract(parent, state, members string) (extracted, error) {
 	}
 }
 
-// inject returns the headers that carry the span and the members of a header. One that is empty needn't be sent.
-func inject(sc trace.SpanContext, members string) ([3]string, error) {
-	var span C.otel_span_context
-	for at, digit := range sc.TraceID() {
-		span.trace_id[at] = C.uint8_t(digit)
+// inject returns the headers that carry the span and the baggage. One that is empty needn't be sent.
+func inject(sc trace.SpanContext, held baggage.Baggage) ([3]string, error) {
+	span := partsOf(sc)
+	state := ""
+	if sc.IsValid() {
+		state = sc.TraceState().String()
 	}
-	for at, digit := range sc.SpanID() {
-		span.span_id[at] = C.uint8_t(digit)
-	}
-	span.flags = C.uint8_t(sc.TraceFlags())
-	state := sc.TraceState().String()
 	b := buffers.Get().(*buffer)
 	defer buffers.Put(b)
+	b.members = appendMembers(b.members[:0], held)
 	for {
 		var texts [3]string
-		switch done := C.inject(span, state, members, b.start(), b.capacity()); done.status {
+		done := C.inject(span, state, startOf(b.members), C.size_t(len(b.members)), b.start(), b.capacity())
+		switch done.status {
 		case C.OTEL_STATUS_OK:
 			b.cut(done.lengths[:], texts[:])
 			return texts, nil

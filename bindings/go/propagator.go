@@ -35,11 +35,14 @@ func (Propagator) Fields() []string { return append([]string(nil), fields[:]...)
 // of another carrier the one that it returns. A trace state or a property that OpenTelemetry Go can't hold is left out. Out of
 // memory, it returns the given context, and calls the handler of errors.
 func (Propagator) Extract(ctx context.Context, carrier propagation.TextMapCarrier) context.Context {
-	members := get(carrier, baggageHeader)
-	if !isReadable(members) {
-		members = ""
+	parent, state, members := get(carrier, traceparent), "", get(carrier, baggageHeader)
+	if parent != "" {
+		state = get(carrier, tracestate)
 	}
-	read, err := extract(get(carrier, traceparent), get(carrier, tracestate), members)
+	if parent == "" && members == "" {
+		return ctx
+	}
+	read, err := extract(parent, state, members)
 	if err != nil {
 		otel.Handle(err)
 		return ctx
@@ -47,7 +50,7 @@ func (Propagator) Extract(ctx context.Context, carrier propagation.TextMapCarrie
 	if read.spanID.IsValid() {
 		ctx = trace.ContextWithRemoteSpanContext(ctx, read.span())
 	}
-	if members != "" {
+	if read.hasBaggage {
 		ctx = baggage.ContextWithBaggage(ctx, baggageOf(read.texts[1]))
 	}
 	return ctx
@@ -56,7 +59,11 @@ func (Propagator) Extract(ctx context.Context, carrier propagation.TextMapCarrie
 // Inject sets the headers that carry the context. If the library refuses, as out of memory, it sets none, and calls the handler
 // of errors.
 func (Propagator) Inject(ctx context.Context, carrier propagation.TextMapCarrier) {
-	texts, err := inject(trace.SpanContextFromContext(ctx), headerOf(baggage.FromContext(ctx)))
+	span, held := trace.SpanContextFromContext(ctx), baggage.FromContext(ctx)
+	if !span.IsValid() && held.Len() == 0 {
+		return
+	}
+	texts, err := inject(span, held)
 	if err != nil {
 		otel.Handle(err)
 		return
@@ -66,6 +73,23 @@ func (Propagator) Inject(ctx context.Context, carrier propagation.TextMapCarrier
 			carrier.Set(name, texts[at])
 		}
 	}
+}
+
+// StartChild returns the context with a child of its span or, without a span, with the first of a trace, which is sampled. New
+// ids are random, from the system's source. If this gives none, or out of memory, it calls the handler of errors, and the context
+// has no span, so that the parent isn't sent on as its own child.
+func StartChild(ctx context.Context) context.Context {
+	parent := trace.SpanContextFromContext(ctx)
+	made, err := startChild(parent)
+	if err != nil {
+		otel.Handle(err)
+		return trace.ContextWithSpanContext(ctx, trace.SpanContext{})
+	}
+	config := trace.SpanContextConfig{TraceID: made.traceID, SpanID: made.spanID, TraceFlags: made.flags}
+	if parent.IsValid() {
+		config.TraceState = parent.TraceState()
+	}
+	return trace.ContextWithSpanContext(ctx, trace.NewSpanContext(config))
 }
 
 // get returns the values of the header, joined by commas, or "" if there is none. Repeated traceparents count as none.
@@ -84,44 +108,43 @@ func get(carrier propagation.TextMapCarrier, name string) string {
 	}
 }
 
-// isReadable returns whether the library reads the value of the header.
-func isReadable(value string) bool {
-	for at := 0; at < len(value); at++ {
-		if c := value[at]; c != '\t' && (c < ' ' || c > '~') {
-			return false
-		}
-	}
-	return true
-}
-
 // span returns the span of the headers.
 func (read *extracted) span() trace.SpanContext {
-	// OpenTelemetry Go reads fewer trace states than the library. Another one is empty.
-	state, _ := trace.ParseTraceState(read.texts[0])
 	return trace.NewSpanContext(trace.SpanContextConfig{
-		TraceID: read.traceID, SpanID: read.spanID, TraceFlags: read.flags, TraceState: state, Remote: true,
+		TraceID: read.traceID, SpanID: read.spanID, TraceFlags: read.flags, TraceState: stateOf(read.texts[0]), Remote: true,
 	})
 }
 
-// headerOf returns the members as a header, with their values as they are.
-func headerOf(held baggage.Baggage) string {
-	if held.Len() == 0 {
-		return ""
-	}
-	var text strings.Builder
-	for _, member := range held.Members() {
-		if text.Len() != 0 {
-			text.WriteByte(',')
+// stateOf returns the trace state of a header that the library wrote. OpenTelemetry Go reads fewer trace states than the library:
+// another one is empty. Inserting pairs takes less time than trace.ParseTraceState.
+func stateOf(header string) (state trace.TraceState) {
+	for header != "" {
+		begin := strings.LastIndexByte(header, ',') + 1
+		key, value := cut(header[begin:], '=')
+		inserted, err := state.Insert(key, value)
+		if err != nil {
+			return trace.TraceState{}
 		}
-		text.WriteString(member.Key())
-		text.WriteByte('=')
-		text.WriteString(member.Value())
+		if state = inserted; begin == 0 {
+			break
+		}
+		header = header[:begin-1]
+	}
+	return state
+}
+
+// appendMembers adds the members to the text, as in a header, with their values as they are.
+func appendMembers(text []byte, held baggage.Baggage) []byte {
+	for at, member := range held.Members() {
+		if at != 0 {
+			text = append(text, ',')
+		}
+		text = append(append(append(text, member.Key()...), '='), member.Value()...)
 		for _, property := range member.Properties() {
-			text.WriteByte(';')
-			text.WriteString(property.String())
+			text = append(append(text, ';'), property.String()...)
 		}
 	}
-	return text.String()
+	return text
 }
 
 // baggageOf returns the baggage of a header that the library wrote.

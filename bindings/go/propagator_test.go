@@ -2,6 +2,7 @@ package otelc
 
 import (
 	"context"
+	"fmt"
 	"net/http"
 	"strings"
 	"sync"
@@ -102,11 +103,28 @@ func TestAContextKeepsWhatIsMissing(t *testing.T) {
 	}
 }
 
+func TestAHeaderThatCannotBeReadLeavesTheOthers(t *testing.T) {
+	ctx := read(map[string]string{traceparent: exampleParent, tracestate: "a=\xe9", baggageHeader: "b=1"})
+	sc := trace.SpanContextFromContext(ctx)
+	if !sc.IsValid() || sc.TraceState().Len() != 0 || baggage.FromContext(ctx).Len() != 1 {
+		t.Errorf("read: %v", ctx)
+	}
+	// OpenTelemetry Go holds no empty value.
+	ctx = read(map[string]string{traceparent: exampleParent, tracestate: "a=1,b="})
+	if sc = trace.SpanContextFromContext(ctx); !sc.IsValid() || sc.TraceState().Len() != 0 {
+		t.Errorf("read: %v", ctx)
+	}
+}
+
 func TestLongHeaders(t *testing.T) {
 	value := strings.Repeat("v", 8000)
-	sent := write(read(map[string]string{baggageHeader: "k=" + value}))
-	if sent[baggageHeader] != "k="+value {
-		t.Errorf("%d bytes are sent", len(sent[baggageHeader]))
+	state := "k0=v"
+	for at := 1; at < 32; at++ {
+		state += fmt.Sprintf(",k%d= %d", at, at)
+	}
+	sent := write(read(map[string]string{traceparent: exampleParent, tracestate: state, baggageHeader: "k=" + value}))
+	if sent[tracestate] != state || sent[baggageHeader] != "k="+value {
+		t.Errorf("%q and %d bytes are sent", sent[tracestate], len(sent[baggageHeader]))
 	}
 }
 
@@ -145,27 +163,59 @@ var propagators = map[string]propagation.TextMapPropagator{
 	"Go": propagation.NewCompositeTextMapPropagator(propagation.TraceContext{}, propagation.Baggage{}),
 }
 
-func BenchmarkExtract(b *testing.B) {
-	received := mapCarrier{traceparent: exampleParent, tracestate: exampleState, baggageHeader: exampleBaggage}
-	for name, propagator := range propagators {
-		b.Run(name, func(b *testing.B) {
-			b.ReportAllocs()
-			for at := 0; at < b.N; at++ {
-				propagator.Extract(context.Background(), received)
-			}
-		})
+// carried are headers of requests: with each header, and with fewer.
+var carried = map[string]mapCarrier{
+	"all":    {traceparent: exampleParent, tracestate: exampleState, baggageHeader: exampleBaggage},
+	"state":  {traceparent: exampleParent, tracestate: exampleState},
+	"parent": {traceparent: exampleParent},
+}
+
+// each runs the benchmark with each of the headers and propagators.
+func each(b *testing.B, run func(b *testing.B, propagator propagation.TextMapPropagator, headers mapCarrier)) {
+	for what, headers := range carried {
+		for name, propagator := range propagators {
+			b.Run(what+"/"+name, func(b *testing.B) {
+				b.ReportAllocs()
+				run(b, propagator, headers)
+			})
+		}
 	}
 }
 
+func BenchmarkExtract(b *testing.B) {
+	each(b, func(b *testing.B, propagator propagation.TextMapPropagator, headers mapCarrier) {
+		for at := 0; at < b.N; at++ {
+			propagator.Extract(context.Background(), headers)
+		}
+	})
+}
+
 func BenchmarkInject(b *testing.B) {
+	each(b, func(b *testing.B, propagator propagation.TextMapPropagator, headers mapCarrier) {
+		ctx, sent := read(headers), mapCarrier{}
+		for at := 0; at < b.N; at++ {
+			propagator.Inject(ctx, sent)
+		}
+	})
+}
+
+func TestAChildHasTheTraceOfItsParent(t *testing.T) {
 	ctx := read(map[string]string{traceparent: exampleParent, tracestate: exampleState, baggageHeader: exampleBaggage})
-	for name, propagator := range propagators {
-		b.Run(name, func(b *testing.B) {
-			b.ReportAllocs()
-			sent := mapCarrier{}
-			for at := 0; at < b.N; at++ {
-				propagator.Inject(ctx, sent)
-			}
-		})
+	child, other := StartChild(ctx), StartChild(ctx)
+	sent, second := write(child), write(other)
+	id := exampleParent[36:52]
+	if sent[traceparent][:36] != exampleParent[:36] || sent[traceparent][52:] != exampleParent[52:] ||
+		sent[tracestate] != exampleState || len(strings.Split(sent[baggageHeader], ",")) != 3 {
+		t.Errorf("child: %v", sent)
+	}
+	if sent[traceparent][36:52] == id || sent[traceparent] == second[traceparent] || trace.SpanContextFromContext(child).IsRemote() {
+		t.Errorf("ids: %v, %v", sent, second)
+	}
+}
+
+func TestAChildWithoutAParentBeginsATrace(t *testing.T) {
+	child := StartChild(context.Background())
+	if sc := trace.SpanContextFromContext(child); !sc.IsValid() || sc.TraceFlags() != trace.FlagsSampled {
+		t.Errorf("root: %v", sc)
 	}
 }

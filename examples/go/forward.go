@@ -1,14 +1,13 @@
-// Command forward prints the headers to send on for those received, one `name: value` a line on standard input.
+// Command forward reads headers, one `name: value` a line, starts a span below theirs, and prints the headers to send on.
 package main
 
 import (
 	"bufio"
 	"context"
+	"go.opentelemetry.io/otel/propagation"
 	"net/http"
 	"net/textproto"
 	"os"
-
-	"go.opentelemetry.io/otel/propagation"
 	"otelc"
 )
 
@@ -16,6 +15,6 @@ func main() {
 	received, _ := textproto.NewReader(bufio.NewReader(os.Stdin)).ReadMIMEHeader()
 	propagator, sent := otelc.Propagator{}, http.Header{}
 	ctx := propagator.Extract(context.Background(), propagation.HeaderCarrier(received))
-	propagator.Inject(ctx, propagation.HeaderCarrier(sent))
+	propagator.Inject(otelc.StartChild(ctx), propagation.HeaderCarrier(sent))
 	_ = sent.Write(os.Stdout)
 }

@@ -9,12 +9,14 @@ static void reads(void) {
     size_t length = 7;
     CALL(OTEL_STATUS_INVALID, otel_baggage_length(&context, &length));
     check(length == 7, "the length of nothing");
+    LEAVES(OTEL_STATUS_INVALID, otel_context_baggage, &context);
     LEAVES(OTEL_STATUS_INVALID, otel_baggage_key, &context, 0);
     LEAVES(OTEL_STATUS_INVALID, otel_baggage_get, &context, TEXT("k"));
     LEAVES(OTEL_STATUS_INVALID, otel_baggage_metadata, &context, TEXT("k"));
     CALL(OTEL_STATUS_OK, otel_context_new(&context));
     CALL(OTEL_STATUS_OK, otel_baggage_length(&context, &length));
     check(length == 0, "the length of no baggage");
+    WRITES("", otel_context_baggage, &context);
     LEAVES(OTEL_STATUS_ABSENT, otel_baggage_key, &context, 0);
     LEAVES(OTEL_STATUS_ABSENT, otel_baggage_get, &context, TEXT("k"));
     LEAVES(OTEL_STATUS_ABSENT, otel_baggage_metadata, &context, TEXT("k"));
@@ -23,6 +25,8 @@ static void reads(void) {
             "key1=value1;property1;property2, serverNode=DF%2028, key3=value3; p=v");
     CALL(OTEL_STATUS_OK, otel_baggage_length(&context, &length));
     check(length == 3, "the length of three members");
+    WRITES("key1=value1;property1;property2,serverNode=DF%2028,key3=value3;p=v",
+           otel_context_baggage, &context);
     WRITES("key1", otel_baggage_key, &context, 0);
     WRITES("serverNode", otel_baggage_key, &context, 1);
     WRITES("key3", otel_baggage_key, &context, 2);
@@ -132,7 +136,101 @@ static void limits(void) {
     otel_free(&context);
 }
 
-static void (*const runs[])(void) = {reads, sets, removes, refuses, limits};
+#define LITERAL(text) text, sizeof text - 1
+#define MEMBER(key, value, metadata) {LITERAL(key), LITERAL(value), LITERAL(metadata)}
+
+/* All members are set in turn, or none. */
+static void sets_all(void) {
+    static const otel_member many[] = {
+        MEMBER("k1", "a, b", " p=1 "),
+        {"k2", 2, NULL, 0, NULL, 0},
+        MEMBER("k1", "c", "q"),
+        MEMBER("k3", "\xc3\xa9", ""),
+    };
+    otel_handle nothing = OTEL_NOTHING, context = OTEL_NOTHING, changed = OTEL_NOTHING;
+    size_t failed;
+    CALL(OTEL_STATUS_INVALID, otel_baggage_set_all(&nothing, many, 4, &changed, &failed));
+    check(changed.object == NULL, "members of nothing");
+    extract(&context, "traceparent", PARENT);
+    extract(&context, "baggage", "k3=x,k0=y");
+    CALL(OTEL_STATUS_OK, otel_baggage_set_all(&context, many, 4, &changed, &failed));
+    injects(&changed, "baggage", "k3=%C3%A9,k0=y,k1=c;q,k2=");
+    injects(&changed, "traceparent", PARENT);
+    injects(&context, "baggage", "k3=x,k0=y");
+    CALL(OTEL_STATUS_OK, otel_baggage_set_all(&context, NULL, 0, &changed, NULL));
+    injects(&changed, "baggage", "k3=x,k0=y");
+    otel_free(&context);
+    otel_free(&changed);
+}
+
+/* A member that is refused, with its status. */
+typedef struct wrong {
+    otel_status status;
+    otel_member member;
+} wrong;
+
+/* One refused member leaves both handles unchanged. */
+static void refuses_all(void) {
+    static const wrong all[] = {
+        {OTEL_STATUS_KEY, MEMBER("a b", "", "")},
+        {OTEL_STATUS_KEY, {NULL, 0, NULL, 0, NULL, 0}},
+        {OTEL_STATUS_NOT_TEXT, MEMBER("k\xff", "", "")},
+        {OTEL_STATUS_NOT_TEXT, MEMBER("k", "\xff", "")},
+        {OTEL_STATUS_NOT_TEXT, MEMBER("k", "", "\xff")},
+        {OTEL_STATUS_UNSENDABLE, MEMBER("k", "", "a\x01")},
+        {OTEL_STATUS_UNSENDABLE, MEMBER("a b", "", "\xc3\xa9")},
+    };
+    otel_member members[3] = {MEMBER("k", "v", ""), MEMBER("l", "w", ""), MEMBER("m", "x", "")};
+    otel_handle context = OTEL_NOTHING, changed = OTEL_NOTHING;
+    size_t at, failed;
+    extract(&context, "baggage", "j=u");
+    extract(&changed, "baggage", "other=1");
+    for (at = 0; at < sizeof all / sizeof *all; at++) {
+        otel_member given[4];
+        memcpy(given, members, sizeof members);
+        given[3] = given[at % 4];
+        given[at % 4] = all[at].member;
+        failed = 9;
+        CALL(all[at].status, otel_baggage_set_all(&context, given, 4, &changed, &failed));
+        check(failed == at % 4, "the index of the refused member");
+        CALL(all[at].status, otel_baggage_set_all(&context, given, 4, &changed, NULL));
+    }
+    members[1].value = NULL;
+    CALL(OTEL_STATUS_INVALID, otel_baggage_set_all(&context, members, 3, &changed, NULL));
+    CALL(OTEL_STATUS_INVALID, otel_baggage_set_all(&context, NULL, 1, &changed, NULL));
+    CALL(OTEL_STATUS_INVALID, otel_baggage_set_all(&context, members, SIZE_MAX, &changed, NULL));
+    CALL(OTEL_STATUS_INVALID, otel_baggage_set_all(&context, members, 0, &context, NULL));
+    injects(&context, "baggage", "j=u");
+    injects(&changed, "baggage", "other=1");
+    otel_free(&context);
+    otel_free(&changed);
+}
+
+/* 64 members fit, and the 65th doesn't. */
+static void fills(void) {
+    static char keys[65][4];
+    static otel_member members[65];
+    otel_handle context = OTEL_NOTHING, changed = OTEL_NOTHING;
+    size_t at, count = 0, failed = 0;
+    for (at = 0; at < 65; at++) {
+        otel_member one = MEMBER("", "v", "");
+        sprintf(keys[at], "k%02d", (int)at);
+        one.key = keys[at];
+        one.key_length = 3;
+        members[at] = one;
+    }
+    CALL(OTEL_STATUS_OK, otel_context_new(&context));
+    CALL(OTEL_STATUS_REFUSED, otel_baggage_set_all(&context, members, 65, &changed, &failed));
+    check(failed == 64 && changed.object == NULL, "the 65th member");
+    CALL(OTEL_STATUS_OK, otel_baggage_set_all(&context, members, 64, &changed, &failed));
+    CALL(OTEL_STATUS_OK, otel_baggage_length(&changed, &count));
+    check(count == 64, "64 members");
+    otel_free(&context);
+    otel_free(&changed);
+}
+
+static void (*const runs[])(void) = {reads, sets, removes, refuses, limits,
+                                     sets_all, refuses_all, fills};
 
 int main(void) {
     return ends(runs, sizeof runs / sizeof *runs);

@@ -31,6 +31,53 @@ static void there_and_back(void) {
     otel_free(&context);
 }
 
+/* Contexts are made of the values of headers, without headers. */
+static void values(void) {
+    static const char *const wrong[] = {"\x01", "a\nb", "\x7f", "\xc3\xa9"};
+    otel_handle context = OTEL_NOTHING;
+    size_t at;
+    CALL(OTEL_STATUS_OK,
+         otel_context_from_values(&context, TEXT(PARENT), TEXT(STATE), TEXT(BAGGAGE)));
+    injects(&context, "traceparent", PARENT);
+    injects(&context, "tracestate", STATE);
+    injects(&context, "baggage", BAGGAGE);
+    for (at = 0; at < sizeof wrong / sizeof *wrong; at++) {
+        CALL(OTEL_STATUS_UNSENDABLE,
+             otel_context_from_values(&context, TEXT(wrong[at]), TEXT(""), TEXT("")));
+        CALL(OTEL_STATUS_UNSENDABLE,
+             otel_context_from_values(&context, TEXT(PARENT), TEXT(wrong[at]), TEXT("")));
+        CALL(OTEL_STATUS_UNSENDABLE,
+             otel_context_from_values(&context, TEXT(PARENT), TEXT(""), TEXT(wrong[at])));
+    }
+    CALL(OTEL_STATUS_NOT_TEXT,
+         otel_context_from_values(&context, TEXT("\xff"), TEXT(""), TEXT("")));
+    CALL(OTEL_STATUS_NOT_TEXT,
+         otel_context_from_values(&context, TEXT(""), TEXT("\xff"), TEXT("")));
+    CALL(OTEL_STATUS_NOT_TEXT,
+         otel_context_from_values(&context, TEXT(""), TEXT(""), TEXT("\xff")));
+    injects(&context, "traceparent", PARENT);
+    injects(&context, "baggage", BAGGAGE);
+    /* The object that the handle held is freed, and nothing of it is kept. */
+    CALL(OTEL_STATUS_OK,
+         otel_context_from_values(&context, TEXT("\t" PARENT " "), NULL, 0, NULL, 0));
+    injects(&context, "traceparent", PARENT);
+    injects(&context, "tracestate", "");
+    injects(&context, "baggage", "");
+    CALL(OTEL_STATUS_OK,
+         otel_context_from_values(&context, TEXT("x"), TEXT(STATE), TEXT("k,a=1,a=2")));
+    WRITES("", otel_context_trace_state, &context);
+    WRITES("a=2", otel_context_baggage, &context);
+    CALL(OTEL_STATUS_OK, otel_headers_new(&context));
+    CALL(OTEL_STATUS_OK, otel_context_from_values(&context, NULL, 0, NULL, 0, TEXT("b=1")));
+    WRITES("b=1", otel_context_baggage, &context);
+    CALL(OTEL_STATUS_INVALID, otel_context_from_values(NULL, "", 0, "", 0, "", 0));
+    CALL(OTEL_STATUS_INVALID, otel_context_from_values(&context, NULL, 1, "", 0, "", 0));
+    CALL(OTEL_STATUS_INVALID, otel_context_from_values(&context, "", 0, NULL, 1, "", 0));
+    CALL(OTEL_STATUS_INVALID, otel_context_from_values(&context, "", 0, "", 0, NULL, 1));
+    CALL(OTEL_STATUS_INVALID, otel_context_from_values(&context, "", 0, "", 0, "a=1", SIZE_MAX));
+    otel_free(&context);
+}
+
 static void refusals(void) {
     otel_handle headers = OTEL_NOTHING, context = OTEL_NOTHING;
     char room[8] = "########";
@@ -102,7 +149,64 @@ static void removals(void) {
     otel_free(&context);
 }
 
-static void (*const runs[])(void) = {there_and_back, refusals, clones, removals};
+/* A copy that shares nothing has the same span and baggage. */
+static void copies(void) {
+    static const char *const states[] = {"", "a=1 b", STATE ",a= x"};
+    otel_handle context = OTEL_NOTHING, copy = OTEL_NOTHING;
+    otel_span_context span, same;
+    size_t at;
+    extract(&context, "traceparent", PARENT);
+    CALL(OTEL_STATUS_OK, otel_context_span(&context, &span));
+    CALL(OTEL_STATUS_OK, otel_context_new(&context));
+    CALL(OTEL_STATUS_OK, otel_context_detach_copy(&context, &copy));
+    injects(&copy, "baggage", "");
+    extract(&context, "baggage", "k=v;m=1,l=%20w");
+    for (at = 0; at < 3; at++) {
+        span.is_remote = at != 0;
+        span.flags = (uint8_t)(0xf0 + at);
+        CALL(OTEL_STATUS_OK, otel_context_set_span(&context, &span, TEXT(states[at])));
+        CALL(OTEL_STATUS_OK, otel_context_detach_copy(&context, &copy));
+        CALL(OTEL_STATUS_OK, otel_context_span(&copy, &same));
+        check(memcmp(&same, &span, sizeof span) == 0, "the span of a copy");
+        WRITES(states[at], otel_context_trace_state, &copy);
+        injects(&copy, "baggage", "k=v;m=1,l=%20w");
+    }
+    otel_free(&context);
+    WRITES(states[2], otel_context_trace_state, &copy);
+    injects(&copy, "baggage", "k=v;m=1,l=%20w");
+    otel_free(&copy);
+}
+
+/* Headers that are used again keep nothing of the context before, but what else they have. */
+static void used_again(void) {
+    otel_handle headers = OTEL_NOTHING, context = OTEL_NOTHING, empty = OTEL_NOTHING;
+    CALL(OTEL_STATUS_OK, otel_headers_new(&headers));
+    CALL(OTEL_STATUS_OK, otel_headers_append(&headers, TEXT("host"), TEXT("a")));
+    CALL(OTEL_STATUS_OK, otel_headers_append(&headers, TEXT("Baggage"), TEXT("k=v")));
+    CALL(OTEL_STATUS_OK, otel_headers_append(&headers, TEXT("baggage"), TEXT("l=w")));
+    CALL(OTEL_STATUS_OK, otel_headers_append(&headers, TEXT("tracestate"), TEXT("a=1")));
+    CALL(OTEL_STATUS_OK, otel_headers_append(&headers, TEXT("host"), TEXT("b")));
+    CALL(OTEL_STATUS_OK, otel_context_new(&empty));
+    extract(&context, "traceparent", PARENT);
+    extract(&context, "baggage", BAGGAGE);
+    CALL(OTEL_STATUS_OK, otel_context_inject(&context, &headers));
+    WRITES(PARENT, otel_headers_get, &headers, TEXT("traceparent"));
+    WRITES("", otel_headers_get, &headers, TEXT("tracestate"));
+    WRITES(BAGGAGE, otel_headers_get, &headers, TEXT("baggage"));
+    CALL(OTEL_STATUS_INVALID, otel_context_inject(&headers, &context));
+    CALL(OTEL_STATUS_INVALID, otel_context_inject(&empty, &context));
+    CALL(OTEL_STATUS_OK, otel_context_inject(&empty, &headers));
+    LEAVES(OTEL_STATUS_ABSENT, otel_headers_get, &headers, TEXT("traceparent"));
+    LEAVES(OTEL_STATUS_ABSENT, otel_headers_get, &headers, TEXT("tracestate"));
+    WRITES("", otel_headers_get, &headers, TEXT("baggage"));
+    WRITES("a", otel_headers_get, &headers, TEXT("host"));
+    otel_free(&headers);
+    otel_free(&context);
+    otel_free(&empty);
+}
+
+static void (*const runs[])(void) = {there_and_back, values, refusals, clones, copies, removals,
+                                     used_again};
 
 int main(void) {
     return ends(runs, sizeof runs / sizeof *runs);

@@ -3,7 +3,8 @@
  *
  * An input is a list of headers: a byte that names the header, a value, and a byte 0 that ends it.
  * The model reads traceparent and the limits of a baggage as otel.h says. Each text that is written
- * fits exactly, and what is injected is extracted again as it was. */
+ * fits exactly, what is injected is extracted again as it was, with headers and without them, and
+ * copies, children and contexts with another pair have what they should. */
 #include <assert.h>
 #include <stdio.h>
 #include <stdlib.h>
@@ -189,6 +190,76 @@ static void check_state(const char *state, size_t length) {
     free(without.bytes), free(with.bytes), free(value.bytes);
 }
 
+/* Whether a pair is set in the context's trace state as in its header, and the rest is kept. */
+static void check_pair(otel_handle *context, const otel_span_context *span) {
+    otel_handle set = OTEL_NOTHING;
+    text state, with, has;
+    ASK(&state, otel_context_trace_state, context);
+    ASK(&with, otel_trace_state_insert, state.bytes, state.length, "fuzz", 4, "1", 1);
+    MUST(otel_context_clone(context, &set));
+    MUST(otel_context_set_trace_state_pair(&set, "fuzz", 4, "1", 1));
+    ASK(&has, otel_context_trace_state, &set);
+    assert(has.length == with.length && memcmp(has.bytes, with.bytes, has.length) == 0);
+    same_span(&set, span);
+    same_baggage(context, &set, OTEL_MAX_MEMBERS);
+    free(state.bytes), free(with.bytes), free(has.bytes);
+    otel_free(&set);
+}
+
+/* Whether a copy that shares nothing has the same span, trace state and members. */
+static void check_copy(otel_handle *context, const otel_span_context *span) {
+    otel_handle copy = OTEL_NOTHING;
+    text state, same;
+    MUST(otel_context_detach_copy(context, &copy));
+    same_span(&copy, span);
+    same_baggage(context, &copy, OTEL_MAX_MEMBERS);
+    ASK(&state, otel_context_trace_state, context);
+    ASK(&same, otel_context_trace_state, &copy);
+    assert(state.length == same.length && memcmp(state.bytes, same.bytes, same.length) == 0);
+    free(state.bytes), free(same.bytes);
+    otel_free(&copy);
+}
+
+/* Whether a child has the trace of its parent, or begins one, and can be sent into headers that are
+ * used again. */
+static void check_child(otel_handle *context, const otel_span_context *span, otel_handle *used) {
+    static const otel_span_context ids = {{7}, {9}, 2, 1};
+    otel_span_context wanted = span->is_remote ? *span : ids;
+    otel_handle child = OTEL_NOTHING;
+    text parent;
+    memcpy(wanted.span_id, ids.span_id, sizeof ids.span_id);
+    wanted.is_remote = 0;
+    MUST(otel_context_start_child_with(context, &ids, &child));
+    same_span(&child, &wanted);
+    same_baggage(context, &child, OTEL_MAX_MEMBERS);
+    MUST(otel_context_inject(&child, used));
+    ASK(&parent, otel_headers_get, used, "traceparent", 11);
+    assert(parent.length == OTEL_MAX_TRACEPARENT);
+    assert(memcmp(parent.bytes + 36, "0900000000000000", 16) == 0);
+    free(parent.bytes);
+    otel_free(&child);
+}
+
+/* Whether the context that is made of the values of headers is the one that is extracted. */
+static void check_values(otel_handle *headers, otel_handle *context,
+                         const otel_span_context *span) {
+    otel_handle made = OTEL_NOTHING;
+    text parent, state, baggage, held, same;
+    ASK(&parent, otel_headers_get, headers, "traceparent", 11);
+    ASK(&state, otel_headers_get, headers, "tracestate", 10);
+    ASK(&baggage, otel_headers_get, headers, "baggage", 7);
+    MUST(otel_context_from_values(&made, parent.bytes, parent.bytes ? parent.length : 0,
+                                  state.bytes, state.bytes ? state.length : 0,
+                                  baggage.bytes, baggage.length));
+    same_span(&made, span);
+    same_baggage(context, &made, OTEL_MAX_MEMBERS);
+    ASK(&held, otel_context_trace_state, context);
+    ASK(&same, otel_context_trace_state, &made);
+    assert(held.length == same.length && memcmp(held.bytes, same.bytes, same.length) == 0);
+    free(parent.bytes), free(state.bytes), free(baggage.bytes), free(held.bytes), free(same.bytes);
+    otel_free(&made);
+}
+
 int LLVMFuzzerTestOneInput(const uint8_t *data, size_t size) {
     otel_handle in = OTEL_NOTHING, out = OTEL_NOTHING, context = OTEL_NOTHING, again = OTEL_NOTHING;
     received all = {0, 0, 0, OTEL_NO_SPAN};
@@ -214,12 +285,28 @@ int LLVMFuzzerTestOneInput(const uint8_t *data, size_t size) {
         assert(!sent.bytes || sent.length <= OTEL_MAX_HEADER);
         if (sent.bytes && at == 1)
             check_state(sent.bytes, sent.length);
+        if (sent.bytes) {
+            text shown;
+            if (at == 0)
+                ASK(&shown, otel_context_traceparent, &context);
+            else if (at == 1)
+                ASK(&shown, otel_context_trace_state, &context);
+            else
+                ASK(&shown, otel_context_baggage, &context);
+            assert(shown.length == sent.length
+                   && memcmp(shown.bytes, sent.bytes, sent.length) == 0);
+            free(shown.bytes);
+        }
         free(sent.bytes);
     }
     MUST(otel_context_new(&again));
     MUST(otel_context_extract(&out, &again));
     same_span(&again, &all.span);
     same_baggage(&context, &again, all.baggages ? all.members : 0);
+    check_values(&out, &again, &all.span);
+    check_pair(&context, &all.span);
+    check_copy(&context, &all.span);
+    check_child(&context, &all.span, &in);
     otel_free(&in), otel_free(&out), otel_free(&context), otel_free(&again);
     return 0;
 }

@@ -29,7 +29,9 @@ static void outputs(void) {
     CALL(OTEL_STATUS_OK, otel_context_new(&context));
     CALL(OTEL_STATUS_OK, otel_context_extract(&headers, &context));
     ASKS(55, otel_headers_get, &headers, TEXT("traceparent"));
+    ASKS(55, otel_context_traceparent, &context);
     ASKS(7, otel_context_trace_state, &context);
+    ASKS(5, otel_context_baggage, &context);
     ASKS(1, otel_baggage_key, &context, 0);
     ASKS(1, otel_baggage_get, &context, TEXT("k"));
     ASKS(1, otel_baggage_metadata, &context, TEXT("k"));
@@ -65,6 +67,15 @@ static void inputs(void) {
     check(span.is_remote == 1, "is_remote");
     CALL(OTEL_STATUS_INVALID, otel_context_set_span(&context, NULL, NULL, 0));
     CALL(OTEL_STATUS_INVALID, otel_context_set_span(&context, &span, "a=1", LONG));
+    CALL(OTEL_STATUS_INVALID, otel_context_set_trace_state_pair(NULL, TEXT("a"), TEXT("1")));
+    CALL(OTEL_STATUS_INVALID, otel_context_set_trace_state_pair(&headers, TEXT("a"), TEXT("1")));
+    CALL(OTEL_STATUS_INVALID, otel_context_set_trace_state_pair(&context, NULL, 1, "1", 1));
+    CALL(OTEL_STATUS_INVALID, otel_context_set_trace_state_pair(&context, "a", LONG, "1", 1));
+    CALL(OTEL_STATUS_INVALID, otel_context_set_trace_state_pair(&context, "a", 1, NULL, 1));
+    CALL(OTEL_STATUS_INVALID, otel_context_set_trace_state_pair(&context, "a", 1, "1", LONG));
+    CALL(OTEL_STATUS_KEY, otel_context_set_trace_state_pair(&context, NULL, 0, NULL, 0));
+    CALL(OTEL_STATUS_INVALID, otel_context_baggage(NULL, &none, 1, NULL));
+    CALL(OTEL_STATUS_INVALID, otel_context_baggage(&headers, &none, 1, NULL));
     CALL(OTEL_STATUS_OK, otel_baggage_set(&context, TEXT("k"), NULL, 0, NULL, 0, &changed));
     WRITES("", otel_baggage_get, &changed, TEXT("k"));
     CALL(OTEL_STATUS_INVALID, otel_baggage_set(&context, TEXT("k"), "v", LONG, "", 0, &changed));
@@ -85,6 +96,7 @@ static void inputs(void) {
 static void handles(void) {
     otel_handle headers = OTEL_NOTHING, context = OTEL_NOTHING, stack = OTEL_NOTHING;
     otel_handle nothing = OTEL_NOTHING, copy;
+    otel_span_context span = OTEL_NO_SPAN;
     size_t count;
     CALL(OTEL_STATUS_OK, otel_headers_new(&headers));
     CALL(OTEL_STATUS_OK, otel_context_new(&context));
@@ -92,10 +104,16 @@ static void handles(void) {
     copy = context;
     CALL(OTEL_STATUS_INVALID, otel_context_clone(&context, &context));
     CALL(OTEL_STATUS_INVALID, otel_context_clone(&context, &copy));
+    CALL(OTEL_STATUS_INVALID, otel_context_detach_copy(&context, &copy));
+    CALL(OTEL_STATUS_INVALID, otel_context_detach_copy(&nothing, &context));
+    CALL(OTEL_STATUS_INVALID, otel_context_detach_copy(&headers, &context));
+    CALL(OTEL_STATUS_INVALID, otel_context_detach_copy(&context, NULL));
     CALL(OTEL_STATUS_INVALID, otel_context_extract(&headers, &headers));
     CALL(OTEL_STATUS_INVALID, otel_context_inject(&context, &context));
     CALL(OTEL_STATUS_INVALID, otel_baggage_set(&context, TEXT("k"), "", 0, "", 0, &context));
     CALL(OTEL_STATUS_INVALID, otel_baggage_remove(&context, TEXT("k"), &context));
+    CALL(OTEL_STATUS_INVALID, otel_baggage_clear(&context, &context));
+    CALL(OTEL_STATUS_INVALID, otel_baggage_clear(&headers, &context));
     CALL(OTEL_STATUS_INVALID, otel_stack_current(&stack, &stack));
     CALL(OTEL_STATUS_INVALID, otel_stack_attach(&stack, &stack, (uint16_t[]){0}));
     CALL(OTEL_STATUS_INVALID, otel_stack_attach(&stack, &context, NULL));
@@ -108,6 +126,11 @@ static void handles(void) {
     CALL(OTEL_STATUS_INVALID, otel_context_extract(&headers, NULL));
     CALL(OTEL_STATUS_INVALID, otel_context_inject(NULL, &headers));
     CALL(OTEL_STATUS_INVALID, otel_context_span(&context, NULL));
+    CALL(OTEL_STATUS_INVALID, otel_context_start_child(&context, &context));
+    CALL(OTEL_STATUS_INVALID, otel_context_start_child(&context, NULL));
+    CALL(OTEL_STATUS_INVALID, otel_context_start_child(&nothing, &context));
+    CALL(OTEL_STATUS_INVALID, otel_context_start_child_with(&context, NULL, &nothing));
+    CALL(OTEL_STATUS_INVALID, otel_context_start_child_with(&context, &span, &context));
     CALL(OTEL_STATUS_INVALID, otel_baggage_length(&context, NULL));
     CALL(OTEL_STATUS_INVALID, otel_baggage_length(NULL, &count));
     /* The objects are as they were. */
@@ -125,7 +148,7 @@ static void texts(void) {
     int status;
     check(strcmp(otel_version(), OTEL_VERSION) == 0, "otel_version");
     check(strcmp(otel_status_text(OTEL_STATUS_NO_MEMORY), "out of memory") == 0, "a status's text");
-    for (status = -1; status <= OTEL_STATUS_REFUSED + 1; status++)
+    for (status = -1; status <= OTEL_STATUS_NO_RANDOM + 1; status++)
         check(strlen(otel_status_text((otel_status)status)) > 3, "a status's text");
     check(strcmp(otel_status_text((otel_status)99), "no status") == 0, "no status's text");
 }

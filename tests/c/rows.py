@@ -3,8 +3,8 @@
 
 Each header is read, and each state changed and queried, as the text of a header. Reading trims the blanks at the end of a value,
 so the header of a state with such a value isn't equivalent: the rows below that act on it are left out. A baggage belongs to a
-context. The values replaced by an insert or a removal are read before, and rows that print a baggage are left out. The last line
-is `N passed, M failed`.
+context. The values replaced by an insert or a removal are read before. Rows that print a baggage are left out, as are those of a
+baggage from one on with metadata that no header can carry, which is refused. The last line is `N passed, M failed`.
 """
 import ctypes
 import re
@@ -12,6 +12,7 @@ import sys
 
 ROOM = 16447
 OK, NO_MEMORY, NOT_TEXT, NO_ROOM, ABSENT, KEY, VALUE, LIST = range(8)
+UNSENDABLE = 10
 ERRORS = {"key": KEY, "value": VALUE, "list": LIST}
 # A key that no row has: without it, a state is unchanged.
 NO_KEY = b"no_row/has-this*key"
@@ -21,6 +22,8 @@ PART = re.compile(r'"((?:[^"\\]|\\.)*)"(?:\*(\d+))?')
 ESCAPE = re.compile(r'\\(?:u\{([0-9a-f]+)\}|(.))', re.IGNORECASE)
 CUT = re.compile(rb"[ \t](,|$)")
 OTHER = {"n": "\n", "t": "\t"}
+# What a header can carry.
+SENDABLE = re.compile(r"[\t -~]*")
 
 
 def text(part):
@@ -93,7 +96,10 @@ class Baggages:
         """Whether the context now is the one that the call returns."""
         changed, old = ctypes.c_void_p(), self.context
         function = getattr(self.functions, f"otel_baggage_{name}")
-        if function(ctypes.byref(old), *sized(given), ctypes.byref(changed)) != OK:
+        status = function(ctypes.byref(old), *sized(given), ctypes.byref(changed))
+        if status == UNSENDABLE and not SENDABLE.fullmatch(given[2].decode().strip()):
+            self.is_known = False
+        if status != OK:
             return False
         self.context = changed
         self.functions.otel_free(ctypes.byref(old))
@@ -120,6 +126,8 @@ class Baggages:
         elif self.is_known and name in ("insert", "insert_with_metadata"):
             old = self.found(given[0])
             is_set = self.change("set", *given, *[b""] * (3 - len(given)))
+            if not self.is_known:
+                return None
             return old[:len(given) - 1] if is_set and old != NONE else NONE
         elif self.is_known and name == "remove":
             old = self.found(given[0])

@@ -98,28 +98,59 @@ static void repeated(void) {
     otel_free(&context);
 }
 
-/* What can't be sent stops the injection there, and headers of a missing span stay. */
-static void refused_or_old(void) {
+/* A cleared baggage is empty, and its span stays. */
+static void cleared(void) {
+    otel_handle context = OTEL_NOTHING, changed = OTEL_NOTHING;
+    extract(&context, "traceparent", PARENT);
+    extract(&context, "baggage", "a=1,b=2");
+    CALL(OTEL_STATUS_OK, otel_baggage_clear(&context, &changed));
+    sends(&changed, "traceparent", PARENT);
+    sends(&changed, "baggage", "");
+    sends(&context, "baggage", "a=1,b=2");
+    CALL(OTEL_STATUS_OK, otel_context_new(&context));
+    CALL(OTEL_STATUS_OK, otel_baggage_clear(&context, &changed));
+    sends(&changed, "traceparent", NULL);
+    otel_free(&context);
+    otel_free(&changed);
+}
+
+/* Texts with a byte that no header can carry, and 32 members that are empty. */
+static const char *const unsendable[] = {"\x01", "a\x1f", "\x7f", "\xc3\xa9", "a\nb", "a\rb"};
+#define COMMAS ",,,,,,,,,,,,,,,,,,,,,,,,,,,,,,,,"
+
+/* What no header can carry is refused where it is set, and headers that are used again keep no old
+ * one. */
+static void unsendable_or_old(void) {
     otel_handle headers = OTEL_NOTHING, context = OTEL_NOTHING, changed = OTEL_NOTHING;
     otel_span_context span = OTEL_NO_SPAN;
+    size_t at;
     CALL(OTEL_STATUS_OK, otel_headers_new(&headers));
     extract(&context, "traceparent", PARENT);
     CALL(OTEL_STATUS_OK, otel_context_inject(&context, &headers));
     CALL(OTEL_STATUS_OK, otel_context_span(&context, &span));
     CALL(OTEL_STATUS_OK, otel_context_new(&context));
     CALL(OTEL_STATUS_OK, otel_context_inject(&context, &headers));
-    WRITES(PARENT, otel_headers_get, &headers, TEXT("traceparent"));
+    LEAVES(OTEL_STATUS_ABSENT, otel_headers_get, &headers, TEXT("traceparent"));
     CALL(OTEL_STATUS_OK, otel_headers_new(&headers));
-    CALL(OTEL_STATUS_OK, otel_context_set_span(&context, &span, TEXT("a=\x01")));
-    CALL(OTEL_STATUS_REFUSED, otel_context_inject(&context, &headers));
+    CALL(OTEL_STATUS_OK, otel_context_set_span(&context, &span, TEXT("a=1 \t~")));
+    for (at = 0; at < sizeof unsendable / sizeof *unsendable; at++) {
+        char state[8] = "b=";
+        strcat(state, unsendable[at]);
+        CALL(OTEL_STATUS_UNSENDABLE, otel_context_set_span(&context, &span, TEXT(state)));
+        CALL(OTEL_STATUS_UNSENDABLE,
+             otel_baggage_set(&context, TEXT("k"), "", 0, TEXT(unsendable[at]), &changed));
+    }
+    check(changed.object == NULL, "a member that can't be sent");
+    CALL(OTEL_STATUS_OK, otel_context_inject(&context, &headers));
     WRITES(PARENT, otel_headers_get, &headers, TEXT("traceparent"));
-    LEAVES(OTEL_STATUS_ABSENT, otel_headers_get, &headers, TEXT("tracestate"));
-    LEAVES(OTEL_STATUS_ABSENT, otel_headers_get, &headers, TEXT("baggage"));
-    CALL(OTEL_STATUS_OK, otel_context_set_span(&context, &span, TEXT("a=1")));
-    CALL(OTEL_STATUS_OK, otel_baggage_set(&context, TEXT("k"), "", 0, TEXT("a\nb"), &changed));
-    CALL(OTEL_STATUS_REFUSED, otel_context_inject(&changed, &headers));
-    WRITES("a=1", otel_headers_get, &headers, TEXT("tracestate"));
-    LEAVES(OTEL_STATUS_ABSENT, otel_headers_get, &headers, TEXT("baggage"));
+    WRITES("a=1 \t~", otel_headers_get, &headers, TEXT("tracestate"));
+    /* A 33rd member isn't read, and white space around metadata is no part of it. */
+    CALL(OTEL_STATUS_OK, otel_context_set_span(&context, &span, TEXT(COMMAS "c=\x01")));
+    CALL(OTEL_STATUS_OK, otel_baggage_set(&context, TEXT("k"), "", 0, TEXT("\n m \n"), &changed));
+    sends(&changed, "baggage", "k=;m");
+    CALL(OTEL_STATUS_OK,
+         otel_baggage_set(&context, TEXT("k"), TEXT("\x01\xc3\xa9"), "", 0, &changed));
+    sends(&changed, "baggage", "k=%01%C3%A9");
     /* A comma in metadata is sent, and begins another member. */
     CALL(OTEL_STATUS_OK, otel_baggage_set(&context, TEXT("k"), "", 0, TEXT("m,l=1"), &changed));
     sends(&changed, "baggage", "k=;m,l=1");
@@ -128,7 +159,7 @@ static void refused_or_old(void) {
     otel_free(&changed);
 }
 
-static void (*const runs[])(void) = {alone, kept, repeated, refused_or_old};
+static void (*const runs[])(void) = {alone, kept, repeated, cleared, unsendable_or_old};
 
 int main(void) {
     return ends(runs, sizeof runs / sizeof *runs);

@@ -29,9 +29,11 @@ static void reads(void) {
     otel_span_context span = example;
     CALL(OTEL_STATUS_INVALID, otel_context_span(&context, &span));
     LEAVES(OTEL_STATUS_INVALID, otel_context_trace_state, &context);
+    LEAVES(OTEL_STATUS_INVALID, otel_context_traceparent, &context);
     CALL(OTEL_STATUS_OK, otel_context_new(&context));
     shows(&context, &none);
     WRITES("", otel_context_trace_state, &context);
+    LEAVES(OTEL_STATUS_ABSENT, otel_context_traceparent, &context);
     CALL(OTEL_STATUS_OK, otel_headers_new(&headers));
     CALL(OTEL_STATUS_INVALID, otel_context_span(&headers, &span));
     check(memcmp(&span, &example, sizeof span) == 0, "the span of no context");
@@ -41,6 +43,7 @@ static void reads(void) {
     CALL(OTEL_STATUS_OK, otel_context_extract(&headers, &context));
     shows(&context, &example);
     WRITES("rojo=1,congo=2", otel_context_trace_state, &context);
+    WRITES(PARENT, otel_context_traceparent, &context);
     otel_free(&headers);
     otel_free(&context);
 }
@@ -60,6 +63,8 @@ static void sets(void) {
     local.flags = 0xff;
     CALL(OTEL_STATUS_OK, otel_context_set_span(&context, &local, "", 0));
     shows(&context, &local);
+    WRITES("00-4bf92f3577b34da6a3ce929d0e0e4736-00f067aa0ba902b7-ff", otel_context_traceparent,
+           &context);
     WRITES("", otel_context_trace_state, &context);
     /* An invalid trace state changes nothing. */
     CALL(OTEL_STATUS_LIST, otel_context_set_span(&context, &example, TEXT("rojo")));
@@ -72,7 +77,146 @@ static void sets(void) {
     otel_free(&context);
 }
 
-static void (*const runs[])(void) = {reads, sets};
+/* Pairs of the trace state are set in front, and the rest of the span and the context is kept. */
+static void pairs(void) {
+    otel_handle context = OTEL_NOTHING, child = OTEL_NOTHING;
+    char many[256] = "new=1", *end = many + 5;
+    int at;
+    CALL(OTEL_STATUS_INVALID, otel_context_set_trace_state_pair(&context, TEXT("a"), TEXT("1")));
+    extract(&context, "baggage", "k=v");
+    CALL(OTEL_STATUS_OK, otel_context_set_trace_state_pair(&context, TEXT("a"), TEXT("1")));
+    shows(&context, &none);
+    WRITES("a=1", otel_context_trace_state, &context);
+    CALL(OTEL_STATUS_OK, otel_context_set_span(&context, &example, TEXT("rojo=1,congo=2")));
+    CALL(OTEL_STATUS_OK, otel_context_set_trace_state_pair(&context, TEXT("congo"), TEXT("\t3")));
+    shows(&context, &example);
+    injects(&context, "traceparent", PARENT);
+    injects(&context, "tracestate", "congo=\t3,rojo=1");
+    injects(&context, "baggage", "k=v");
+    CALL(OTEL_STATUS_OK, otel_context_start_child(&context, &child));
+    CALL(OTEL_STATUS_OK, otel_context_set_trace_state_pair(&child, TEXT("a@b"), TEXT("4")));
+    WRITES("a@b=4,congo=\t3,rojo=1", otel_context_trace_state, &child);
+    WRITES("congo=\t3,rojo=1", otel_context_trace_state, &context);
+    /* A pair that isn't valid, or that no header can carry, changes nothing. */
+    CALL(OTEL_STATUS_KEY, otel_context_set_trace_state_pair(&context, TEXT("Congo"), TEXT("1")));
+    CALL(OTEL_STATUS_KEY, otel_context_set_trace_state_pair(&context, TEXT(""), TEXT("1")));
+    CALL(OTEL_STATUS_VALUE, otel_context_set_trace_state_pair(&context, TEXT("a"), TEXT("1,2")));
+    CALL(OTEL_STATUS_NOT_TEXT,
+         otel_context_set_trace_state_pair(&context, TEXT("\xff"), TEXT("1")));
+    CALL(OTEL_STATUS_NOT_TEXT,
+         otel_context_set_trace_state_pair(&context, TEXT("a"), TEXT("\xff")));
+    CALL(OTEL_STATUS_UNSENDABLE,
+         otel_context_set_trace_state_pair(&context, TEXT("a"), TEXT("\x01")));
+    CALL(OTEL_STATUS_UNSENDABLE,
+         otel_context_set_trace_state_pair(&context, TEXT("a"), TEXT("\xc3\xa9")));
+    WRITES("congo=\t3,rojo=1", otel_context_trace_state, &context);
+    /* Of 33 pairs, the last is left out. */
+    for (at = 0; at < OTEL_MAX_PAIRS; at++)
+        end += sprintf(end, ",k%02d=1", at);
+    CALL(OTEL_STATUS_OK, otel_context_set_span(&context, &example, TEXT(many + 6)));
+    CALL(OTEL_STATUS_OK, otel_context_set_trace_state_pair(&context, TEXT("new"), TEXT("1")));
+    end[-6] = 0;
+    WRITES(many, otel_context_trace_state, &context);
+    otel_free(&context);
+    otel_free(&child);
+}
+
+/* A child has the trace of its parent, or begins one. */
+static void children(void) {
+    otel_handle context = OTEL_NOTHING, child = OTEL_NOTHING;
+    otel_span_context ids = {{7, 1}, {0, 0, 0, 0, 0, 0, 0, 9}, 0xfe, 1}, wanted = example, span;
+    CALL(OTEL_STATUS_INVALID, otel_context_start_child_with(&context, &ids, &child));
+    extract(&context, "baggage", "k=v");
+    CALL(OTEL_STATUS_OK, otel_context_start_child_with(&context, &ids, &child));
+    wanted = ids;
+    wanted.is_remote = 0;
+    shows(&child, &wanted);
+    WRITES("", otel_context_trace_state, &child);
+    injects(&child, "traceparent", "00-07010000000000000000000000000000-0000000000000009-fe");
+    injects(&child, "baggage", "k=v");
+    shows(&context, &none);
+    CALL(OTEL_STATUS_OK, otel_context_set_span(&context, &example, TEXT("rojo=1,congo=2")));
+    CALL(OTEL_STATUS_OK, otel_context_start_child_with(&context, &ids, &child));
+    wanted = example;
+    memcpy(wanted.span_id, ids.span_id, 8);
+    wanted.is_remote = 0;
+    shows(&child, &wanted);
+    WRITES("rojo=1,congo=2", otel_context_trace_state, &child);
+    injects(&child, "baggage", "k=v");
+    shows(&context, &example);
+    /* No id may be 0. The trace id counts only without a parent. */
+    memset(ids.trace_id, 0, 16);
+    CALL(OTEL_STATUS_OK, otel_context_start_child_with(&context, &ids, &child));
+    shows(&child, &wanted);
+    memset(ids.span_id, 0, 8);
+    CALL(OTEL_STATUS_INVALID, otel_context_start_child_with(&context, &ids, &child));
+    shows(&child, &wanted);
+    ids.span_id[7] = 1;
+    CALL(OTEL_STATUS_OK, otel_context_set_span(&context, &none, "", 0));
+    CALL(OTEL_STATUS_INVALID, otel_context_start_child_with(&context, &ids, &child));
+    /* A span of which one id is 0 is none. */
+    ids.trace_id[15] = 1;
+    wanted = example;
+    memset(wanted.span_id, 0, 8);
+    CALL(OTEL_STATUS_OK, otel_context_set_span(&context, &wanted, TEXT("a=1")));
+    LEAVES(OTEL_STATUS_ABSENT, otel_context_traceparent, &context);
+    CALL(OTEL_STATUS_OK, otel_context_start_child_with(&context, &ids, &child));
+    ids.is_remote = 0;
+    shows(&child, &ids);
+    WRITES("", otel_context_trace_state, &child);
+    /* Random ids. */
+    CALL(OTEL_STATUS_OK, otel_context_set_span(&context, &example, TEXT("a=1")));
+    CALL(OTEL_STATUS_OK, otel_context_start_child(&context, &child));
+    CALL(OTEL_STATUS_OK, otel_context_span(&child, &span));
+    check(memcmp(span.span_id, example.span_id, 8) != 0, "a new span id");
+    check(memcmp(span.span_id, none.span_id, 8) != 0, "a span id that isn't 0");
+    wanted = example;
+    memcpy(wanted.span_id, span.span_id, 8);
+    wanted.is_remote = 0;
+    shows(&child, &wanted);
+    WRITES("a=1", otel_context_trace_state, &child);
+    CALL(OTEL_STATUS_OK, otel_context_new(&context));
+    CALL(OTEL_STATUS_OK, otel_context_start_child(&context, &child));
+    CALL(OTEL_STATUS_OK, otel_context_span(&child, &wanted));
+    check(memcmp(wanted.trace_id, example.trace_id, 16) != 0, "a new trace id");
+    check(memcmp(wanted.trace_id, none.trace_id, 16) != 0, "a trace id that isn't 0");
+    check(memcmp(wanted.span_id, span.span_id, 8) != 0, "another span id");
+    check(wanted.flags == OTEL_SAMPLED && wanted.is_remote == 0, "a sampled root");
+    otel_free(&context);
+    otel_free(&child);
+}
+
+/* Ids of W3C trace-context-2, to and from digits of either case. */
+static void digits(void) {
+    static const char *const wrong[] = {
+        "", "00f067aa0ba902b", "00f067aa0ba902b70", "+0f067aa0ba902b7",
+        "00f067aa0ba902bg", "0x00f067aa0ba902", " 0f067aa0ba902b7",
+    };
+    uint8_t trace_id[16] = {1}, span_id[8] = {1};
+    size_t at;
+    CALL(OTEL_STATUS_OK,
+         otel_trace_id_from_hex(TEXT("4bf92F3577b34da6a3Ce929d0e0E4736"), trace_id));
+    check(memcmp(trace_id, example.trace_id, 16) == 0, "a trace id from digits");
+    CALL(OTEL_STATUS_OK, otel_span_id_from_hex(TEXT("00f067aa0ba902b7"), span_id));
+    check(memcmp(span_id, example.span_id, 8) == 0, "a span id from digits");
+    for (at = 0; at < sizeof wrong / sizeof *wrong; at++) {
+        CALL(OTEL_STATUS_VALUE, otel_span_id_from_hex(TEXT(wrong[at]), span_id));
+        CALL(OTEL_STATUS_VALUE, otel_trace_id_from_hex(TEXT(wrong[at]), trace_id));
+    }
+    check(memcmp(span_id, example.span_id, 8) == 0, "an id from no digits");
+    check(memcmp(trace_id, example.trace_id, 16) == 0, "an id from no digits");
+    WRITES("4bf92f3577b34da6a3ce929d0e0e4736", otel_trace_id_to_hex, trace_id);
+    WRITES("00f067aa0ba902b7", otel_span_id_to_hex, span_id);
+    CALL(OTEL_STATUS_OK,
+         otel_trace_id_from_hex(TEXT("00000000000000000000000000000000"), trace_id));
+    WRITES("00000000000000000000000000000000", otel_trace_id_to_hex, trace_id);
+    CALL(OTEL_STATUS_INVALID, otel_trace_id_from_hex(NULL, 32, trace_id));
+    CALL(OTEL_STATUS_INVALID, otel_span_id_from_hex("0", 1, NULL));
+    CALL(OTEL_STATUS_INVALID, otel_trace_id_to_hex(NULL, NULL, 0, NULL));
+    CALL(OTEL_STATUS_INVALID, otel_span_id_to_hex(span_id, NULL, 1, NULL));
+}
+
+static void (*const runs[])(void) = {reads, sets, pairs, children, digits};
 
 int main(void) {
     return ends(runs, sizeof runs / sizeof *runs);

@@ -20,6 +20,7 @@
     } while (0)
 
 static void texts(void) {
+    static const uint8_t id[8] = {0x00, 0xf0, 0x67, 0xaa, 0x0b, 0xa9, 0x02, 0xb7};
     otel_handle headers = OTEL_NOTHING, context = OTEL_NOTHING;
     CALL(OTEL_STATUS_OK, otel_headers_new(&headers));
     CALL(OTEL_STATUS_OK, otel_headers_append(&headers, TEXT("traceparent"), TEXT(PARENT)));
@@ -28,7 +29,10 @@ static void texts(void) {
     CALL(OTEL_STATUS_OK, otel_context_new(&context));
     CALL(OTEL_STATUS_OK, otel_context_extract(&headers, &context));
     FILLS(PARENT, otel_headers_get, &headers, TEXT("traceparent"));
+    FILLS(PARENT, otel_context_traceparent, &context);
     FILLS("a=1,b=2", otel_context_trace_state, &context);
+    FILLS("k=v;m", otel_context_baggage, &context);
+    FILLS("00f067aa0ba902b7", otel_span_id_to_hex, id);
     FILLS("k", otel_baggage_key, &context, 0);
     FILLS("v", otel_baggage_get, &context, TEXT("k"));
     FILLS("m", otel_baggage_metadata, &context, TEXT("k"));
@@ -41,15 +45,18 @@ static void texts(void) {
 }
 
 static void numbers(void) {
-    otel_handle stack = OTEL_NOTHING, context = OTEL_NOTHING;
+    static const otel_member member = {" ", 1, "", 0, "", 0};
+    otel_handle stack = OTEL_NOTHING, context = OTEL_NOTHING, changed = OTEL_NOTHING;
     otel_span_context *span = __real_malloc(sizeof *span);
-    size_t *count = __real_malloc(sizeof *count);
+    size_t *count = __real_malloc(sizeof *count), *failed = __real_malloc(sizeof *failed);
     uint16_t *position = __real_malloc(sizeof *position);
     extract(&context, "traceparent", PARENT);
     CALL(OTEL_STATUS_OK, otel_context_span(&context, span));
     check(span->span_id[0] == 0xb7 && span->flags == 1 && span->is_remote == 1, "the span");
     CALL(OTEL_STATUS_OK, otel_baggage_length(&context, count));
     check(*count == 0, "the number of members");
+    CALL(OTEL_STATUS_KEY, otel_baggage_set_all(&context, &member, 1, &changed, failed));
+    check(*failed == 0, "the index of a refused member");
     CALL(OTEL_STATUS_OK, otel_stack_new(&stack));
     CALL(OTEL_STATUS_OK, otel_stack_attach(&stack, &context, position));
     check(*position == 1, "the position");
@@ -57,6 +64,7 @@ static void numbers(void) {
     otel_free(&context);
     free(span);
     free(count);
+    free(failed);
     free(position);
 }
 

@@ -6,7 +6,8 @@ import os
 OK, NO_MEMORY, NOT_TEXT, NO_ROOM, ABSENT = range(5)
 REASONS = ("done", "out of memory", "a text isn't UTF-8", "the buffer is too short", "no such entry", "the key isn't valid",
            "the value isn't valid", "a member of the trace state has no `=`", "a handle holds another kind of object",
-           "headers, a baggage or a stack can't take it")
+           "headers, a baggage or a stack can't take it", "no header can carry it",
+           "the system gives no random bytes")
 # The capacity that is tried first.
 USUAL = 512
 
@@ -36,6 +37,13 @@ class SpanContext(ctypes.Structure):
                 ("is_remote", ctypes.c_uint8)]
 
 
+class MemberTexts(ctypes.Structure):
+    """`otel_member`."""
+
+    _fields_ = [(f"{name}{part}", kind) for name in ("key", "value", "metadata")
+                for part, kind in (("", ctypes.c_char_p), ("_length", ctypes.c_size_t))]
+
+
 HANDLE, TEXT, SIZE = ctypes.POINTER(Handle), (ctypes.c_char_p, ctypes.c_size_t), ctypes.c_size_t
 # A buffer, its capacity, and the length.
 OUTPUT = (ctypes.c_void_p, SIZE, ctypes.POINTER(SIZE))
@@ -50,12 +58,16 @@ PARAMETERS = {
     "otel_context_span": (HANDLE, ctypes.POINTER(SpanContext)),
     "otel_context_trace_state": (HANDLE, *OUTPUT),
     "otel_context_set_span": (HANDLE, ctypes.POINTER(SpanContext), *TEXT),
+    "otel_context_set_trace_state_pair": (HANDLE, *TEXT, *TEXT),
+    "otel_context_start_child": (HANDLE, HANDLE),
     "otel_baggage_length": (HANDLE, ctypes.POINTER(SIZE)),
     "otel_baggage_key": (HANDLE, SIZE, *OUTPUT),
     "otel_baggage_get": (HANDLE, *TEXT, *OUTPUT),
     "otel_baggage_metadata": (HANDLE, *TEXT, *OUTPUT),
     "otel_baggage_set": (HANDLE, *TEXT, *TEXT, *TEXT, HANDLE),
+    "otel_baggage_set_all": (HANDLE, ctypes.POINTER(MemberTexts), SIZE, HANDLE, ctypes.POINTER(SIZE)),
     "otel_baggage_remove": (HANDLE, *TEXT, HANDLE),
+    "otel_baggage_clear": (HANDLE, HANDLE),
 }
 
 

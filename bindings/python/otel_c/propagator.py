@@ -3,7 +3,7 @@ import ctypes
 import re
 from typing import NamedTuple
 
-from otel_c.library import NO_MEMORY, Handle, OtelError, SpanContext, ask, call
+from otel_c.library import NO_MEMORY, Handle, MemberTexts, OtelError, SpanContext, ask, call
 
 FIELDS = ("traceparent", "tracestate", "baggage")
 # The digits of ids.
@@ -35,7 +35,8 @@ def id_of(digits, kind):
 
 
 class Context:
-    """A span and a baggage. Nothing changes one: `with_span`, `with_member` and `without_member` make others."""
+    """A span and a baggage. Nothing changes one: `start_child`, `with_span`, `with_trace_state_pair`, `with_member`,
+    `with_members`, `without_member` and `without_baggage` make others."""
 
     def __init__(self):
         self._handle = Handle()
@@ -68,12 +69,26 @@ class Context:
                                      ask("otel_baggage_metadata", self._handle, key).decode()) for key in keys}
 
     def with_span(self, span):
-        """The context with this span. Raises `OtelError` if its trace state can't be read."""
+        """The context with this span. Raises `OtelError` if its trace state can't be read, or no header can carry it."""
         fields = dict(SpanContext._fields_)
         parts = SpanContext(id_of(span.trace_id, fields["trace_id"]), id_of(span.span_id, fields["span_id"]), span.flags,
                             span.is_remote)
         made = self._copy()
         call("otel_context_set_span", made._handle, parts, span.trace_state.encode())
+        return made
+
+    def with_trace_state_pair(self, key, value):
+        """The context with the pair in front of the trace state of its span. Raises `OtelError` if it isn't valid."""
+        made = self._copy()
+        call("otel_context_set_trace_state_pair", made._handle, key.encode(), value.encode())
+        return made
+
+    def start_child(self):
+        """The context with a child of its span or, without a span, with the first of a trace, which is sampled. New ids are
+        random."""
+        made = Context.__new__(Context)
+        made._handle = Handle()
+        call("otel_context_start_child", self._handle, made._handle)
         return made
 
     def with_member(self, key, value, metadata=""):
@@ -83,11 +98,29 @@ class Context:
         call("otel_baggage_set", self._handle, key.encode(), value.encode(), metadata.encode(), made._handle)
         return made
 
+    def with_members(self, members):
+        """The context with all of the members, a dict of `Member`, in its baggage. Raises `OtelError` if a baggage can't have
+        one of them."""
+        texts = [[text.encode() for text in (key, *member)] for key, member in members.items()]
+        given = (MemberTexts * len(texts))(*((key, len(key), value, len(value), metadata, len(metadata))
+                                             for key, value, metadata in texts))
+        made = Context.__new__(Context)
+        made._handle = Handle()
+        call("otel_baggage_set_all", self._handle, given, len(texts), made._handle, None)
+        return made
+
     def without_member(self, key):
         """The context without the member of the key, if there is one."""
         made = Context.__new__(Context)
         made._handle = Handle()
         call("otel_baggage_remove", self._handle, key.encode(), made._handle)
+        return made
+
+    def without_baggage(self):
+        """The context without its members."""
+        made = Context.__new__(Context)
+        made._handle = Handle()
+        call("otel_baggage_clear", self._handle, made._handle)
         return made
 
 

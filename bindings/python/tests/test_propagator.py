@@ -55,12 +55,14 @@ class Injected(unittest.TestCase):
         Propagator().inject(Context(), sent)
         self.assertEqual(sent, {"Host": "example.com"})
 
-    def test_a_refusal_leaves_the_headers(self):
-        sent = {"traceparent": PARENT}
-        with self.assertRaises(OtelError) as refused:
-            Propagator().inject(Context().with_span(SPAN._replace(trace_state="a=\u00e9")), sent)
-        self.assertEqual(refused.exception.status, 9)
-        self.assertEqual(sent, {"traceparent": PARENT})
+    def test_what_no_header_can_carry_is_refused(self):
+        for wrong in ("\u00e9", "\x01", "a\nb"):
+            with self.assertRaises(OtelError) as refused:
+                Context().with_span(SPAN._replace(trace_state="a=" + wrong))
+            self.assertEqual(refused.exception.status, 10)
+            with self.assertRaises(OtelError) as refused:
+                Context().with_member("k", "v", wrong)
+            self.assertEqual(refused.exception.status, 10)
 
     def test_64_members_are_sent(self):
         context = Context()
@@ -81,12 +83,42 @@ class Changed(unittest.TestCase):
             with self.assertRaises(ValueError):
                 Context().with_span(wrong)
 
+    def test_a_pair_of_the_trace_state_is_set(self):
+        context = Propagator().extract({"traceparent": PARENT, "tracestate": STATE})
+        self.assertEqual(context.with_trace_state_pair("congo", "1").span, SPAN._replace(trace_state="congo=1,rojo=00f067aa0ba902b7"))
+        self.assertEqual(context.span, SPAN)
+        for wrong in (("Congo", "1"), ("a", "1,2"), ("a", "\u00e9")):
+            with self.assertRaises(OtelError):
+                context.with_trace_state_pair(*wrong)
+
+    def test_a_child_has_the_trace_of_its_parent(self):
+        parent = Propagator().extract({"traceparent": PARENT, "tracestate": STATE, "baggage": BAGGAGE})
+        child, other = parent.start_child(), parent.start_child()
+        self.assertEqual(child.span, SPAN._replace(span_id=child.span.span_id, is_remote=False))
+        self.assertEqual(len({SPAN.span_id, child.span.span_id, other.span.span_id}), 3)
+        self.assertEqual(child.baggage, parent.baggage)
+
+    def test_a_child_without_a_parent_begins_a_trace(self):
+        root, other = Context().start_child().span, Context().start_child().span
+        self.assertEqual(root, Span(root.trace_id, root.span_id, 1))
+        self.assertNotEqual(root.trace_id, other.trace_id)
+
     def test_members_are_set_and_removed(self):
         context = Context().with_member("a", "1", " m ").with_member("b", "2")
         self.assertEqual(context.baggage, {"a": Member("1", "m"), "b": Member("2")})
         self.assertEqual(context.without_member("a").baggage, {"b": Member("2")})
+        self.assertEqual(context.without_baggage().baggage, {})
         with self.assertRaises(OtelError):
             context.with_member("a b", "")
+
+    def test_many_members_are_set_at_once(self):
+        many = {f"k{at}": Member(f"\u00e9\0{at}", "m" * at) for at in range(62)}
+        context = Context().with_member("k5", "old").with_member("first", "")
+        self.assertEqual(context.with_members(many).baggage, {"k5": many["k5"], "first": Member(""), **many})
+        self.assertEqual(context.with_members({}).baggage, context.baggage)
+        for wrong in ({"a b": Member("")}, {"a": Member("", "\u00e9")}, {f"k{at}": Member("") for at in range(64)}):
+            with self.assertRaises(OtelError):
+                context.with_members(wrong)
 
     def test_objects_may_go_in_any_order(self):
         contexts = [Context().with_member("a", "1")]

@@ -7,7 +7,7 @@ use Rattle.otel_propagators.specs.TraceContext.{trace_pairs, trace_extracted}
 use Rattle.otel_propagators.specs.BaggagePropagator.{baggage_pairs, baggage_extracted}
 use Rattle.otel_c.specs.declared.object.Object.{Object}
 use Rattle.otel_c.specs.Object.{headers_of, context_of}
-use Rattle.otel_c.specs.Context.{SetsBoth, Extracts, Injects, extracted}
+use Rattle.otel_c.specs.Context.{SetsBoth, Extracts, Injects, extracted, cleared}
 
 pub both : (context : ContextRecord) (old middle new : TextMap) → Sets old (trace_pairs context) middle
     → Sets middle (baggage_pairs context) new → SetsBoth context old new
@@ -29,7 +29,7 @@ extracts object old new headers context carrier from into =
 
 pub injects : (object old new : Option Object) (context : ContextRecord) (before after : Headers)
     → context_of object ≡ Some context → headers_of old ≡ Some before
-    → headers_of new ≡ Some after → SetsBoth context (texts before) (texts after)
+    → headers_of new ≡ Some after → SetsBoth context (texts (cleared before)) (texts after)
     → Injects object old new
 injects object old new context before after from had has sets = record {
   context = context;

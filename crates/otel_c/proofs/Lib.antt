@@ -1,8 +1,13 @@
+mod Apart
 mod Carried
+mod Children
 mod Copied
+mod Given
 mod HandleSteps
 mod Making
 mod Members
 mod Nth
+mod Parent
+mod Puts
 mod Refusals
 mod Shown

@@ -1,11 +1,12 @@
 -- The parts of the effect of a call on a member of a baggage make up the whole.
 use Rattle.std.proofs.Common.{◌≡◌, ◌∙◌, ℕ, Bool, true, false, List, [], Option, Some, Result}
 use Rattle.std.proofs.Common.{Ok, Err}
-use Rattle.std.proofs.Common.{IfOk, IfErr, OnOk, refl, sym, ap, subst, inl, inr}
+use Rattle.std.proofs.Common.{◌⊎◌, IfOk, IfErr, OnOk, refl, sym, ap, subst, inl, inr}
 use Rattle.std.specs.Borrow.{Bor}
 use Rattle.std.specs.Prelude.{option_map}
 use Rattle.std.specs.Option.{option_map_or}
 use Rattle.std.proofs.lemmas.Bool.{cond-true, cond-false}
+use Rattle.http_header.specs.FieldValue.{is_visible_text}
 use Rattle.otel_context.specs.Baggage.{accepts, put, insert}
 use Rattle.otel_context.specs.BaggageMember.{Member}
 use Rattle.otel_context.specs.Context.{ContextRecord, with_baggage}
@@ -15,22 +16,23 @@ use Rattle.otel_c.specs.declared.status.Status.{Status}
 use Rattle.otel_c.specs.declared.status.Status.TheVariants as status
 use Rattle.otel_c.specs.Object.{context_of}
 use Rattle.otel_c.specs.Member.{SetsMember, GivesFrom, Makes, may_be_key, reason, PutRefused}
+use Rattle.otel_c.specs.Member.{IsNoKey, IsTooMuch}
 use Rattle.otel_c.specs.Member.{SetRefused, given_member}
 
 pub refused_by : (m : Member) (held : List Member) (s : Status) → s ≡ reason m.key
     → accepts held m ≡ false → PutRefused m held s
-refused_by m held s is refused = by (may_be_key m.key) refl
+refused_by m held s is refused = inr (by (may_be_key m.key) refl)
   where
-    by : (b : Bool) → may_be_key m.key ≡ b → PutRefused m held s
-    by true e = inr (inr (record {
+    by : (b : Bool) → may_be_key m.key ≡ b → IsNoKey m.key s ⊎ IsTooMuch m held s
+    by true e = inr (record {
       status = is ∙ cond-true (may_be_key m.key) status.Refused status.Key e;
       key = e;
       is = refused;
-    }))
-    by false e = inr (inl (record {
+    })
+    by false e = inl (record {
       status = is ∙ cond-false (may_be_key m.key) status.Refused status.Key e;
       is = e;
-    }))
+    })
 
 pub copied_members : {E : Type 0} (r : Result (List Member) E) (context : ContextRecord)
     (held : Option (Bor (List Member))) (found : Bor (List Member))
@@ -42,9 +44,10 @@ copied_members (Ok b) context held found is some same =
 copied_members (Err e) context held found is some same = same
 
 pub sets_member : (before made : ContextRecord) (held new : List Member) (m : Member)
-    → held ≡ members before → accepts (members before) m ≡ true → new ≡ insert held m
+    → is_visible_text m.metadata ≡ true → held ≡ members before → accepts (members before) m ≡ true → new ≡ insert held m
     → made ≡ with_baggage before new → SetsMember m before made
-sets_member before made held new m same taken puts is = record {
+sets_member before made held new m sendable same taken puts is = record {
+  sendable = sendable;
   accepted = taken;
   is = is ∙ ap (with_baggage before) (puts ∙ ap (λ ms. insert ms m) same
       ∙ cond-true (accepts (members before) m) (put (members before) m) (members before) taken);

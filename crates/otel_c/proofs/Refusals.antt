@@ -20,6 +20,7 @@ not_zero status.Value e = omega (arith, e)
 not_zero status.List e = omega (arith, e)
 not_zero status.Invalid e = omega (arith, e)
 not_zero status.Refused e = omega (arith, e)
+not_zero status.Unsendable e = omega (arith, e)
 
 pub succeeds : {A : Type 0} (P : Type 0) (outcome : Result A Status) (n : ℕ)
     → n ≡ code_of outcome → OnOk outcome P → n ≡ 0 → P

@@ -1,6 +1,7 @@
 -- The results of the calls on the baggage of a context.
 use Rattle.std.specs.Prelude.{◌≡◌, ◌⊎◌, ℕ, List, length, Option, Some, option_map, slice_get}
 use Rattle.otel_context.specs.Baggage.{get, member_at}
+use Rattle.otel_context.specs.BaggageHeader.{header}
 use Rattle.otel_context.specs.Context.{ContextRecord}
 use Rattle.otel_propagators.specs.BaggagePropagator.{members}
 use Rattle.otel_c.specs.declared.object.Object.{Object}
@@ -21,6 +22,10 @@ value_of context key = get (members context) key
 -- the metadata of the member with the key
 abbrev pub metadata_of : ContextRecord → List ℕ → Option (List ℕ)
 metadata_of context key = option_map (λ m. m.metadata) (member_at (members context) key)
+
+-- the header of the baggage, which is there even without members
+abbrev pub header_of : ContextRecord → Option (List ℕ)
+header_of context = Some (header (members context))
 
 -- the number is the number of the context's members
 pub record Counts (object : Option Object) (new : ℕ) : Type 0 where

@@ -1,11 +1,17 @@
 pub mod Baggage
+pub mod Child
 pub mod Context
+pub mod Detached
 pub mod Handle
 pub mod Headers
+pub mod Ids
+pub mod Many
 pub mod Member
 pub mod Object
+pub mod Pair
 pub mod Room
 pub mod Span
 pub mod Stack
 pub mod Status
 pub mod TraceState
+pub mod Values

@@ -1,29 +1,36 @@
 -- The effects of setting and removing a member of a context's baggage.
 use Rattle.std.specs.Prelude.{◌≡◌, ◌⊎◌, Bool, true, false, ℕ, List, [], Option, Some, if◌then◌else◌}
 use Rattle.std.specs.Str.{trim}
+use Rattle.http_header.specs.FieldValue.{is_visible_text}
 use Rattle.otel_context.specs.Baggage.{accepts, put, remove}
 use Rattle.otel_context.specs.BaggageMember.{Member, member_of}
-use Rattle.otel_context.specs.Context.{ContextRecord, with_baggage}
+use Rattle.otel_context.specs.Context.{ContextRecord, with_baggage, with_cleared_baggage}
 use Rattle.otel_propagators.specs.BaggagePropagator.{members}
 use Rattle.otel_c.specs.declared.object.Object.{Object}
 use Rattle.otel_c.specs.declared.status.Status.{Status}
 use Rattle.otel_c.specs.declared.status.Status.TheVariants as status
 use Rattle.otel_c.specs.Object.{context_of}
 use Rattle.otel_c.specs.Context.{CopyRefused}
-use Rattle.otel_c.specs.Status.{IsNoText, IsOutOfMemory}
+use Rattle.otel_c.specs.Status.{IsNoText, IsOutOfMemory, IsUnsendable}
 
 -- the member of three texts, whose metadata is trimmed
 abbrev pub given_member : List ℕ → List ℕ → List ℕ → Member
 given_member key value metadata = member_of key value (trim metadata)
 
--- the second context is the first with the member in its baggage, which accepts it
+-- the second context is the first with the member in its baggage, which accepts it; headers can
+-- carry its metadata, as they can its key and its escaped value
 pub record SetsMember (m : Member) (before after : ContextRecord) : Type 0 where
+  pub sendable : is_visible_text m.metadata ≡ true
   pub accepted : accepts (members before) m ≡ true
   pub is : after ≡ with_baggage before (put (members before) m)
 
 -- the second context is the first without the member of the key
 abbrev pub RemovesMember : List ℕ → ContextRecord → ContextRecord → Type 0
 RemovesMember key before after = after ≡ with_baggage before (remove (members before) key)
+
+-- the second context is the first without a baggage
+abbrev pub ClearsBaggage : ContextRecord → ContextRecord → Type 0
+ClearsBaggage before after = after ≡ with_cleared_baggage before
 
 -- the context is made from the object's context
 pub record GivesFrom (Made : ContextRecord → ContextRecord → Type 0) (object : Option Object)
@@ -62,7 +69,8 @@ pub record IsTooMuch (m : Member) (held : List Member) (s : Status) : Type 0 whe
 
 -- why the member wasn't put into the baggage
 abbrev pub PutRefused : Member → List Member → Status → Type 0
-PutRefused m held s = IsOutOfMemory s ⊎ (IsNoKey m.key s ⊎ IsTooMuch m held s)
+PutRefused m held s =
+    (IsOutOfMemory s ⊎ IsUnsendable m.metadata s) ⊎ (IsNoKey m.key s ⊎ IsTooMuch m held s)
 
 -- the member wasn't put into the baggage of the object's context, for that reason
 pub record PutsNone (m : Member) (object : Option Object) (s : Status) : Type 0 where

@@ -1,16 +1,20 @@
 -- The span of a context in C.
-use Rattle.std.specs.Prelude.{◌≡◌, ◌⊎◌, ℕ, List, Option, Some}
+use Rattle.std.specs.Prelude.{◌≡◌, ◌⊎◌, ℕ, true, List, Option, None, Some, if◌then◌else◌}
 use Rattle.std.specs.Int.{w64, w128, to_be_bytes, from_be_bytes}
+use Rattle.http_header.specs.FieldValue.{is_visible_text}
 use Rattle.otel_ids.specs.Reading.{Reads}
 use Rattle.otel_ids.specs.SpanContext.{SpanContextRecord}
 use Rattle.otel_ids.specs.TraceState.{Pair, header}
 use Rattle.otel_context.specs.Context.{ContextRecord, span_context, with_remote_span_context}
+use Rattle.otel_propagators.specs.TraceContext.{is_valid, parent}
+use Rattle.otel_propagators.specs.TraceParent.{parent_text}
 use Rattle.otel_c.specs.declared.object.Object.{Object}
 use Rattle.otel_c.specs.declared.span.SpanParts.{SpanParts}
 use Rattle.otel_c.specs.declared.status.Status.{Status}
 use Rattle.otel_c.specs.Object.{context_of}
 use Rattle.otel_c.specs.Context.{CopyRefused}
 use Rattle.otel_c.specs.Room.{Holds, IsLong}
+use Rattle.otel_c.specs.Status.{IsUnsendable}
 use Rattle.otel_c.specs.TraceState.{ReadRefused}
 
 -- the ids as bytes, the most significant first, the flags, and whether it is remote
@@ -21,6 +25,13 @@ parts_of context = record {
   flags = context.trace_flags;
   is_remote = context.is_remote;
 }
+
+-- the value of `traceparent` for the context's span, if neither of its ids is 0
+abbrev pub traceparent_of : ContextRecord → Option (List ℕ)
+traceparent_of context =
+    if is_valid (span_context context)
+    then Some (parent_text (parent (span_context context)))
+    else None
 
 -- the parts are the ones of the context's span
 pub record ShowsSpan (object : Option Object) (new : SpanParts) : Type 0 where
@@ -59,14 +70,29 @@ span_of parts pairs = record {
   trace_state = pairs;
 }
 
+-- the header reads as these pairs, which a header can carry
+pub record ReadsSendable (received : List ℕ) (pairs : List Pair) : Type 0 where
+  pub reads : Reads received pairs
+  pub sendable : is_visible_text (header pairs) ≡ true
+
 -- the context's span has these parts and the trace state of the header
 pub record SetsSpan (parts : SpanParts) (received : List ℕ) (old new : Option Object) : Type 0 where
   pub context : ContextRecord
   pub pairs : List Pair
   pub from : context_of old ≡ Some context
-  pub reads : Reads received pairs
+  pub reads : ReadsSendable received pairs
   pub into : context_of new ≡ Some (with_remote_span_context context (span_of parts pairs))
+
+-- the header reads as a trace state that no header can carry
+pub record ReadsUnsendable (received : List ℕ) (s : Status) : Type 0 where
+  pub pairs : List Pair
+  pub reads : Reads received pairs
+  pub why : IsUnsendable (header pairs) s
+
+-- why the header wasn't read as a trace state that can be sent
+abbrev pub ReadSendableRefused : List ℕ → Status → Type 0
+ReadSendableRefused received s = ReadRefused received s ⊎ ReadsUnsendable received s
 
 -- why no span was set
 abbrev pub SetSpanRefused : List ℕ → Option Object → Status → Type 0
-SetSpanRefused received old s = CopyRefused old s ⊎ ReadRefused received s
+SetSpanRefused received old s = CopyRefused old s ⊎ ReadSendableRefused received s

@@ -1,6 +1,7 @@
 -- The outcome of a call in C, and the meaning of each error.
-use Rattle.std.specs.Prelude.{◌≡◌, ◌⊎◌, ◌<◌, ℕ, List, length, Option, Some, None, Result, Ok, Err}
+use Rattle.std.specs.Prelude.{◌≡◌, ◌⊎◌, ◌<◌, ℕ, false, List, length, Option, Some, None, Result, Ok, Err}
 use Rattle.std.specs.Prelude.{IsUtf8}
+use Rattle.http_header.specs.FieldValue.{is_visible_text}
 use Rattle.otel_ids.specs.TraceStateError.{Fault, KeyFault, ValueFault, ListFault}
 use Rattle.otel_c.specs.declared.status.Status.{Status}
 use Rattle.otel_c.specs.declared.status.Status.TheVariants as status
@@ -16,6 +17,7 @@ number status.Value = 6
 number status.List = 7
 number status.Invalid = 8
 number status.Refused = 9
+number status.Unsendable = 10
 
 -- the number of an outcome: 0 is success, and only success
 abbrev pub code_of : {A : Type 0} → Result A Status → ℕ
@@ -64,6 +66,7 @@ Blames fault status.Value = InValue fault
 Blames fault status.List = InList fault
 Blames fault status.Invalid = ⊥
 Blames fault status.Refused = ⊥
+Blames fault status.Unsendable = ⊥
 
 -- the status says that a handle is empty or holds something of another kind, and it does
 pub record IsOtherKind {A : Type 0} (wanted : Option A) (s : Status) : Type 0 where
@@ -77,6 +80,12 @@ IsOutOfMemory s = s ≡ status.NoMemory
 -- the status says that the call is out of memory, or that the headers can't carry a text
 abbrev pub IsOfCarrier : Status → Type 0
 IsOfCarrier s = (s ≡ status.NoMemory) ⊎ (s ≡ status.Refused)
+
+-- the status says that no header can carry the text, which has a byte other than tabs and the ASCII
+-- characters from space to `~`
+pub record IsUnsendable (text : List ℕ) (s : Status) : Type 0 where
+  pub status : s ≡ status.Unsendable
+  pub is : is_visible_text text ≡ false
 
 -- the status says that there is no such entry, and there isn't
 pub record IsNothing {A : Type 0} (found : Option A) (s : Status) : Type 0 where

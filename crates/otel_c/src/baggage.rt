@@ -1,8 +1,9 @@
 //! The baggage of a context.
-ghost use Rattle.std.specs.Prelude.{◌≡◌, IfErr, OnOk, OnErr, length};
+ghost use Rattle.std.specs.Prelude.{◌≡◌, IfOk, IfErr, OnOk, OnErr, length, string_bytes};
 ghost use Rattle.std.specs.Option.{option_copied};
+ghost use Rattle.otel_context.specs.BaggageHeader.{header};
 ghost use Rattle.otel_propagators.specs.BaggagePropagator.{members};
-ghost use Rattle.otel_c.specs.Baggage.{key_at, value_of, metadata_of, Counts, Shows};
+ghost use Rattle.otel_c.specs.Baggage.{key_at, value_of, metadata_of, header_of, Counts, Shows};
 ghost use Rattle.otel_c.specs.Baggage.{ShowRefused, NamedRefused};
 ghost use Rattle.otel_c.specs.Context.{CopyRefused};
 ghost use Rattle.otel_c.specs.Status.{Refuses};
@@ -12,7 +13,7 @@ use crate::handle::Handle;
 use crate::room::{text_of, write_found};
 use crate::status::{Status, code};
 use opentelemetry::Context;
-use std::alloc::Global;
+use std::alloc::{AllocError, Global};
 
 /// Returns the number of members.
 fn len_of(context: &Context) -> usize
@@ -185,4 +186,50 @@ pub extern "C" fn otel_baggage_metadata(
         context.old.object room.old written.new) result }
 {
     code(metadata(alloc, context, key, room, written))
+}
+
+/// Returns the header of the context's baggage, which is empty if it has none.
+fn header_of(alloc: Global, context: &Context) -> Result<String, AllocError>
+    ensures { IfOk result (λ text. string_bytes text ≡ header (members context.now)) }
+{
+    match context.baggage() {
+        Some(baggage) => format!(in alloc; "{baggage}"),
+        None => Ok(String::new(alloc)),
+    }
+}
+
+fn header(
+    alloc: Global,
+    context: &mut Handle,
+    room: &mut [u8],
+    written: &mut usize,
+) -> Result<(), Status>
+    ensures header { OnOk result (Shows header_of
+        context.old.object room.old room.new written.new) }
+    ensures unchanged { OnErr result (room.new ≡ room.old) }
+    ensures kept { context.new.object ≡ context.old.object }
+    ensures refused { IfErr result (λ status.
+        ShowRefused header_of context.old.object room.old written.new status) }
+{
+    let context = copy(alloc, context)?;
+    let text = header_of(alloc, &context)?;
+    write_found(Some(text.as_str()), room, written)
+}
+
+/// Writes the header of the context's baggage.
+#[unsafe(no_mangle)]
+pub extern "C" fn otel_context_baggage(
+    alloc: Global,
+    context: &mut Handle,
+    room: &mut [u8],
+    written: &mut usize,
+) -> u32
+    ensures header { result ≡ 0
+        → Shows header_of context.old.object room.old room.new written.new }
+    ensures unchanged { (result ≡ 0 → ⊥) → room.new ≡ room.old }
+    ensures kept { context.new.object ≡ context.old.object }
+    ensures refused { (result ≡ 0 → ⊥) → Refuses
+        (ShowRefused header_of context.old.object room.old written.new) result }
+{
+    code(header(alloc, context, room, written))
 }

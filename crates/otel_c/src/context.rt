@@ -5,7 +5,7 @@ ghost use Rattle.opentelemetry.specs.Carrier.{Sets};
 ghost use Rattle.otel_http.specs.Headers.{texts};
 ghost use Rattle.otel_propagators.specs.TraceContext.{trace_pairs, trace_extracted};
 ghost use Rattle.otel_propagators.specs.BaggagePropagator.{baggage_pairs, baggage_extracted};
-ghost use Rattle.otel_c.specs.Context.{extracted, Extracts, ExtractRefused};
+ghost use Rattle.otel_c.specs.Context.{extracted, cleared, Extracts, ExtractRefused};
 ghost use Rattle.otel_c.specs.Context.{SetsBoth, Injects, InjectRefused, Copies, CopyRefused};
 ghost use Rattle.otel_c.specs.Object.{context_of};
 ghost use Rattle.otel_c.specs.Status.{Refuses, IsOutOfMemory, IsOfCarrier};
@@ -105,6 +105,15 @@ fn inject_baggage(
     Ok(())
 }
 
+/// Removes the headers that carry a context.
+fn clear(headers: &mut HeaderMap)
+    ensures { headers.new ≡ cleared headers.old }
+{
+    drop(headers.remove("traceparent"));
+    drop(headers.remove("tracestate"));
+    drop(headers.remove("baggage"));
+}
+
 /// Sets the headers that carry the context.
 #[tactic(auto, using(crate::proofs::Carried::both))]
 fn inject_all(alloc: Global, context: &Context, injector: &mut HeaderInjector) -> Result<(), Status>
@@ -140,6 +149,7 @@ fn inject_in(alloc: Global, object: &Object, headers: &mut Object) -> Result<(),
     let context = object.context()?;
     match headers {
         Object::Headers(injector) => {
+            clear(&mut injector.headers);
             inject_all(alloc, context, injector)?;
             Ok(())
         }
@@ -279,7 +289,7 @@ pub extern "C" fn otel_context_extract(
     code(extract(alloc, headers, context))
 }
 
-/// Sets the headers that carry the context.
+/// Sets the headers that carry the context, in place of the ones that carried another.
 #[unsafe(no_mangle)]
 pub extern "C" fn otel_context_inject(
     alloc: Global,

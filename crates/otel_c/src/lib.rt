@@ -4,13 +4,21 @@
 #![tactic(auto)]
 
 pub mod baggage;
+pub mod child;
 pub mod context;
+pub mod detached;
 pub mod handle;
 pub mod headers;
+pub mod ids;
+pub mod many;
 pub mod member;
 pub mod object;
+pub mod pair;
 pub mod room;
+pub mod sendable;
 pub mod span;
 pub mod stack;
 pub mod status;
 pub mod trace_state;
+pub mod traceparent;
+pub mod values;

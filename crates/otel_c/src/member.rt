@@ -5,12 +5,15 @@ ghost use Rattle.otel_context.specs.BaggageMember.{member_of};
 ghost use Rattle.otel_context.specs.BaggageView.{entry_member};
 ghost use Rattle.otel_propagators.specs.BaggagePropagator.{members};
 ghost use Rattle.otel_c.specs.Member.{given_member, reason, SetsMember, RemovesMember};
-ghost use Rattle.otel_c.specs.Member.{GivesFrom, Makes, PutRefused, SetRefused, RemoveRefused};
+ghost use Rattle.otel_c.specs.Member.{ClearsBaggage, GivesFrom, Makes};
+ghost use Rattle.otel_c.specs.Member.{PutRefused, SetRefused, RemoveRefused};
+ghost use Rattle.otel_c.specs.Context.{CopyRefused};
 ghost use Rattle.otel_c.specs.Status.{Refuses};
 
 use crate::context::{copy, make};
 use crate::handle::Handle;
 use crate::room::text_of;
+use crate::sendable;
 use crate::status::{Status, code};
 use opentelemetry::baggage::{Baggage, BaggageMetadata};
 use opentelemetry::{Context, Key, StringValue};
@@ -42,7 +45,7 @@ fn copied(alloc: Global, held: &Baggage) -> Result<Baggage, AllocError>
 }
 
 /// Returns a baggage with the context's members.
-fn baggage_of(alloc: Global, context: &Context) -> Result<Baggage, AllocError>
+pub(crate) fn baggage_of(alloc: Global, context: &Context) -> Result<Baggage, AllocError>
     ensures { IfOk result (λ baggage. baggage ≡ members context.now) }
 {
     match context.baggage() {
@@ -63,7 +66,7 @@ fn accepts(alloc: Global, context: &Context, key: &str, value: &str, metadata: &
 }
 
 /// Returns the reason why a baggage refuses a member with the key.
-fn reason(alloc: Global, key: &str) -> Status
+pub(crate) fn reason(alloc: Global, key: &str) -> Status
     ensures { result ≡ reason key.now }
 {
     let empty = Baggage::new(alloc);
@@ -75,7 +78,7 @@ fn reason(alloc: Global, key: &str) -> Status
 }
 
 /// Puts the member into the baggage, if it is accepted.
-fn insert(
+pub(crate) fn insert(
     alloc: Global,
     baggage: &mut Baggage,
     key: &str,
@@ -96,8 +99,8 @@ fn insert(
 ///
 /// # Errors
 ///
-/// `Key` if no baggage can have the key. `Refused` if the baggage would have more than 64 members
-/// or 8192 bytes. `NoMemory` if out of memory.
+/// `Unsendable` if no header can carry the metadata. `Key` if no baggage can have the key. `Refused`
+/// if the baggage would have more than 64 members or 8192 bytes. `NoMemory` if out of memory.
 fn with_member(
     alloc: Global,
     context: &Context,
@@ -110,8 +113,10 @@ fn with_member(
     ensures refused { IfErr result
         (PutRefused (given_member key.now value.now metadata.now) (members context.now)) }
 {
+    let trimmed = metadata.trim();
+    sendable::check(trimmed)?;
     // Asks the baggage first, so a refusal copies nothing.
-    if !accepts(alloc, context, key, value, metadata.trim()) {
+    if !accepts(alloc, context, key, value, trimmed) {
         return Err(reason(alloc, key));
     }
     let mut baggage = baggage_of(alloc, context)?;
@@ -158,6 +163,15 @@ fn remove_in(alloc: Global, context: &mut Handle, key: &[u8]) -> Result<Context,
     Ok(without_member(alloc, &context, key)?)
 }
 
+fn clear_in(alloc: Global, context: &mut Handle) -> Result<Context, Status>
+    ensures context { IfOk result (GivesFrom ClearsBaggage context.old.object) }
+    ensures kept { context.new.object ≡ context.old.object }
+    ensures refused { IfErr result (CopyRefused context.old.object) }
+{
+    let context = copy(alloc, context)?;
+    Ok(context.with_cleared_baggage(alloc)?)
+}
+
 fn set(
     alloc: Global,
     context: &mut Handle,
@@ -190,6 +204,17 @@ fn remove(
     ensures refused { IfErr result (RemoveRefused key.now context.old.object) }
 {
     let given = remove_in(alloc, context, key)?;
+    make(alloc, changed, given)
+}
+
+fn clear(alloc: Global, context: &mut Handle, changed: &mut Handle) -> Result<(), Status>
+    ensures context { OnOk result (Makes ClearsBaggage
+        context.old.object changed.new.object) }
+    ensures unchanged { OnErr result (changed.new.object ≡ changed.old.object) }
+    ensures kept { context.new.object ≡ context.old.object }
+    ensures refused { IfErr result (CopyRefused context.old.object) }
+{
+    let given = clear_in(alloc, context)?;
     make(alloc, changed, given)
 }
 
@@ -232,4 +257,20 @@ pub extern "C" fn otel_baggage_remove(
         → Refuses (RemoveRefused key.now context.old.object) result }
 {
     code(remove(alloc, context, key, changed))
+}
+
+/// Puts the context without its baggage into the other handle, and frees the object that this held.
+#[unsafe(no_mangle)]
+pub extern "C" fn otel_baggage_clear(
+    alloc: Global,
+    context: &mut Handle,
+    changed: &mut Handle,
+) -> u32
+    ensures context { result ≡ 0
+        → Makes ClearsBaggage context.old.object changed.new.object }
+    ensures unchanged { (result ≡ 0 → ⊥) → changed.new.object ≡ changed.old.object }
+    ensures kept { context.new.object ≡ context.old.object }
+    ensures refused { (result ≡ 0 → ⊥) → Refuses (CopyRefused context.old.object) result }
+{
+    code(clear(alloc, context, changed))
 }

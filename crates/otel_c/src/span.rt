@@ -1,13 +1,15 @@
 //! The span of a context.
-ghost use Rattle.std.specs.Prelude.{◌≡◌, IfErr, OnOk, OnErr};
+ghost use Rattle.std.specs.Prelude.{◌≡◌, IfOk, IfErr, OnOk, OnErr};
 ghost use Rattle.otel_c.specs.Context.{CopyRefused};
 ghost use Rattle.otel_c.specs.Span.{parts_of, ShowsSpan, ShowsState, ShowStateRefused};
 ghost use Rattle.otel_c.specs.Span.{span_of, SetsSpan, SetSpanRefused};
+ghost use Rattle.otel_c.specs.Span.{ReadsSendable, ReadSendableRefused};
 ghost use Rattle.otel_c.specs.Status.{Refuses};
 
 use crate::context::{copy, make};
 use crate::handle::Handle;
 use crate::room::write;
+use crate::sendable;
 use crate::status::{Status, code};
 use crate::trace_state::read;
 use otel_ids::{SpanContext, SpanId, TraceFlags, TraceId, TraceState};
@@ -115,6 +117,21 @@ pub extern "C" fn otel_context_trace_state(
     code(trace_state(alloc, context, room, written))
 }
 
+/// Reads the trace state of the header, if it can be sent.
+///
+/// # Errors
+///
+/// `Unsendable` if no header can carry it. Otherwise as specified by [`read`].
+fn read_sendable(alloc: Global, trace_state: &[u8]) -> Result<TraceState, Status>
+    ensures read { IfOk result (ReadsSendable trace_state.now) }
+    ensures refused { IfErr result (ReadSendableRefused trace_state.now) }
+{
+    let state = read(alloc, trace_state)?;
+    let text = state.header(alloc)?;
+    sendable::check(text.as_str())?;
+    Ok(state)
+}
+
 fn set_span(
     alloc: Global,
     context: &mut Handle,
@@ -127,7 +144,7 @@ fn set_span(
     ensures refused { IfErr result (SetSpanRefused trace_state.now context.old.object) }
 {
     let before = copy(alloc, context)?;
-    let state = read(alloc, trace_state)?;
+    let state = read_sendable(alloc, trace_state)?;
     let made = before.with_remote_span_context(alloc, parts.with_state(state))?;
     make(alloc, context, made)
 }

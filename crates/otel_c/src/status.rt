@@ -27,6 +27,8 @@ pub enum Status {
     Invalid,
     /// The headers can't carry a text.
     Refused,
+    /// No header can carry a text.
+    Unsendable,
 }
 
 impl From<AllocError> for Status {
@@ -95,5 +97,6 @@ pub fn code(outcome: Result<(), Status>) -> u32
         Err(Status::List) => 7,
         Err(Status::Invalid) => 8,
         Err(Status::Refused) => 9,
+        Err(Status::Unsendable) => 10,
     }
 }

@@ -3,7 +3,6 @@ use Rattle.std.proofs.Common.{◌≡◌, List, [], ◌∷◌, ◌++◌, refl, sy
 use lib.Dec.{T}
 use mir.Val.{Val, vnull, vcons, vnil, ptr_eq_ok}
 use base.Logic.{SProp, ent, emp, id⊢}
-use base.Fml.{ftrue}
 use prog.Wp.{WpFn}
 use types.Kit.{‵, raw, ◌⊛◌, at_ret, ◌$◌, ◌∵◌, !, qed, by, move, keep, split, fsplit, fjoin, suffices, use0, use1}
 use types.Run.{stop, fld, lit, of_opd, bin, no_more, and_then, first, branches, exec, returns, enter}
