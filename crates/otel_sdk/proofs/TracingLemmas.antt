@@ -20,7 +20,7 @@ use Rattle.std.proofs.lemmas.Bool.{cases_Bool}
 use Rattle.std.specs.List.{AllByRecursion, IsDistinct, list_any}
 use Rattle.std.proofs.lemmas.List.{reverse-append}
 use Rattle.std.proofs.lemmas.List.Sorted.{list_any-IsPermutation, IsPermutation-reverse}
-use Rattle.otel_sdk.specs.Tracing.{TracingState, SameSpans, all_exited_of, at, context_with, next_entered, with_entered, exited_of, innermost_ended, innermost_number, innermost_of, without_innermost}
+use Rattle.otel_sdk.specs.Tracing.{TracingState, SameSpans, after_reading, all_exited_of, at, context_with, next_entered, with_entered, exited_of, innermost_ended, innermost_number, innermost_of, without_innermost}
 use Rattle.otel_sdk.specs.declared.trace.live.Entered.{Entered}
 
 pub reverse-last : {A : Type 0} (xs : List A) (x : A) → reverse (xs ++ x ∷ []) ≡ x ∷ reverse xs
@@ -97,8 +97,8 @@ taken-fits a b n room e h =
 
 module _ {P E : Type 0} where
   -- the state of these parts
-  abbrev pub tracing_of : P → Live → JournalState E → List ℕ → ℕ → TracingState P E
-  tracing_of pipeline contexts j moments unrecorded = record {
+  abbrev pub tracing_of : P → Live → JournalState E → List ℕ → ℕ → Bool → TracingState P E
+  tracing_of pipeline contexts j moments unrecorded off = record {
     pipeline = pipeline;
     contexts = contexts;
     spans = j.spans;
@@ -109,40 +109,41 @@ module _ {P E : Type 0} where
     earlier = j.earlier;
     moments = moments;
     unrecorded = unrecorded;
+    is_disabled = off;
   }
 
-  pub entered-state : (pipeline : P) (contexts after : Live) (j k : JournalState E) (moments ms : List ℕ) (unrecorded : ℕ)
-      (t : TracingState P E) (span : SpanState) (moment : ℕ) → tracing_of pipeline contexts j moments unrecorded ≡ t
+  pub entered-state : (pipeline : P) (contexts after : Live) (j k : JournalState E) (moments ms : List ℕ) (unrecorded : ℕ) (off : Bool)
+      (t : TracingState P E) (span : SpanState) (moment : ℕ) → tracing_of pipeline contexts j moments unrecorded off ≡ t
       → after ≡ attach (context_with span j.spans contexts) contexts → k ≡ opened span (next_entered j.spans contexts) j
-      → ms ≡ moments ++ moment ∷ [] → tracing_of pipeline after k ms unrecorded ≡ with_entered span (at moment t)
-  entered-state pipeline contexts after j k moments ms unrecorded t span moment view a o m =
-      (λ i. tracing_of pipeline (a i) (o i) (m i) unrecorded) ∙ ap (λ (x : TracingState P E). with_entered span (at moment x)) view
+      → ms ≡ after_reading off moment moments → tracing_of pipeline after k ms unrecorded off ≡ with_entered span (at moment t)
+  entered-state pipeline contexts after j k moments ms unrecorded off t span moment view a o m =
+      (λ i. tracing_of pipeline (a i) (o i) (m i) unrecorded off) ∙ ap (λ (x : TracingState P E). with_entered span (at moment x)) view
 
-  pub ended-state : (pipeline : P) (contexts after : Live) (j k : JournalState E) (moments : List ℕ) (unrecorded : ℕ)
-      (t : TracingState P E) (moment : ℕ) (e : Entered) (es : List Entered) → tracing_of pipeline contexts j moments unrecorded ≡ t
+  pub ended-state : (pipeline : P) (contexts after : Live) (j k : JournalState E) (moments : List ℕ) (unrecorded : ℕ) (off : Bool)
+      (t : TracingState P E) (moment : ℕ) (e : Entered) (es : List Entered) → tracing_of pipeline contexts j moments unrecorded off ≡ t
       → Some e ≡ innermost_of es → after ≡ detach e.position contexts → k ≡ innermost_closed moment es j
-      → tracing_of pipeline after k moments unrecorded ≡ innermost_ended moment es t
-  ended-state pipeline contexts after j k moments unrecorded t moment e [] view s a c = absurd (cc)
-  ended-state pipeline contexts after j k moments unrecorded t moment e (x ∷ outer) view s a c =
+      → tracing_of pipeline after k moments unrecorded off ≡ innermost_ended moment es t
+  ended-state pipeline contexts after j k moments unrecorded off t moment e [] view s a c = absurd (cc)
+  ended-state pipeline contexts after j k moments unrecorded off t moment e (x ∷ outer) view s a c =
       let same : e ≡ x = cc in
-      (λ i. tracing_of pipeline ((a ∙ ap (λ (y : Entered). detach y.position contexts) same) i) (c i) moments unrecorded)
+      (λ i. tracing_of pipeline ((a ∙ ap (λ (y : Entered). detach y.position contexts) same) i) (c i) moments unrecorded off)
       ∙ ap (λ (y : TracingState P E). without_innermost moment x outer y) view
 
   -- the clock gave a moment, and the spans changed
   pub changed-state : (F : LiveState → LiveState) (pipeline : P) (contexts : Live) (j k : JournalState E) (moments ms : List ℕ)
-      (unrecorded : ℕ) (t : TracingState P E) (moment : ℕ) → tracing_of pipeline contexts j moments unrecorded ≡ t
-      → ms ≡ moments ++ moment ∷ [] → k ≡ record j { spans = F j.spans }
-      → tracing_of pipeline contexts k ms unrecorded ≡ record (at moment t) { spans = F t.spans }
-  changed-state F pipeline contexts j k moments ms unrecorded t moment view m f =
-      (λ i. tracing_of pipeline contexts (f i) (m i) unrecorded)
+      (unrecorded : ℕ) (off : Bool) (t : TracingState P E) (moment : ℕ) → tracing_of pipeline contexts j moments unrecorded off ≡ t
+      → ms ≡ after_reading off moment moments → k ≡ record j { spans = F j.spans }
+      → tracing_of pipeline contexts k ms unrecorded off ≡ record (at moment t) { spans = F t.spans }
+  changed-state F pipeline contexts j k moments ms unrecorded off t moment view m f =
+      (λ i. tracing_of pipeline contexts (f i) (m i) unrecorded off)
       ∙ ap (λ (s : TracingState P E). record (at moment s) { spans = F s.spans }) view
 
   -- the processor took a step
-  pub processed-state : (pipeline : P) (contexts : Live) (j k : JournalState E) (moments : List ℕ) (unrecorded : ℕ)
-      (t : TracingState P E) → tracing_of pipeline contexts j moments unrecorded ≡ t → k ≡ record j { processor = k.processor }
-      → tracing_of pipeline contexts k moments unrecorded ≡ record t { processor = k.processor }
-  processed-state pipeline contexts j k moments unrecorded t view f =
-      ap (λ (x : JournalState E). tracing_of pipeline contexts x moments unrecorded) f
+  pub processed-state : (pipeline : P) (contexts : Live) (j k : JournalState E) (moments : List ℕ) (unrecorded : ℕ) (off : Bool)
+      (t : TracingState P E) → tracing_of pipeline contexts j moments unrecorded off ≡ t → k ≡ record j { processor = k.processor }
+      → tracing_of pipeline contexts k moments unrecorded off ≡ record t { processor = k.processor }
+  processed-state pipeline contexts j k moments unrecorded off t view f =
+      ap (λ (x : JournalState E). tracing_of pipeline contexts x moments unrecorded off) f
       ∙ ap (λ (s : TracingState P E). record s { processor = k.processor }) view
 
   pub all-empty : (moment : ℕ) (l : List Entered) (t : TracingState P E) → t.entered ≡ l → (all_exited_of moment l t).entered ≡ []
@@ -174,5 +175,5 @@ on_ok-given (Err x) q = tt
 
 module _ {P E : Type 0} where
   -- the clock gave a moment
-  pub at-read : (t u : TracingState P E) (m : ℕ) (ms : List ℕ) → t ≡ u → ms ≡ t.moments ++ m ∷ [] → record t { moments = ms } ≡ at m u
+  pub at-read : (t u : TracingState P E) (m : ℕ) (ms : List ℕ) → t ≡ u → ms ≡ after_reading t.is_disabled m t.moments → record t { moments = ms } ≡ at m u
   at-read t u m ms v e = ap (λ (xs : List ℕ). record t { moments = xs }) e ∙ ap (λ (s : TracingState P E). at m s) v

@@ -1,6 +1,6 @@
 -- The configuration that environment variables give. Not in the Rust crate, where each part reads
 -- its own variables.
-use Rattle.std.specs.Prelude.{◌≡◌, ℕ, Bool, List, [], ◌++◌, Some, codes, refl, if◌then◌else◌}
+use Rattle.std.specs.Prelude.{◌≡◌, ℕ, Bool, ◌||◌, List, [], ◌++◌, Some, codes, refl, if◌then◌else◌}
 use Rattle.std.specs.Option.{option_map_or}
 use Rattle.std.specs.declared.alloc.Global.{Global}
 use Rattle.std.specs.declared.vec.Vec.{Vec}
@@ -159,19 +159,23 @@ provider_with_env c b =
       limits = c.span_limits;
     }
 
--- the builder with the configuration's sampler, resource, limits of spans and sizes of batches
+-- the builder with the configuration's sampler, resource, limits of spans and sizes of batches,
+-- disabled if the configuration is
 abbrev pub with_env : {S G E : Type 0} → EnvConfig → BuilderParts S G E → BuilderParts EnvSampler G E
 with_env c b = record {
   provider = provider_with_env c b.provider;
   exporter = b.exporter;
   config = effective (limits.sizes_of c.span_batches);
+  is_disabled = b.is_disabled || c.is_disabled;
 }
 
--- the builder of a provider of loggers with the configuration's resource and limits of log records
+-- the builder of a provider of loggers with the configuration's resource and limits of log records,
+-- disabled if the configuration is
 abbrev pub loggers_with_env : {P : Type 0} → EnvConfig → LoggerParts P → LoggerParts P
 loggers_with_env c b = record b {
   resource = Some (option_map_or (λ old. merge old (resource_of c)) b.resource (resource_of c));
   limits = c.log_limits;
+  is_disabled = b.is_disabled || c.is_disabled;
 }
 
 -- ---- worked rows

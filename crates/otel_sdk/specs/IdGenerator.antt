@@ -1,5 +1,5 @@
 -- The ids that a generator returns.
-use Rattle.std.specs.Prelude.{◌≡◌, ◌≢◌, ◌⊎◌, ◌<◌, ◌^◌, ℕ, zero, suc, List, length}
+use Rattle.std.specs.Prelude.{◌≡◌, ◌≢◌, ◌⊎◌, ◌<◌, ◌^◌, ◌+◌, ◌-◌, ℕ, zero, suc, List, length}
 use Rattle.std.specs.Prelude.{Option, Some, None, Result, Ok, Err, MatchOption}
 use Rattle.std.specs.Int.{Width, byte_len, from_be_bytes}
 use Rattle.otel_sdk.specs.declared.trace.id_generator.IdError.{IdError}
@@ -33,6 +33,13 @@ abbrev pub IsRandomId : (Option (List ℕ) → Type 0) → Width → Result ℕ 
 IsRandomId may_fill width result =
     FirstValid {S = Unit {0}} {I = ℕ} (λ _ drawn _. IsDraw may_fill width drawn) (λ id. id)
     max_draws tt result tt
+
+-- The result is the count that a counter had, plus one, and was given to it; or the count was the
+-- greatest with 64 bits. Only the counter's calls show `may_have` and `is_given`.
+abbrev pub CountsUp : (ℕ → Type 0) → (ℕ → Type 0) → Result ℕ IdError → Type 0
+CountsUp may_have is_given (Ok id) =
+    (count : ℕ) × may_have count × is_given id × (id ≡ count + 1) × (id < 2 ^ 64)
+CountsUp may_have is_given (Err error) = may_have (2 ^ 64 - 1) × (error ≡ Zero)
 
 -- the result is a counted id: a number above 0 with 64 bits, unless the numbers are used up
 abbrev pub IsCountedId : Result ℕ IdError → Type 0

@@ -1,7 +1,9 @@
 -- The traces that a ratio samples: the bound of a ratio, which is a double given by its 64 bits,
 -- and the number of a trace id that is compared with that bound.
 use Rattle.std.specs.Prelude.{◌≡◌, refl, ℕ, ◌+◌, ◌*◌, ◌/◌, ◌%◌, ◌^◌, ◌==◌, ◌<◌, ◌≤◌, nat_lt, nat_le, Bool}
-use Rattle.std.specs.Prelude.{List, codes, if◌then◌else◌}
+use Rattle.std.specs.Prelude.{List, Option, Some, codes, option_map, to_bits, if◌then◌else◌}
+use Rattle.std.specs.Float.{binary64}
+use Rattle.std.specs.Float.Parse.{parse_float}
 
 -- ---- doubles [IEEE 754, "binary64"]
 
@@ -41,12 +43,17 @@ half trace_id = trace_id % 2 ^ 64 / 2
 abbrev pub samples : ℕ → ℕ → Bool
 samples bits trace_id = nat_lt (half trace_id) (bound bits)
 
--- the text of the effective ratio: 0 if it samples nothing and isn't above 0, 1 from 1 on,
--- otherwise the output of `Display`, which std doesn't specify
+-- the bits of the double that the text denotes, if it denotes one
+abbrev pub denoted : List ℕ → Option ℕ
+denoted text = option_map (λ x. to_bits binary64 x) (parse_float binary64 text)
+
+-- the text of the effective ratio: 0 if it isn't above 0, 1 from 1 on, otherwise a decimal that
+-- reads as the ratio
 pub record IsNumberText (bits : ℕ) (text : List ℕ) : Type 0 where
   pub zero : bits ≡ 0 → text ≡ codes "0"
   pub below_zero : infinity < bits → text ≡ codes "0"
   pub from_one : one ≤ bits → bits ≤ infinity → text ≡ codes "1"
+  pub between : 0 < bits → bits < one → denoted text ≡ Some bits
 
 -- ---- worked rows
 -- 0.5, 0.1, 0.25

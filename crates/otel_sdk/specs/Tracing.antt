@@ -2,6 +2,7 @@
 -- a thread and a global provider hold these parts.
 use Rattle.std.specs.Prelude.{◌≡◌, ◌⊎◌, ℕ, ◌+◌, ◌<◌, ◌==◌, Bool, true, false, List, [], ◌∷◌, ◌++◌}
 use Rattle.std.specs.Prelude.{Option, Some, None, Result, IsErrAnd, IsTrue, OnOk, OnErr, if◌then◌else◌}
+use Rattle.std.specs.Prelude.{MatchBool}
 use Rattle.std.specs.Result.{result_map_both}
 use Rattle.std.specs.Option.{unwrap_or}
 use Rattle.std.specs.List.{list_any}
@@ -33,7 +34,8 @@ use Rattle.otel_base.specs.KeyValue.{Attribute}
 -- taken, the spans that were entered and not exited (the innermost first), the processor, every
 -- span that was entered as it started, every span that was exited as it was at its end (both in
 -- order), the batches that the exporter had accepted before, the moments that the clock gave (the
--- oldest first), and how often a span couldn't be entered or an error couldn't be recorded
+-- oldest first), how often a span couldn't be entered or an error couldn't be recorded, and whether
+-- it is disabled
 pub record TracingState (P E : Type 0) : Type 0 where
   pub pipeline : P
   pub contexts : Live
@@ -45,6 +47,7 @@ pub record TracingState (P E : Type 0) : Type 0 where
   pub earlier : List (List SpanRecord)
   pub moments : List ℕ
   pub unrecorded : ℕ
+  pub is_disabled : Bool
 
 -- why no span was entered, if the table of spans refused it
 abbrev pub not_entered : SpanCause → NotEntered
@@ -83,6 +86,15 @@ next_entered spans contexts = record {
   position = stack.newest_position contexts + 1;
 }
 
+-- returned by a disabled `Tracing` in place of a span: no span has this number
+abbrev pub no_entered : Entered
+no_entered = record { number = table.used_up; position = stack.no_position }
+
+-- the moments after the clock gave this one; a disabled `Tracing` doesn't ask its clock
+abbrev pub after_reading : Bool → ℕ → List ℕ → List ℕ
+after_reading is_disabled moment moments =
+    if is_disabled then moments else moments ++ moment ∷ []
+
 -- the current context, with the span as its active one, under the next number
 abbrev pub context_with : SpanState → LiveState → Live → ContextRecord
 context_with span spans contexts =
@@ -103,9 +115,14 @@ abbrev pub done_of : {X : Type 0} → Result X OTelSdkError → Result (Unit {0}
 done_of answer = result_map_both (λ _. tt) (λ error. error) answer
 
 module _ {P E : Type 0} where
-  -- the clock gave the moment
+  -- the clock gave the moment, if the `Tracing` isn't disabled
   abbrev pub at : ℕ → TracingState P E → TracingState P E
-  at moment t = record t { moments = t.moments ++ moment ∷ [] }
+  at moment t = record t { moments = after_reading t.is_disabled moment t.moments }
+
+  -- The effect of a call on spans: in a disabled `Tracing` nothing changes, in any other this holds
+  -- (OpenTelemetry, "OTEL_SDK_DISABLED").
+  abbrev pub UnlessDisabled : TracingState P E → TracingState P E → Type 0 → Type 0
+  UnlessDisabled old new effect = MatchBool old.is_disabled (new ≡ old) effect
 
   -- the current context (`Tracing::context`)
   abbrev pub current : TracingState P E → ContextRecord
@@ -123,8 +140,8 @@ module _ {P E : Type 0} where
   }
 
   -- One of the spans that may start from the builder, at the clock's moment and under the current
-  -- context, was entered (`Tracing::enter_with`).
-  pub record Enters (may_start : P → BuilderRecord → ContextRecord → SpanState → Type 0)
+  -- context, was entered.
+  pub record EntersSpan (may_start : P → BuilderRecord → ContextRecord → SpanState → Type 0)
       (builder : BuilderRecord) (old new : TracingState P E) (entered : Entered) : Type 0 where
     pub moment : ℕ
     pub span : SpanState
@@ -132,8 +149,15 @@ module _ {P E : Type 0} where
     pub is_next : entered ≡ next_entered old.spans old.contexts
     pub state : new ≡ with_entered span (at moment old)
 
+  -- A span was entered. A disabled `Tracing` enters none (`Tracing::enter_with`).
+  pub record Enters (may_start : P → BuilderRecord → ContextRecord → SpanState → Type 0)
+      (builder : BuilderRecord) (old new : TracingState P E) (entered : Entered) : Type 0 where
+    pub span : UnlessDisabled old new (EntersSpan may_start builder old new entered)
+    pub disabled : IsTrue old.is_disabled → entered ≡ no_entered
+
   -- No span was entered. At most one more number was used, and the clock may have been read.
   pub record EntersNone (old new : TracingState P E) : Type 0 where
+    pub enabled : old.is_disabled ≡ false
     pub same : new ≡ record old { spans = new.spans; moments = new.moments }
     pub spans : SameSpans old.spans new.spans
 

@@ -1,5 +1,5 @@
 -- A `Tracing` under construction. Not in the Rust crate.
-use Rattle.std.specs.Prelude.{◌≡◌, List, []}
+use Rattle.std.specs.Prelude.{◌≡◌, Bool, List, []}
 use Rattle.otel_base.specs.InstrumentationScope.{Scope}
 use Rattle.otel_sdk.specs.LiveState.{no_spans}
 use Rattle.otel_sdk.specs.Tracer.{ProviderParts, TracerState, provider_of, tracer_of}
@@ -7,16 +7,17 @@ use Rattle.otel_sdk.specs.Tracing.{TracingState}
 use Rattle.otel_sdk_base.specs.Queue.{Limits, new as new_processor}
 use Rattle.otel_sdk_span.specs.SpanData.{SpanRecord}
 
--- the parts of the provider, the exporter, and the limits of the queue
+-- the parts of the provider, the exporter, the limits of the queue, and whether it is disabled
 pub record BuilderParts (S G E : Type 0) : Type 0 where
   pub provider : ProviderParts S G
   pub exporter : E
   pub config : Limits
+  pub is_disabled : Bool
 
 -- nothing is attached, started, entered or queued, and the clock wasn't read
-abbrev pub at_start : {P E : Type 0} → (E → List (List SpanRecord)) → P → E → Limits
+abbrev pub at_start : {P E : Type 0} → (E → List (List SpanRecord)) → P → E → Limits → Bool
     → TracingState P E
-at_start accepted pipeline exporter config = record {
+at_start accepted pipeline exporter config is_disabled = record {
   pipeline = pipeline;
   contexts = [];
   spans = no_spans;
@@ -27,6 +28,7 @@ at_start accepted pipeline exporter config = record {
   earlier = accepted exporter;
   moments = [];
   unrecorded = 0;
+  is_disabled = is_disabled;
 }
 
 -- The `Tracing` of these parts and this scope. Its exporter was told the resource, and has accepted
@@ -38,3 +40,4 @@ pub record IsBuilt {S G E : Type 0} (accepted : E → List (List SpanRecord))
   pub same : accepted exporter ≡ accepted parts.exporter
   pub state : t
       ≡ at_start accepted (tracer_of (provider_of parts.provider) scope) exporter parts.config
+      parts.is_disabled

@@ -1,11 +1,12 @@
 -- How a `Tracing` records errors. Not in the Rust crate.
-use Rattle.std.specs.Prelude.{◌≡◌, ◌⊎◌, ℕ, List, Option, Result, IfSome, OnOk, OnErr, IfErr, codes}
+use Rattle.std.specs.Prelude.{◌≡◌, ◌⊎◌, ℕ, List, Option, Result, IfSome, IsOk, IsTrue, OnOk, OnErr, IfErr}
+use Rattle.std.specs.Prelude.{codes}
 use Rattle.otel_context.specs.Context.{ContextRecord}
 use Rattle.otel_context.specs.SpanEffects.{message}
 use Rattle.otel_context.specs.declared.span.status.Status.TheVariants.{Error}
 use Rattle.opentelemetry.specs.SpanBuilder.{BuilderRecord}
 use Rattle.otel_sdk.specs.LiveState.{LiveState, with_changed}
-use Rattle.otel_sdk.specs.Tracing.{TracingState, Enters, Exits, RanWithout, at}
+use Rattle.otel_sdk.specs.Tracing.{TracingState, Enters, Exits, RanWithout, UnlessDisabled, at}
 use Rattle.otel_sdk.specs.Tracing.{with_current_changed, with_unrecorded}
 use Rattle.otel_sdk.specs.declared.trace.live.Entered.{Entered}
 use Rattle.otel_sdk_span.specs.Span.{SpanState, after_event, after_status}
@@ -25,14 +26,20 @@ with_failure_in number text moment spans = with_changed (λ span. after_status s
 
 module _ {P E : Type 0} where
   -- The clock gave a moment, at which the error's event was added to the current span, if there is
-  -- one; or no span changed, for want of memory (`Tracing::record_error`). `output` is the text
+  -- one; or no span changed, for want of memory. `output` is the text
   -- that the error prints, if its type says that.
-  pub record RecordsError {X : Type 0} (output : Option (List ℕ))
+  pub record RecordsInCurrent {X : Type 0} (output : Option (List ℕ))
       (answer : Result (Unit {0}) X) (old new : TracingState P E) : Type 0 where
     pub moment : ℕ
     pub ok : OnOk answer ((text : List ℕ) × IfSome output (λ bytes. text ≡ bytes)
         × (new ≡ with_current_changed (with_exception text moment) (at moment old)))
     pub err : OnErr answer (new ≡ at moment old)
+
+  -- The error was recorded, unless the `Tracing` is disabled (`Tracing::record_error`).
+  pub record RecordsError {X : Type 0} (output : Option (List ℕ))
+      (answer : Result (Unit {0}) X) (old new : TracingState P E) : Type 0 where
+    pub event : UnlessDisabled old new (RecordsInCurrent output answer old new)
+    pub disabled : IsTrue old.is_disabled → IsOk answer
 
   -- the span with the number got the error's event, at the clock's moment, and the status `Error`
   pub record RecordsFailure (number : ℕ) (output : Option (List ℕ)) (old new : TracingState P E)
@@ -53,10 +60,14 @@ module _ {P E : Type 0} where
         × (new.spans ≡ with_exception_in number text moment old.spans))
 
   -- the error was recorded in the span with the number, or that failed and was counted
-  abbrev pub Fails : ℕ → Option (List ℕ) → TracingState P E → TracingState P E → Type 0
-  Fails number output old new = RecordsFailure number output old new
+  abbrev pub RecordsOrCounts : ℕ → Option (List ℕ) → TracingState P E → TracingState P E → Type 0
+  RecordsOrCounts number output old new = RecordsFailure number output old new
       ⊎ ((between : TracingState P E) × RecordsPart number output old between
       × (new ≡ with_unrecorded between))
+
+  -- the same, unless the `Tracing` is disabled
+  abbrev pub Fails : ℕ → Option (List ℕ) → TracingState P E → TracingState P E → Type 0
+  Fails number output old new = UnlessDisabled old new (RecordsOrCounts number output old new)
 
   -- The work ran once in a span that was entered before and exited after it. If it failed, its
   -- error was recorded in that span first.

@@ -1,5 +1,5 @@
 -- The parts of a log record of the SDK, and the effects of calls.
-use Rattle.std.specs.Prelude.{◌≡◌, ℕ, List, [], Option, Some, None, IsTrue, is_some, refl}
+use Rattle.std.specs.Prelude.{◌≡◌, ℕ, Bool, List, [], Option, Some, None, IsTrue, is_some, refl}
 use Rattle.std.specs.Option.{unwrap_or}
 use Rattle.std.specs.Coded.{Coded, code_by, coded×, coded_ℕ, coded_list, coded_option}
 use Rattle.otel_base.specs.AnyValue.{Tree}
@@ -87,10 +87,11 @@ observed now log = record log {
   observed_timestamp = Some (unwrap_or log.observed_timestamp now);
 }
 
--- A logger: the scope and the limits that its records get.
+-- A logger: the scope and the limits that its records get, and whether it emits nothing.
 pub record LoggerParts : Type 0 where
   pub scope : Scope
   pub limits : LogRecordLimits
+  pub is_disabled : Bool
 
 -- The entry is made from the record and the scope. A record without an observed time gets one that
 -- the clock showed.

@@ -20,7 +20,8 @@ use std::rc::Rc;
 
 /// Emits the log records of one library or module (the Rust crate's `SdkLogger`).
 ///
-/// Contracts see its scope, and the limits of its records.
+/// Contracts see its scope, the limits of its records, and whether it is disabled. A disabled
+/// logger enables no event and emits nothing.
 ///
 /// See [`crate::SdkLoggerProvider`].
 #[derive(Drop)]
@@ -41,6 +42,7 @@ impl<P, C> Model for SdkLogger<P, C> {
     ghost view = { λ l. record {
       scope = rc_value l.scope;
       limits = (rc_value l.provider).limits;
+      is_disabled = (rc_value l.provider).is_disabled;
     } };
 }
 
@@ -86,11 +88,15 @@ impl<P: RecordIntake, C: Clock> SdkLogger<P, C> {
         })
     }
 
-    /// Hands the record to the provider's processor, or counts it.
+    /// Hands the record to the provider's processor, or counts it. Does nothing if the logger is
+    /// disabled.
     fn hand_over(&self, emitted: SdkLogRecord)
-        ensures { IsHandedOver (IsEmitted P.may_show emitted self.now.scope)
-            P.is_taken P.is_counted P.is_unmade }
+        ensures { self.now.is_disabled ≡ false → IsHandedOver
+            (IsEmitted P.may_show emitted self.now.scope) P.is_taken P.is_counted P.is_unmade }
     {
+        if self.provider.is_disabled {
+            return;
+        }
         match self.data_of(emitted) {
             Ok(given) => self.provider.hand_in(given),
             Err(error) => P::count_unmade(&self.provider.dropped_records, error),
@@ -101,7 +107,8 @@ impl<P: RecordIntake, C: Clock> SdkLogger<P, C> {
     /// record without a span gets the active span of the context. Does nothing if telemetry is
     /// suppressed in the context. Not in the Rust crate.
     pub fn emit_in(&self, context: &Context, emitted: SdkLogRecord)
-        ensures { is_telemetry_suppressed context.now ≡ false → IsHandedOver (λ entry.
+        ensures { is_telemetry_suppressed context.now ≡ false
+            → self.now.is_disabled ≡ false → IsHandedOver (λ entry.
             (made : LogState) × IsInSpan (span_context context.now) emitted made
             × IsEmitted P.may_show made self.now.scope entry)
             P.is_taken P.is_counted P.is_unmade }
@@ -121,11 +128,12 @@ impl<P: RecordIntake, C: Clock> SdkLogger<P, C> {
         name: Option<&str>,
     ) -> bool
         ensures suppressed { IsTrue (is_telemetry_suppressed context.now) → result ≡ false }
+        ensures disabled { IsTrue self.now.is_disabled → result ≡ false }
         ensures wanted { let asked = option_map (λ n. n.now) name.entry in
             result ≡ true → P.is_wanted level target.now asked }
         ensures unwanted { let asked = option_map (λ n. n.now) name.entry in
-            is_telemetry_suppressed context.now ≡ false → result ≡ false
-            → P.is_unwanted level target.now asked ⊎ P.is_at_work }
+            is_telemetry_suppressed context.now ≡ false → self.now.is_disabled ≡ false
+            → result ≡ false → P.is_unwanted level target.now asked ⊎ P.is_at_work }
     {
         !context.is_telemetry_suppressed() && self.provider.is_enabled(level, target, name)
     }
@@ -152,7 +160,8 @@ where
     /// Hands the record to the provider's processor. Sets the observed time to now, unless it is
     /// already set. Knows no context: see [`SdkLogger::emit_in`].
     fn emit(&self, emitted: SdkLogRecord)
-        ensures { IsHandedOver (IsEmitted P.RecordIntake.may_show emitted self.now.scope)
+        ensures { self.now.is_disabled ≡ false → IsHandedOver
+            (IsEmitted P.RecordIntake.may_show emitted self.now.scope)
             P.RecordIntake.is_taken P.RecordIntake.is_counted P.RecordIntake.is_unmade }
     {
         self.hand_over(emitted);
@@ -164,8 +173,9 @@ where
         ensures wanted { let asked = option_map (λ n. n.now) name.entry in
             result ≡ true → P.RecordIntake.is_wanted level target.now asked }
         ensures unwanted { let asked = option_map (λ n. n.now) name.entry in
-            result ≡ false → P.RecordIntake.is_unwanted level target.now asked
-            ⊎ P.RecordIntake.is_at_work }
+            self.now.is_disabled ≡ false → result ≡ false
+            → P.RecordIntake.is_unwanted level target.now asked ⊎ P.RecordIntake.is_at_work }
+        ensures disabled { IsTrue self.now.is_disabled → result ≡ false }
     {
         self.provider.is_enabled(level, target, name)
     }

@@ -1,5 +1,6 @@
 //! The provider of the SDK's loggers.
-ghost use Rattle.std.specs.Prelude.{◌≡◌, ◌⊎◌, true, false, IfOk, OnOk, Some, None, option_map};
+ghost use Rattle.std.specs.Prelude.{◌≡◌, ◌⊎◌, true, false, IfOk, IsTrue, OnOk, Some, None};
+ghost use Rattle.std.specs.Prelude.{option_map};
 ghost use Rattle.std.specs.Option.{option_map_or, unwrap_or};
 ghost use Rattle.otel_sdk_base.specs.Resource.{merge, with_defaults};
 ghost use Rattle.otel_sdk_logs.specs.Attributes.{default_limits};
@@ -29,6 +30,7 @@ pub(crate) struct LoggerProviderInner<P, C> {
     pub clock: C,
     pub limits: LogRecordLimits,
     pub dropped_records: Cell<u64>,
+    pub is_disabled: bool,
 }
 
 impl<P: RecordIntake, C> LoggerProviderInner<P, C> {
@@ -42,13 +44,19 @@ impl<P: RecordIntake, C> LoggerProviderInner<P, C> {
         }
     }
 
-    /// Returns `true` if the processor is open, wants such records, and isn't at work.
+    /// Returns `true` if the processor is open, wants such records, and isn't at work, and the
+    /// provider isn't disabled.
     pub(crate) fn is_enabled(&self, level: Severity, target: &str, name: Option<&str>) -> bool
         ensures wanted { let asked = option_map (λ n. n.now) name.entry in
             result ≡ true → P.is_wanted level target.now asked }
         ensures unwanted { let asked = option_map (λ n. n.now) name.entry in
-            result ≡ false → P.is_unwanted level target.now asked ⊎ P.is_at_work }
+            self.now.is_disabled ≡ false → result ≡ false
+            → P.is_unwanted level target.now asked ⊎ P.is_at_work }
+        ensures disabled { IsTrue self.now.is_disabled → result ≡ false }
     {
+        if self.is_disabled {
+            return false;
+        }
         match self.processor.try_borrow() {
             Ok(processor) => processor.wants(level, target, name),
             Err(error) => P::wants_none(error),
@@ -93,7 +101,7 @@ impl<P: LogProcessor, C> LoggerProviderInner<P, C> {
 /// A record that is emitted while the processor is at work, for example from within its exporter,
 /// is dropped and counted.
 ///
-/// Contracts see its resource and its limits.
+/// Contracts see its resource, its limits, and whether it is disabled.
 ///
 /// ```
 /// let provider = SdkLoggerProvider::builder(rt)
@@ -115,6 +123,7 @@ impl<P, C> Model for SdkLoggerProvider<P, C> {
     ghost view = { λ p. record {
       resource = rc_value (rc_value p.inner).resource;
       limits = (rc_value p.inner).limits;
+      is_disabled = (rc_value p.inner).is_disabled;
     } };
 }
 
@@ -124,12 +133,14 @@ impl<R: std::time::Clock + Copy + Drop> SdkLoggerProvider<(), SystemClock<R>> {
     pub fn builder(rt: R) -> LoggerProviderBuilder<(), SystemClock<R>>
         ensures limits { result.limits ≡ default_limits }
         ensures resource { result.resource ≡ None }
+        ensures enabled { result.is_disabled ≡ false }
     {
         LoggerProviderBuilder {
             resource: None,
             processor: (),
             clock: SystemClock::new(rt),
             limits: LogRecordLimits::default(),
+            is_disabled: false,
         }
     }
 }
@@ -189,8 +200,11 @@ impl<P: LogProcessor, C: Clock> LoggerProvider for SdkLoggerProvider<P, C> {
 
     type Logger = SdkLogger<P, C>;
 
-    ghost may_give = { λ provider scope logger.
-        logger ≡ record { scope = scope; limits = provider.limits } };
+    ghost may_give = { λ provider scope logger. logger ≡ record {
+      scope = scope;
+      limits = provider.limits;
+      is_disabled = provider.is_disabled;
+    } };
 
     /// Returns a logger with the given scope.
     ///
@@ -217,7 +231,8 @@ impl<P: LogProcessor, C: Clock> LoggerProvider for SdkLoggerProvider<P, C> {
 
 /// Builds a logger provider (the Rust crate's `LoggerProviderBuilder`, with one processor).
 ///
-/// Contracts see its processor, its limits, and its resource if one is given.
+/// Contracts see its processor, its limits, its resource if one is given, and whether it is
+/// disabled.
 ///
 /// See [`SdkLoggerProvider`].
 #[derive(Drop)]
@@ -226,6 +241,7 @@ pub struct LoggerProviderBuilder<P, C> {
     processor: P,
     clock: C,
     limits: LogRecordLimits,
+    is_disabled: bool,
 }
 
 impl<P, C> Model for LoggerProviderBuilder<P, C> {
@@ -237,6 +253,7 @@ impl<P, C> Model for LoggerProviderBuilder<P, C> {
       processor = b.processor;
       resource = b.resource;
       limits = b.limits;
+      is_disabled = b.is_disabled;
     } };
 }
 
@@ -247,6 +264,7 @@ impl<C: Clock> LoggerProviderBuilder<(), C> {
           processor = processor;
           resource = self.resource;
           limits = self.limits;
+          is_disabled = self.is_disabled;
         } }
     {
         LoggerProviderBuilder {
@@ -254,6 +272,7 @@ impl<C: Clock> LoggerProviderBuilder<(), C> {
             processor,
             clock: self.clock,
             limits: self.limits,
+            is_disabled: self.is_disabled,
         }
     }
 }
@@ -274,6 +293,7 @@ impl<P: Drop, C: Clock> LoggerProviderBuilder<P, C> {
             processor,
             clock,
             limits,
+            is_disabled,
         } = self;
         let resource = match given {
             Some(old) => old.merge(resource)?,
@@ -284,6 +304,7 @@ impl<P: Drop, C: Clock> LoggerProviderBuilder<P, C> {
             processor,
             clock,
             limits,
+            is_disabled,
         })
     }
 
@@ -296,6 +317,7 @@ impl<P: Drop, C: Clock> LoggerProviderBuilder<P, C> {
             processor: self.processor,
             clock,
             limits: self.limits,
+            is_disabled: self.is_disabled,
         }
     }
 
@@ -331,6 +353,16 @@ impl<P: Drop, C: Clock> LoggerProviderBuilder<P, C> {
         };
         LoggerProviderBuilder { limits, ..self }
     }
+
+    /// Disables the provider: its loggers enable no event and emit nothing. Nothing is counted.
+    pub fn disabled(self) -> Self
+        ensures { result ≡ record self { is_disabled = true } }
+    {
+        LoggerProviderBuilder {
+            is_disabled: true,
+            ..self
+        }
+    }
 }
 
 impl<P: RecordIntake, C: Clock> LoggerProviderBuilder<P, C> {
@@ -343,6 +375,7 @@ impl<P: RecordIntake, C: Clock> LoggerProviderBuilder<P, C> {
         ensures built { IfOk result (λ p. p ≡ record {
           resource = unwrap_or self.resource with_defaults;
           limits = self.limits;
+          is_disabled = self.is_disabled;
         }) }
         ensures told { OnOk result (P.is_told (unwrap_or self.resource with_defaults)) }
     {
@@ -351,6 +384,7 @@ impl<P: RecordIntake, C: Clock> LoggerProviderBuilder<P, C> {
             mut processor,
             clock,
             limits,
+            is_disabled,
         } = self;
         let resource = match resource {
             Some(resource) => resource,
@@ -365,6 +399,7 @@ impl<P: RecordIntake, C: Clock> LoggerProviderBuilder<P, C> {
             clock,
             limits,
             dropped_records: Cell::new(0),
+            is_disabled,
         };
         Ok(SdkLoggerProvider {
             inner: Rc::new(alloc, inner)?,

@@ -1,5 +1,5 @@
 //! Builders of providers that environment variables configure.
-ghost use Rattle.std.specs.Prelude.{◌≡◌, IfOk};
+ghost use Rattle.std.specs.Prelude.{◌≡◌, ◌||◌, IfOk};
 ghost use Rattle.otel_sdk.specs.EnvConfig.{provider_with_env};
 
 use crate::env::{EnvConfig, EnvSampler};
@@ -53,7 +53,21 @@ pub trait WithEnv: Drop {
         ensures { IfOk result (configured config.now self) };
 }
 
-/// Sets the resource and the limits of log records.
+/// Returns the builder, disabled on the condition.
+fn disabled_if<P: Drop, C: Clock>(
+    builder: LoggerProviderBuilder<P, C>,
+    condition: bool,
+) -> LoggerProviderBuilder<P, C>
+    ensures { result ≡ record builder { is_disabled = builder.is_disabled || condition } }
+{
+    if condition {
+        builder.disabled()
+    } else {
+        builder
+    }
+}
+
+/// Sets the resource and the limits of log records. If the SDK is disabled, so is the provider.
 impl<P: Drop, C: Clock> WithEnv for LoggerProviderBuilder<P, C> {
     ghost use Rattle.std.specs.Prelude.{◌≡◌};
     ghost use Rattle.otel_sdk.specs.EnvConfig.{loggers_with_env};
@@ -62,6 +76,7 @@ impl<P: Drop, C: Clock> WithEnv for LoggerProviderBuilder<P, C> {
 
     fn with_env(self, alloc: Global, config: &EnvConfig) -> Result<Self, AllocError> {
         let builder = self.with_log_record_limits(config.log_limits);
+        let builder = disabled_if(builder, config.is_disabled);
         builder.with_resource(config.resource(alloc)?)
     }
 }

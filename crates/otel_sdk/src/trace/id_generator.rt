@@ -1,9 +1,10 @@
 //! Generators of trace ids and span ids.
 ghost use Rattle.std.specs.Prelude.{◌≡◌, ◌≢◌, IfOk, true, false, nat_eq};
-ghost use Rattle.otel_sdk.specs.IdGenerator.{IsCountedId};
 
+mod count;
 mod draws;
 
+use crate::trace::id_generator::count::count_up;
 pub use crate::trace::id_generator::draws::ByteSource;
 use crate::trace::id_generator::draws::{SpanDraws, TraceDraws, first_valid};
 use opentelemetry::trace::{SpanId, TraceId};
@@ -121,21 +122,6 @@ impl CountedIdGenerator {
             spans: Cell::new(0),
         }
     }
-}
-
-/// Increments the count. Returns the new count.
-///
-/// # Errors
-///
-/// `Zero` if the numbers are used up.
-fn count_up(count: &Cell<u64>) -> Result<u64, IdError>
-    ensures { IsCountedId result }
-{
-    let Some(next) = count.get().checked_add(1) else {
-        return Err(IdError::Zero);
-    };
-    count.set(next);
-    Ok(next)
 }
 
 impl IdGenerator for CountedIdGenerator {

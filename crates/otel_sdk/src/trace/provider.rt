@@ -6,6 +6,7 @@ ghost use Rattle.otel_sdk_span.specs.SpanLimits.{default_limits};
 ghost use Rattle.otel_sdk.specs.ParentBased.{after_parent};
 ghost use Rattle.otel_sdk.specs.Tracer as spec;
 
+use crate::trace::tracer::calls::TracerCalls;
 use crate::trace::tracer::config::TracerConfig;
 use crate::trace::tracer::{SdkTracer, TracerPipeline};
 use crate::trace::{IdGenerator, ParentBased, RandomIdGenerator, Sampler, ShouldSample};
@@ -83,7 +84,7 @@ where
     }
 }
 
-impl<S: ShouldSample, G: IdGenerator, C: Clock> SdkTracerProvider<S, G, C> {
+impl<S: ShouldSample, G: IdGenerator, C: TracerCalls> SdkTracerProvider<S, G, C> {
     /// Returns the resource that the telemetry describes.
     pub fn resource(&self) -> &Resource
         ensures { result.now ≡ self.now.resource }
@@ -93,13 +94,17 @@ impl<S: ShouldSample, G: IdGenerator, C: Clock> SdkTracerProvider<S, G, C> {
 
     /// Shuts the provider down. From now on, a span that its tracers start has no ids and doesn't
     /// record. A second call does nothing.
-    pub fn shutdown(&self) {
-        self.inner.is_shut_down.set(true);
+    pub fn shutdown(&self)
+        ensures { C.is_closed }
+    {
+        C::close(&self.inner.is_shut_down);
     }
 
     /// Returns the number of spans that don't record because no ids were generated.
-    pub fn failed_ids(&self) -> u64 {
-        self.inner.config.failed_ids.get()
+    pub fn failed_ids(&self) -> u64
+        ensures { C.may_have_failed result }
+    {
+        C::failed(&self.inner.config.failed_ids)
     }
 }
 

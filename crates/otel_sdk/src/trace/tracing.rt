@@ -1,11 +1,12 @@
 //! One value that traces a program: its tracer, contexts, spans and processor.
-ghost use Rattle.std.specs.Prelude.{◌≡◌, length, IfOk, IfErr, OnErr};
+ghost use Rattle.std.specs.Prelude.{◌≡◌, false, length, IfOk, IfErr, OnErr};
 ghost use Rattle.otel_context.specs.Stack.{newest_position, last_position};
 ghost use Rattle.otel_context.specs.Spans.{used_up};
 ghost use Rattle.opentelemetry.specs.SpanBuilder.{from_name};
 ghost use Rattle.opentelemetry.specs.View.{builder_of};
 ghost use Rattle.otel_sdk.specs.Tracing as spec;
-ghost use Rattle.otel_sdk.specs.Tracing.{AttachesContext, Enters, EntersNone, Exits, Runs};
+ghost use Rattle.otel_sdk.specs.Tracing.{AttachesContext, Enters, EntersNone, EntersSpan};
+ghost use Rattle.otel_sdk.specs.Tracing.{Exits, Runs};
 ghost use Rattle.otel_sdk.specs.Tracing.{LosesNoSpan, innermost_ended, innermost_number};
 ghost use Rattle.otel_sdk.specs.declared.trace.tracing.NotEntered.TheVariants.{NumbersUsedUp};
 ghost use Rattle.otel_sdk.specs.declared.trace.tracing.NotEntered.TheVariants.{PositionsUsedUp};
@@ -37,6 +38,9 @@ pub use work::SpanWork;
 
 /// The greatest position of an attachment.
 const LAST_POSITION: u16 = 65534;
+
+/// No context has this position, and no span the greatest number.
+const NO_POSITION: u16 = 65535;
 
 /// Why a span wasn't entered.
 ///
@@ -110,6 +114,10 @@ pub struct Attached {
 /// A span starts under the current context, is the current one while it is entered, and ends when
 /// it is exited. Nothing is exported until [`Tracing::flush`] or [`Tracing::shutdown`].
 ///
+/// A disabled `Tracing`, as `OTEL_SDK_DISABLED` asks for, starts no spans, generates no ids, doesn't
+/// read its clock and takes no memory. Contexts are attached, received and sent as ever, so what a
+/// caller sent is sent on as it was received.
+///
 /// ```
 /// let serve = tracing.enter("serve")?;
 /// let price = tracing.enter("price")?;
@@ -126,6 +134,7 @@ pub struct Tracing<P, E: SpanExporter> {
     journal: Journal<E>,
     moments: Moments,
     unrecorded: u64,
+    is_disabled: bool,
 }
 
 impl<P, E: SpanExporter> Model for Tracing<P, E> {
@@ -155,6 +164,7 @@ impl<P, E: SpanExporter> Model for Tracing<P, E> {
       earlier = t.journal.earlier;
       moments = t.moments;
       unrecorded = t.unrecorded;
+      is_disabled = t.is_disabled;
     } };
 }
 
@@ -175,7 +185,7 @@ impl<P: Pipeline, E: SpanExporter> Tracing<P, E> {
     }
 
     /// Starts a span under the current context, and makes it the current one until it is exited. It
-    /// starts at the clock's moment.
+    /// starts at the clock's moment. Does nothing if the `Tracing` is disabled.
     ///
     /// What is returned may be dropped: the span then ends when a span outside it is exited, or at
     /// the [`Tracing::shutdown`].
@@ -210,10 +220,30 @@ impl<P: Pipeline, E: SpanExporter> Tracing<P, E> {
         ensures positions { IfErr result (λ error. error ≡ PositionsUsedUp
             → newest_position self.old.contexts ≡ last_position) }
     {
+        if self.is_disabled() {
+            return Ok(Entered {
+                number: u64::MAX,
+                position: NO_POSITION,
+            });
+        }
+        self.enter_span(builder)
+    }
+
+    /// Starts a span from the builder, and makes it the current one.
+    fn enter_span(&mut self, builder: SpanBuilder) -> Result<Entered, NotEntered>
+        requires { self.old.is_disabled ≡ false }
+        ensures entered { IfOk result
+            (EntersSpan P.may_start (builder_of builder) self.old self.new) }
+        ensures none { OnErr result (EntersNone self.old self.new) }
+        ensures numbers { IfErr result (λ error. error ≡ NumbersUsedUp
+            → self.old.spans.spans.next_number ≡ used_up) }
+        ensures positions { IfErr result (λ error. error ≡ PositionsUsedUp
+            → newest_position self.old.contexts ≡ last_position) }
+    {
         if self.stack.newest_position() == LAST_POSITION {
             return Err(NotEntered::PositionsUsedUp);
         }
-        let now = self.moments.read(&self.tracer);
+        let now = self.moments.read(self.is_disabled, &self.tracer);
         let builder = starting_at(now, builder);
         let current = self.stack.current();
         let span = self.tracer.start(self.alloc, builder, current)?;
@@ -230,7 +260,7 @@ impl<P: Pipeline, E: SpanExporter> Tracing<P, E> {
         if !self.journal.is_entered(number) {
             return;
         }
-        let now = self.moments.read(&self.tracer);
+        let now = self.moments.read(self.is_disabled, &self.tracer);
         self.exit_to(number, now);
     }
 
@@ -256,7 +286,8 @@ impl<P: Pipeline, E: SpanExporter> Tracing<P, E> {
     }
 
     /// Runs the work in a span that is entered before and exited after it. If no span can be
-    /// entered, runs the work without one, and counts that in [`Tracing::unrecorded`].
+    /// entered, runs the work without one, and counts that in [`Tracing::unrecorded`]. If the
+    /// `Tracing` is disabled, only runs the work.
     pub fn in_span<W: SpanWork<Self>>(&mut self, name: &'static str, work: W) -> W::Out
         requires { W.can_call work }
         ensures { Runs P.may_start (W.may_leave work) (from_name name.now)
@@ -313,6 +344,13 @@ impl<P: Pipeline, E: SpanExporter> Tracing<P, E> {
         ensures { self.new ≡ spec.detached attached.position self.old }
     {
         drop(self.stack.pop_id(attached.position));
+    }
+
+    /// Returns `true` if the `Tracing` is disabled: no span starts.
+    pub fn is_disabled(&self) -> bool
+        ensures { result ≡ self.now.is_disabled }
+    {
+        self.is_disabled
     }
 
     /// Returns the number of spans that are entered and not exited.

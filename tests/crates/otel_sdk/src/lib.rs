@@ -5,6 +5,7 @@
 // Depends on: anyhow test_support
 
 mod builders;
+mod disabled;
 mod ended;
 mod env;
 mod errors;

@@ -1,8 +1,10 @@
 //! The bound of a ratio: the ratio samples the traces whose number is below it.
-ghost use Rattle.std.specs.Prelude.{◌≡◌, ◌<◌, ◌*◌, ◌/◌, ◌^◌, IfOk, string_bytes, to_bits};
+ghost use Rattle.std.specs.Prelude.{◌≡◌, ◌<◌, ◌*◌, ◌/◌, ◌^◌, IfOk, IsTrue, Some};
+ghost use Rattle.std.specs.Prelude.{string_bytes, to_bits};
 ghost use Rattle.std.specs.Float.{binary64};
-ghost use Rattle.otel_sdk.specs.Ratio.{bound, IsNumberText};
+ghost use Rattle.otel_sdk.specs.Ratio.{bound, denoted, IsNumberText};
 
+use ryu::Buffer;
 use std::alloc::{AllocError, Global};
 use std::num::f64_to_bits_with_nan;
 
@@ -64,6 +66,34 @@ pub(crate) fn number_text(alloc: Global, ratio: f64) -> Result<String, AllocErro
     } else if bits >= ONE {
         String::from_str(alloc, "1")
     } else {
-        ratio.to_string(alloc)
+        decimal(alloc, ratio)
+    }
+}
+
+/// Returns the shortest decimal that parses to the number, without an exponent.
+///
+/// # Errors
+///
+/// `AllocError` if out of memory.
+fn decimal(alloc: Global, number: f64) -> Result<String, AllocError>
+    ensures { IfOk result (λ text.
+        denoted (string_bytes text) ≡ Some (to_bits binary64 number)) }
+{
+    let text = number.to_string(alloc)?;
+    // std doesn't say what `to_string` returns.
+    if denotes(text.as_str(), number) {
+        Ok(text)
+    } else {
+        String::from_str(alloc, Buffer::new().format(number))
+    }
+}
+
+/// Returns whether the text denotes the number.
+fn denotes(text: &str, number: f64) -> bool
+    ensures { IsTrue result → denoted text.now ≡ Some (to_bits binary64 number) }
+{
+    match text.parse::<f64>() {
+        Ok(parsed) => f64_to_bits_with_nan(parsed) == f64_to_bits_with_nan(number),
+        Err(_) => false,
     }
 }

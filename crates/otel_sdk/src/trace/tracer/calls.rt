@@ -16,6 +16,10 @@ pub trait TracerCalls: Clock {
 
     ghost is_counted: { Type 0 };
 
+    ghost is_closed: { Type 0 };
+
+    ghost may_have_failed: { ℕ → Type 0 };
+
     /// Returns the current time, as [`Clock::now`].
     fn show(&self) -> u64
         ensures { may_show result };
@@ -27,6 +31,14 @@ pub trait TracerCalls: Clock {
     /// Counts a span for which no ids were generated, up to `u64::MAX`.
     fn count_failed(failed: &Cell<u64>)
         ensures { is_counted };
+
+    /// Sets the flag.
+    fn close(flag: &Cell<bool>)
+        ensures { is_closed };
+
+    /// Returns the number of spans for which no ids were generated.
+    fn failed(failed: &Cell<u64>) -> u64
+        ensures { may_have_failed result };
 }
 
 impl<C: Clock> TracerCalls for C {
@@ -35,6 +47,10 @@ impl<C: Clock> TracerCalls for C {
     ghost is_read = { λ _. Unit {0} };
 
     ghost is_counted = { Unit {0} };
+
+    ghost is_closed = { Unit {0} };
+
+    ghost may_have_failed = { λ _. Unit {0} };
 
     fn show(&self) -> u64 {
         self.now()
@@ -46,5 +62,13 @@ impl<C: Clock> TracerCalls for C {
 
     fn count_failed(failed: &Cell<u64>) {
         failed.set(failed.get().saturating_add(1));
+    }
+
+    fn close(flag: &Cell<bool>) {
+        flag.set(true);
+    }
+
+    fn failed(failed: &Cell<u64>) -> u64 {
+        failed.get()
     }
 }

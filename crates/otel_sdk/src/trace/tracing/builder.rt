@@ -1,5 +1,5 @@
 //! The builder of a `Tracing`.
-ghost use Rattle.std.specs.Prelude.{◌≡◌, IfOk, None};
+ghost use Rattle.std.specs.Prelude.{◌≡◌, ◌||◌, IfOk, None, false, true};
 ghost use Rattle.opentelemetry.specs.Scope.{scope_of_name};
 ghost use Rattle.otel_sdk.specs.ParentBased.{after_parent};
 ghost use Rattle.otel_sdk.specs.Tracer.{with_id_generator, with_resource, with_sampler};
@@ -33,6 +33,7 @@ pub struct TracingBuilder<S, G, C, E> {
     provider: TracerProviderBuilder<S, G, C>,
     exporter: E,
     config: BatchConfig,
+    is_disabled: bool,
 }
 
 impl<S, G, C, E> Model for TracingBuilder<S, G, C, E> {
@@ -44,6 +45,7 @@ impl<S, G, C, E> Model for TracingBuilder<S, G, C, E> {
       provider = b.provider;
       exporter = b.exporter;
       config = b.config;
+      is_disabled = b.is_disabled;
     } };
 }
 
@@ -68,11 +70,13 @@ where
         ensures resource { result.provider.resource ≡ None }
         ensures sampler { result.provider.sampler ≡ after_parent Sampler.AlwaysOn }
         ensures batches { result.config ≡ default_batches }
+        ensures enabled { result.is_disabled ≡ false }
     {
         TracingBuilder {
             provider: SdkTracerProvider::builder(rt),
             exporter: (),
             config: BatchConfig::default(),
+            is_disabled: false,
         }
     }
 }
@@ -84,12 +88,14 @@ impl<S: ShouldSample, G: IdGenerator, C: Clock, E: Drop> TracingBuilder<S, G, C,
           provider = self.provider;
           exporter = exporter;
           config = self.config;
+          is_disabled = self.is_disabled;
         } }
     {
         TracingBuilder {
             provider: self.provider,
             exporter,
             config: self.config,
+            is_disabled: self.is_disabled,
         }
     }
 
@@ -99,12 +105,14 @@ impl<S: ShouldSample, G: IdGenerator, C: Clock, E: Drop> TracingBuilder<S, G, C,
           provider = with_sampler sampler self.provider;
           exporter = self.exporter;
           config = self.config;
+          is_disabled = self.is_disabled;
         } }
     {
         TracingBuilder {
             provider: self.provider.with_sampler(sampler),
             exporter: self.exporter,
             config: self.config,
+            is_disabled: self.is_disabled,
         }
     }
 
@@ -114,12 +122,14 @@ impl<S: ShouldSample, G: IdGenerator, C: Clock, E: Drop> TracingBuilder<S, G, C,
           provider = with_id_generator id_generator self.provider;
           exporter = self.exporter;
           config = self.config;
+          is_disabled = self.is_disabled;
         } }
     {
         TracingBuilder {
             provider: self.provider.with_id_generator(id_generator),
             exporter: self.exporter,
             config: self.config,
+            is_disabled: self.is_disabled,
         }
     }
 
@@ -131,6 +141,7 @@ impl<S: ShouldSample, G: IdGenerator, C: Clock, E: Drop> TracingBuilder<S, G, C,
             provider: self.provider.with_clock(clock),
             exporter: self.exporter,
             config: self.config,
+            is_disabled: self.is_disabled,
         }
     }
 
@@ -141,6 +152,7 @@ impl<S: ShouldSample, G: IdGenerator, C: Clock, E: Drop> TracingBuilder<S, G, C,
           provider = with_id_generator result.provider.id_generator self.provider;
           exporter = self.exporter;
           config = self.config;
+          is_disabled = self.is_disabled;
         } }
     {
         self.with_id_generator(CountedIdGenerator::new())
@@ -160,11 +172,13 @@ impl<S: ShouldSample, G: IdGenerator, C: Clock, E: Drop> TracingBuilder<S, G, C,
             provider,
             exporter,
             config,
+            is_disabled,
         } = self;
         Ok(TracingBuilder {
             provider: provider.with_resource(resource)?,
             exporter,
             config,
+            is_disabled,
         })
     }
 
@@ -186,6 +200,25 @@ impl<S: ShouldSample, G: IdGenerator, C: Clock, E: Drop> TracingBuilder<S, G, C,
     {
         TracingBuilder { config, ..self }
     }
+
+    /// Disables the `Tracing`: it starts no spans, generates no ids and takes no memory. Contexts are
+    /// attached, received and sent as ever.
+    pub fn disabled(self) -> Self
+        ensures { result ≡ record self { is_disabled = true } }
+    {
+        self.disabled_if(true)
+    }
+
+    /// Disables the `Tracing` on the condition.
+    pub(super) fn disabled_if(self, condition: bool) -> Self
+        ensures { result ≡ record self { is_disabled = self.is_disabled || condition } }
+    {
+        let is_disabled = self.is_disabled || condition;
+        TracingBuilder {
+            is_disabled,
+            ..self
+        }
+    }
 }
 
 impl<S: ShouldSample, G: IdGenerator, C: Clock, E: SpanExporter> TracingBuilder<S, G, C, E> {
@@ -206,6 +239,7 @@ impl<S: ShouldSample, G: IdGenerator, C: Clock, E: SpanExporter> TracingBuilder<
             provider,
             mut exporter,
             config,
+            is_disabled,
         } = self;
         let (resource, start) = provider.into_parts(alloc)?;
         exporter.set_resource(Rc::new(alloc, resource)?);
@@ -221,6 +255,7 @@ impl<S: ShouldSample, G: IdGenerator, C: Clock, E: SpanExporter> TracingBuilder<
             journal: Journal::new(alloc, exporter, config),
             moments: Moments::new(),
             unrecorded: 0,
+            is_disabled,
         })
     }
 }

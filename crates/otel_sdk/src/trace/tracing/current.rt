@@ -40,7 +40,7 @@ impl<P: Pipeline, E: SpanExporter> Tracing<P, E> {
     ) -> Result<(), AllocError>
         ensures { AddsEvent name (attributes_of attributes) result self.old self.new }
     {
-        let now = self.moments.read(&self.tracer);
+        let now = self.moments.read(self.is_disabled, &self.tracer);
         self.change(SpanChange::AddEvent(name, now, attributes))
     }
 

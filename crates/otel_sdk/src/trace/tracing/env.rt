@@ -11,7 +11,7 @@ use std::alloc::{AllocError, Global};
 impl<S: ShouldSample, G: IdGenerator, C: Clock, E: Drop> TracingBuilder<S, G, C, E> {
     /// Sets the sampler, the resource, the limits of spans and the sizes of batches that the
     /// environment gives, or their defaults. A call that comes later wins. If the SDK is disabled,
-    /// no span is sampled.
+    /// so is the `Tracing`.
     ///
     /// # Errors
     ///
@@ -26,7 +26,8 @@ impl<S: ShouldSample, G: IdGenerator, C: Clock, E: Drop> TracingBuilder<S, G, C,
         let builder = self
             .with_sampler(config.sampler())
             .with_limits(config.span_limits)
-            .with_batch_config(config.span_batches.config());
+            .with_batch_config(config.span_batches.config())
+            .disabled_if(config.is_disabled);
         builder.with_resource(config.resource(alloc)?)
     }
 }

@@ -1,10 +1,10 @@
 //! How a `Tracing` records errors.
-ghost use Rattle.std.specs.Prelude.{◌≡◌, IfOk, OnOk, OnErr};
+ghost use Rattle.std.specs.Prelude.{◌≡◌, false, IfOk, OnOk, OnErr};
 ghost use Rattle.opentelemetry.specs.SpanBuilder.{from_name};
 ghost use Rattle.opentelemetry.specs.View.{builder_of};
 ghost use Rattle.otel_context.specs.SpanEffects.{attributes_of, message};
-ghost use Rattle.otel_sdk.specs.TracingErrors.{Fails, RecordsError, RecordsFailure, RecordsPart};
-ghost use Rattle.otel_sdk.specs.TracingErrors.{Tries};
+ghost use Rattle.otel_sdk.specs.TracingErrors.{Fails, RecordsError, RecordsFailure, RecordsInCurrent};
+ghost use Rattle.otel_sdk.specs.TracingErrors.{RecordsOrCounts, RecordsPart, Tries};
 
 use super::Tracing;
 use super::work::SpanWork;
@@ -32,7 +32,8 @@ fn exception(alloc: Global, text: StringValue) -> Result<Vec<KeyValue>, AllocErr
 
 impl<P: Pipeline, E: SpanExporter> Tracing<P, E> {
     /// Adds an event `exception` to the current span, at the clock's moment, with the error's text
-    /// as the attribute `exception.message`. Does nothing without a span.
+    /// as the attribute `exception.message`. Does nothing without a span, or if the `Tracing` is
+    /// disabled.
     ///
     /// # Errors
     ///
@@ -40,7 +41,17 @@ impl<P: Pipeline, E: SpanExporter> Tracing<P, E> {
     pub fn record_error<X: Display>(&mut self, error: &X) -> Result<(), AllocError>
         ensures { RecordsError (X.output error.now) result self.old self.new }
     {
-        let now = self.moments.read(&self.tracer);
+        if self.is_disabled() {
+            return Ok(());
+        }
+        self.record_in_current(error)
+    }
+
+    /// Adds the error's event to the current span.
+    fn record_in_current<X: Display>(&mut self, error: &X) -> Result<(), AllocError>
+        ensures { RecordsInCurrent (X.output error.now) result self.old self.new }
+    {
+        let now = self.moments.read(self.is_disabled, &self.tracer);
         let text = StringValue::from(error.to_string(self.alloc)?);
         let attributes = exception(self.alloc, text)?;
         self.change(SpanChange::AddEvent(StringValue::from("exception"), now, attributes))
@@ -95,9 +106,19 @@ impl<P: Pipeline, E: SpanExporter> Tracing<P, E> {
         }
     }
 
-    /// Records the error in the span with the number, or counts that it couldn't.
+    /// Records the error in the span with the number, or counts that it couldn't. Does nothing if
+    /// the `Tracing` is disabled.
     fn fail<X: Display>(&mut self, number: u64, error: &X)
         ensures { Fails number (X.output error.now) self.old self.new }
+    {
+        if !self.is_disabled() {
+            self.record_or_count(number, error);
+        }
+    }
+
+    /// Records the error in the span with the number, or counts that it couldn't.
+    fn record_or_count<X: Display>(&mut self, number: u64, error: &X)
+        ensures { RecordsOrCounts number (X.output error.now) self.old self.new }
     {
         if self.record_failure(number, error).is_err() {
             self.count_unrecorded();
@@ -113,7 +134,7 @@ impl<P: Pipeline, E: SpanExporter> Tracing<P, E> {
         ensures ok { OnOk result (RecordsFailure number (X.output error.now) self.old self.new) }
         ensures err { OnErr result (RecordsPart number (X.output error.now) self.old self.new) }
     {
-        let now = self.moments.read(&self.tracer);
+        let now = self.moments.read(self.is_disabled, &self.tracer);
         let text = StringValue::from(error.to_string(self.alloc)?);
         let status = Status::error(text.clone()?);
         let attributes = exception(self.alloc, text)?;

@@ -53,7 +53,7 @@ impl<P: Pipeline, E: SpanExporter> Tracing<P, E> {
     fn exit_all(&mut self)
         ensures { (moment : ℕ) × (self.new ≡ all_exited moment self.old) }
     {
-        let now = self.moments.read(&self.tracer);
+        let now = self.moments.read(self.is_disabled, &self.tracer);
         while self.end_innermost(now).is_some() {}
     }
 

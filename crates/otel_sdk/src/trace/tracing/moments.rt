@@ -1,5 +1,6 @@
 //! The moments that a clock gave, which exist only in contracts.
-ghost use Rattle.std.specs.Prelude.{◌≡◌, [], ◌∷◌, ◌++◌};
+ghost use Rattle.std.specs.Prelude.{◌≡◌, [], false};
+ghost use Rattle.otel_sdk.specs.Tracing.{after_reading};
 
 use crate::trace::tracer::{Pipeline, SdkTracer};
 use otel_sdk_base::Accepted;
@@ -31,11 +32,15 @@ impl Moments {
         }
     }
 
-    /// Returns the moment that the clock of the tracer gives, in nanoseconds since 1970.
-    pub fn read<P: Pipeline>(&mut self, tracer: &SdkTracer<P>) -> u64
-        ensures listed { self.new ≡ self.old ++ result ∷ [] }
-        ensures shown { P.may_show tracer.now result }
+    /// Returns the moment that the clock of the tracer gives, in nanoseconds since 1970, or 0 if the
+    /// `Tracing` is disabled.
+    pub fn read<P: Pipeline>(&mut self, is_disabled: bool, tracer: &SdkTracer<P>) -> u64
+        ensures listed { self.new ≡ after_reading is_disabled result self.old }
+        ensures shown { is_disabled ≡ false → P.may_show tracer.now result }
     {
+        if is_disabled {
+            return 0;
+        }
         let now = tracer.pipeline.now();
         self.given = self.given.and_one(&now);
         now

@@ -18,6 +18,6 @@ returns-clause-flushes g c = record {
     collected = search rules;
     step = rw (sym c.self.view_is) c.force_flush.ensures.flushed;
     same = processed-state _ c.self.inside.stack.live c.self.inside.journal c.force_flush.new.self c.self.inside.moments
-        c.self.inside.unrecorded _ c.self.view_is c.force_flush.ensures.same;
+        c.self.inside.unrecorded c.self.inside.is_disabled _ c.self.view_is c.force_flush.ensures.same;
   });
 }

@@ -29,7 +29,7 @@ returns-clause-ok g c =
       printed = search rules;
       state = changed-state (λ (spans : LiveState). with_failure_in c.args.number c.from-text.result c.read-now.result spans) _
           c.self.inside.stack.live c.self.inside.journal c.change-2.new.self c.self.inside.moments c.read-now.new.self
-          c.self.inside.unrecorded c.args.self.now c.read-now.result c.self.view_is c.read-now.ensures.listed
+          c.self.inside.unrecorded c.self.inside.is_disabled c.args.self.now c.read-now.result c.self.view_is c.read-now.ensures.listed
           (e ∙ (λ i. record (with_event g c i) {
             spans = with_changed (λ s. after_status s (status i)) c.args.number (with_event g c i).spans;
           }));
@@ -43,7 +43,7 @@ returns-clause-err g c = on_err_weaker c.change-2.result (λ e.
     record {
       moment = c.read-now.result;
       same = changed-state (λ _. c.change-2.new.self.spans) _ c.self.inside.stack.live c.self.inside.journal c.change-2.new.self
-          c.self.inside.moments c.read-now.new.self c.self.inside.unrecorded c.args.self.now c.read-now.result c.self.view_is
+          c.self.inside.moments c.read-now.new.self c.self.inside.unrecorded c.self.inside.is_disabled c.args.self.now c.read-now.result c.self.view_is
           c.read-now.ensures.listed (event ∙ (λ i. record c.self.inside.journal { spans = (sym event i).spans }));
       spans = inr (
         c.from-text.result,

@@ -25,7 +25,7 @@ returns-in_err-shutdown-clause-shuts_down g c = record {
     step = subst (λ (r : Result (Unit {0}) OTelSdkError). IsShutDown g.E.Exporter.accepted g.E.Exporter.calls r c.collect.new.self.processor
         c.shutdown.new.self.processor) {x = c.shutdown.result} (search rules) (rw (sym c.self-2.view_is) c.shutdown.ensures.shut_down);
     same = processed-state _ c.self-2.inside.stack.live c.self-2.inside.journal c.shutdown.new.self c.self-2.inside.moments
-        c.self-2.inside.unrecorded _ c.self-2.view_is c.shutdown.ensures.same;
+        c.self-2.inside.unrecorded c.self-2.inside.is_disabled _ c.self-2.view_is c.shutdown.ensures.same;
   });
 }
 
@@ -39,7 +39,7 @@ returns-clause-shuts_down g c = record {
     step = subst (λ (r : Result (Unit {0}) OTelSdkError). IsShutDown g.E.Exporter.accepted g.E.Exporter.calls r c.collect.new.self.processor
         c.shutdown.new.self.processor) {x = c.shutdown.result} (search rules) (rw (sym c.self-2.view_is) c.shutdown.ensures.shut_down);
     same = processed-state _ c.self-2.inside.stack.live c.self-2.inside.journal c.shutdown.new.self c.self-2.inside.moments
-        c.self-2.inside.unrecorded _ c.self-2.view_is c.shutdown.ensures.same;
+        c.self-2.inside.unrecorded c.self-2.inside.is_disabled _ c.self-2.view_is c.shutdown.ensures.same;
   });
 }
 

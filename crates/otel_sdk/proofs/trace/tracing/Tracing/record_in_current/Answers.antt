@@ -4,7 +4,7 @@ use Rattle.otel_context.specs.SpanEffects.{attributes_of, message}
 use Rattle.otel_sdk.specs.Tracing.{with_current_changed}
 use Rattle.otel_sdk.proofs.TracingLemmas.{at-read}
 use Rattle.otel_sdk_span.specs.Span.{after_event}
-use Rattle.otel_sdk.proofs.trace.tracing.Tracing.record_error.Goals as goal
+use Rattle.otel_sdk.proofs.trace.tracing.Tracing.record_in_current.Goals as goal
 
 pub returns : goal.returns
 returns g c =

@@ -1,6 +1,6 @@
 use Rattle.std.proofs.Common.{inr}
 use Rattle.otel_sdk.proofs.TracingLemmas.{on_err-given}
-use Rattle.otel_sdk.proofs.trace.tracing.Tracing.fail.Goals as goal
+use Rattle.otel_sdk.proofs.trace.tracing.Tracing.record_or_count.Goals as goal
 
 pub returns-then-is_err : goal.returns-then-is_err
 returns-then-is_err g c = inr (
