@@ -1,0 +1,93 @@
+//! The reason why a line wasn't read.
+ghost use Rattle.std.specs.Prelude.{◌≡◌, alloc_error};
+ghost use Rattle.otel_otlp.specs.ReadMembers.{IsRefusal};
+ghost use Rattle.otel_otlp.specs.declared.read.error.ReadError.TheVariants.{Memory};
+
+use std::alloc::{AllocError, AllocFailed, Global};
+use thiserror::Error;
+
+/// The reason why a line wasn't read.
+#[derive(Debug, Drop, Error)]
+pub enum ReadError {
+    /// The line isn't JSON, or has more than 127 lists and objects within each other.
+    #[error("not JSON")]
+    Json,
+    /// The value at the place isn't allowed there by the protocol.
+    #[error("{place}: expected {wanted}")]
+    Unexpected {
+        /// The place in the line, such as `resourceSpans[0].scopeSpans[1].spans[2].traceId`, or
+        /// `line` for the whole line.
+        place: String,
+        /// The kind of value that is allowed there.
+        wanted: &'static str,
+    },
+    /// Out of memory.
+    #[error("no memory")]
+    Memory(AllocError),
+}
+
+impl From<AllocError> for ReadError {
+    ghost from_gives = { λ error converted. converted ≡ Memory error };
+
+    fn from(error: AllocError) -> ReadError {
+        ReadError::Memory(error)
+    }
+}
+
+impl<T: Drop> From<AllocFailed<T>> for ReadError {
+    ghost from_gives = { λ _ converted. converted ≡ Memory alloc_error };
+
+    fn from(_error: AllocFailed<T>) -> ReadError {
+        ReadError::Memory(AllocError)
+    }
+}
+
+/// Returns the place within the step that leads to it.
+fn place_within(alloc: Global, step: &str, place: &str) -> Result<String, AllocError> {
+    let mut text = String::from_str(alloc, step)?;
+    if !place.is_empty() && !place.starts_with('[') {
+        text.push_str(".")?;
+    }
+    text.push_str(place)?;
+    Ok(text)
+}
+
+/// Returns the error for a value at the place.
+pub(crate) fn unexpected(alloc: Global, place: &str, wanted: &'static str) -> ReadError {
+    match String::from_str(alloc, place) {
+        Ok(place) => ReadError::Unexpected { place, wanted },
+        Err(error) => ReadError::Memory(error),
+    }
+}
+
+/// Returns the error for a value that isn't an object.
+pub(crate) fn no_object(alloc: Global) -> ReadError {
+    unexpected(alloc, "", "an object")
+}
+
+impl ReadError {
+    /// Returns the error with the step before its place.
+    pub(crate) fn within(self, alloc: Global, step: &str) -> ReadError
+        ensures { IsRefusal result → IsRefusal self }
+    {
+        match self {
+            ReadError::Unexpected { place, wanted } => {
+                match place_within(alloc, step, place.as_str()) {
+                    Ok(place) => ReadError::Unexpected { place, wanted },
+                    Err(error) => ReadError::Memory(error),
+                }
+            }
+            other => other,
+        }
+    }
+
+    /// Returns the error with the index of an item before its place.
+    pub(crate) fn in_item(self, alloc: Global, index: usize) -> ReadError
+        ensures { IsRefusal result → IsRefusal self }
+    {
+        match format!(in alloc; "[{index}]") {
+            Ok(step) => self.within(alloc, step.as_str()),
+            Err(error) => ReadError::Memory(error),
+        }
+    }
+}
