@@ -12,7 +12,7 @@ byte_small : (i n : ℕ) → byte_at i n < 256
 byte_small zero n = omega arith
 byte_small (suc i) n = omega arith
 
-bytes_small : (k n i : ℕ) → slice_index (bytes_high_first k n) i < 256
+pub bytes_small : (k n i : ℕ) → slice_index (bytes_high_first k n) i < 256
 bytes_small zero n i = omega arith
 bytes_small (suc k) n zero = byte_small k n
 bytes_small (suc k) n (suc i) = bytes_small k n i

@@ -22,3 +22,13 @@ pub mod Streams
 pub mod StreamSteps
 pub mod StreamText
 pub mod StreamRequest
+pub mod HttpParts
+pub mod HttpDelivery
+pub mod ReadLists
+pub mod ReadErrors
+pub mod ReadGroups
+pub mod ReadBack
+pub mod ReadBackValues
+pub mod ReadBackRecords
+pub mod ReadBackSpans
+pub mod ReadBackLines

@@ -65,7 +65,7 @@ integers_told zs e = ap (λ l. told_array (integers l)) e
 texts_told : (ss : List (List ℕ)) → ss ≡ [] → told_array (texts ss) ≡ texts []
 texts_told ss e = ap (λ l. told_array (texts l)) e
 
-anything : {A : Type 0} (xs : List A) → All (λ x. ⊤) xs
+pub anything : {A : Type 0} (xs : List A) → All (λ x. ⊤) xs
 anything xs k d below = tt
 
 same_array : (xs ys : ArrayValue) → IsArrayInRange xs → IsArrayInRange ys → array_values xs ≡ array_values ys → told_array xs ≡ told_array ys

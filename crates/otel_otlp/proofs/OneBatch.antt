@@ -8,7 +8,8 @@ use Rattle.otel_base.specs.KeyValue.{Attribute}
 use Rattle.otel_sdk_base.specs.Attributes as attributes
 use Rattle.otel_sdk_base.specs.Resource.{Parts}
 use Rattle.otel_sdk_span.specs.SpanData.{SpanRecord}
-use Rattle.serde_json.specs.Data.{Data, null}
+use Rattle.serde_json.specs.Data.{Data, null, array}
+use Rattle.serde_json.specs.View.{items_of}
 use Rattle.otel_otlp.specs.Common.{attributes_member, instrumentation_scope, key_value, resource, unique}
 use Rattle.otel_otlp.specs.Groups.{is_of, new_scope, first_scopes}
 use Rattle.otel_otlp.specs.Json.{Member, list_member, text_member, text_if_given}
@@ -21,14 +22,16 @@ use Rattle.otel_otlp.proofs.OneGroup.{no_given, given_in, given_again, inside, s
 use Rattle.otel_otlp.proofs.OneSpan.{equal_values_say_same}
 
 -- ---- scopes
-scope_attributes_in : (s : Scope) → items_in (found (codes "attributes") (scope_members s)) ≡ map key_value (unique s.attributes)
-scope_attributes_in s =
+pub scope_attributes_found : (s : Scope) → found (codes "attributes") (scope_members s) ≡ found (codes "attributes") (attributes_member (unique s.attributes))
+scope_attributes_found s =
     let q = codes "attributes" in
     let front = text_member (codes "name") s.name ++ text_if_given (codes "version") s.version in
-    ap items_in (found-append q front (attributes_member (unique s.attributes))
+    found-append q front (attributes_member (unique s.attributes))
     ∙ ap (or_else (found q (attributes_member (unique s.attributes)))) (found-before q (text_member (codes "name") s.name) (text_if_given (codes "version") s.version) (no_given q (codes "version") s.version refl))
-    ∙ or_else-none (found q (attributes_member (unique s.attributes))))
-    ∙ unless_empty_again q (map key_value (unique s.attributes)) refl
+    ∙ or_else-none (found q (attributes_member (unique s.attributes)))
+
+scope_attributes_in : (s : Scope) → items_in (found (codes "attributes") (scope_members s)) ≡ map key_value (unique s.attributes)
+scope_attributes_in s = ap items_in (scope_attributes_found s) ∙ unless_empty_again (codes "attributes") (map key_value (unique s.attributes)) refl
 
 -- attributes in range stay so after an attribute is put
 put_in_range : (xs : List Attribute) (a : Attribute) (at : Option ℕ) → AreInRange xs → IsValueInRange a.1 → AreInRange (option_map_or (λ i. slice_set xs i a) at (xs ++ a ∷ []))
@@ -40,17 +43,17 @@ put_all_in_range held [] h g = h
 put_all_in_range held (a ∷ xs) h g =
     put_all_in_range (attributes.put held a) xs (put_in_range held a (attributes.place a.0 held) h (All-head (λ b. IsValueInRange b.1) a xs g)) (All-tail (λ b. IsValueInRange b.1) a xs g)
 
-unique_in_range : (xs : List Attribute) → AreInRange xs → AreInRange (unique xs)
+pub unique_in_range : (xs : List Attribute) → AreInRange xs → AreInRange (unique xs)
 unique_in_range xs h = put_all_in_range [] xs (All-nil (λ b. IsValueInRange b.1)) h
 
-abbrev HasRange : Scope → Type 0
+abbrev pub HasRange : Scope → Type 0
 HasRange s = AreInRange s.attributes
 
 if_in_range : (b : Bool) (s : Scope) → HasRange s → All HasRange (if b then [] else s ∷ [])
 if_in_range true s h = All-nil HasRange
 if_in_range false s h = All-cons HasRange s [] h (All-nil HasRange)
 
-scopes_in_range : (before ss : List SpanRecord) → All IsInRange ss → All HasRange (first_scopes scope_of before ss)
+pub scopes_in_range : (before ss : List SpanRecord) → All IsInRange ss → All HasRange (first_scopes scope_of before ss)
 scopes_in_range before [] h = All-nil HasRange
 scopes_in_range before (s ∷ ss) h =
     All-append HasRange (new_scope scope_of before s) (first_scopes scope_of (before ++ s ∷ []) ss)
@@ -62,22 +65,26 @@ scopes_in_range before (s ∷ ss) h =
 abbrev parts : List ℕ → Data → List ℕ → List Data → Option (List ℕ) → List Member
 parts n d m ds url = (n, d) ∷ list_member m ds ++ text_if_given (codes "schemaUrl") url
 
-abbrev of_group : List SpanRecord → Scope → List Data
+abbrev pub of_group : List SpanRecord → Scope → List Data
 of_group ss s = map span (filter (is_of scope_of s) ss)
 
-spans_in : (ss : List SpanRecord) (s : Scope) → items_in (found (codes "spans") (group_members ss s)) ≡ of_group ss s
-spans_in ss s =
+pub spans_found : (ss : List SpanRecord) (s : Scope) → found (codes "spans") (group_members ss s) ≡ Some (array (items_of (of_group ss s)))
+spans_found ss s =
     let q = codes "spans" in
-    ap items_in (found-before q ((codes "scope", instrumentation_scope s) ∷ list_member q (of_group ss s)) (text_if_given (codes "schemaUrl") s.schema_url)
-    (no_given q (codes "schemaUrl") s.schema_url refl))
-    ∙ items_again (of_group ss s)
+    found-before q ((codes "scope", instrumentation_scope s) ∷ list_member q (of_group ss s)) (text_if_given (codes "schemaUrl") s.schema_url)
+    (no_given q (codes "schemaUrl") s.schema_url refl)
+
+spans_in : (ss : List SpanRecord) (s : Scope) → items_in (found (codes "spans") (group_members ss s)) ≡ of_group ss s
+spans_in ss s = ap items_in (spans_found ss s) ∙ items_again (of_group ss s)
+
+pub group_url_found : (ss : List SpanRecord) (s : Scope) → found (codes "schemaUrl") (group_members ss s) ≡ found (codes "schemaUrl") (text_if_given (codes "schemaUrl") s.schema_url)
+group_url_found ss s =
+    let q = codes "schemaUrl" in
+    found-append q ((codes "scope", instrumentation_scope s) ∷ list_member (codes "spans") (of_group ss s)) (text_if_given q s.schema_url)
+    ∙ or_else-none (found q (text_if_given q s.schema_url))
 
 group_url_in : (ss : List SpanRecord) (s : Scope) → given_in (found (codes "schemaUrl") (group_members ss s)) ≡ s.schema_url
-group_url_in ss s =
-    let q = codes "schemaUrl" in
-    ap given_in (found-append q ((codes "scope", instrumentation_scope s) ∷ list_member (codes "spans") (of_group ss s)) (text_if_given q s.schema_url)
-    ∙ or_else-none (found q (text_if_given q s.schema_url)))
-    ∙ given_again q s.schema_url refl
+group_url_in ss s = ap given_in (group_url_found ss s) ∙ given_again (codes "schemaUrl") s.schema_url refl
 
 same_scope : (ss ts : List SpanRecord) (a b : Scope) → HasRange a → HasRange b → scope_spans ss a ≡ scope_spans ts b → SameScope a b
 same_scope ss ts a b in_a in_b e =
@@ -101,29 +108,33 @@ same_group ss ts in_ss in_ts a b in_a in_b e =
     }
 
 -- ---- batches
-abbrev group_values : List SpanRecord → List Data
+abbrev pub group_values : List SpanRecord → List Data
 group_values ss = map (scope_spans ss) (scopes ss)
 
-abbrev batch_members : Parts → List SpanRecord → List Member
+abbrev pub batch_members : Parts → List SpanRecord → List Member
 batch_members r ss = parts (codes "resource") (resource r) (codes "scopeSpans") (group_values ss) r.schema_url
 
-resource_in : (r : Parts) (ss : List SpanRecord) → found (codes "resource") (batch_members r ss) ≡ Some (resource r)
+pub resource_in : (r : Parts) (ss : List SpanRecord) → found (codes "resource") (batch_members r ss) ≡ Some (resource r)
 resource_in r ss =
     let q = codes "resource" in
     found-before q ((q, resource r) ∷ list_member (codes "scopeSpans") (group_values ss)) (text_if_given (codes "schemaUrl") r.schema_url) (no_given q (codes "schemaUrl") r.schema_url refl)
 
-groups_in : (r : Parts) (ss : List SpanRecord) → items_in (found (codes "scopeSpans") (batch_members r ss)) ≡ group_values ss
-groups_in r ss =
+pub groups_found : (r : Parts) (ss : List SpanRecord) → found (codes "scopeSpans") (batch_members r ss) ≡ Some (array (items_of (group_values ss)))
+groups_found r ss =
     let q = codes "scopeSpans" in
-    ap items_in (found-before q ((codes "resource", resource r) ∷ list_member q (group_values ss)) (text_if_given (codes "schemaUrl") r.schema_url) (no_given q (codes "schemaUrl") r.schema_url refl))
-    ∙ items_again (group_values ss)
+    found-before q ((codes "resource", resource r) ∷ list_member q (group_values ss)) (text_if_given (codes "schemaUrl") r.schema_url) (no_given q (codes "schemaUrl") r.schema_url refl)
+
+groups_in : (r : Parts) (ss : List SpanRecord) → items_in (found (codes "scopeSpans") (batch_members r ss)) ≡ group_values ss
+groups_in r ss = ap items_in (groups_found r ss) ∙ items_again (group_values ss)
+
+pub url_found : (r : Parts) (ss : List SpanRecord) → found (codes "schemaUrl") (batch_members r ss) ≡ found (codes "schemaUrl") (text_if_given (codes "schemaUrl") r.schema_url)
+url_found r ss =
+    let q = codes "schemaUrl" in
+    found-append q ((codes "resource", resource r) ∷ list_member (codes "scopeSpans") (group_values ss)) (text_if_given q r.schema_url)
+    ∙ or_else-none (found q (text_if_given q r.schema_url))
 
 url_in : (r : Parts) (ss : List SpanRecord) → given_in (found (codes "schemaUrl") (batch_members r ss)) ≡ r.schema_url
-url_in r ss =
-    let q = codes "schemaUrl" in
-    ap given_in (found-append q ((codes "resource", resource r) ∷ list_member (codes "scopeSpans") (group_values ss)) (text_if_given q r.schema_url)
-    ∙ or_else-none (found q (text_if_given q r.schema_url)))
-    ∙ given_again q r.schema_url refl
+url_in r ss = ap given_in (url_found r ss) ∙ given_again (codes "schemaUrl") r.schema_url refl
 
 resource_attributes_in : (r : Parts) → items_in (found (codes "attributes") (attributes_member r.attributes)) ≡ map key_value r.attributes
 resource_attributes_in r = unless_empty_again (codes "attributes") (map key_value r.attributes) refl

@@ -43,13 +43,15 @@ name_in s =
     (no_list q (codes "attributes") (map key_value (unique s.attributes)) refl)
     ∙ found-before q (text_member q s.name) (text_if_given (codes "version") s.version) (no_given q (codes "version") s.version refl)
 
-pub version_in : (s : Scope) → given_in (found (codes "version") (scope_members s)) ≡ s.version
-version_in s =
+pub version_found : (s : Scope) → found (codes "version") (scope_members s) ≡ found (codes "version") (text_if_given (codes "version") s.version)
+version_found s =
     let q = codes "version" in
-    ap given_in (found-before q (text_member (codes "name") s.name ++ text_if_given q s.version) (attributes_member (unique s.attributes))
+    found-before q (text_member (codes "name") s.name ++ text_if_given q s.version) (attributes_member (unique s.attributes))
     (no_list q (codes "attributes") (map key_value (unique s.attributes)) refl)
-    ∙ found-append q (text_member (codes "name") s.name) (text_if_given q s.version) ∙ or_else-none (found q (text_if_given q s.version)))
-    ∙ given_again q s.version refl
+    ∙ found-append q (text_member (codes "name") s.name) (text_if_given q s.version) ∙ or_else-none (found q (text_if_given q s.version))
+
+pub version_in : (s : Scope) → given_in (found (codes "version") (scope_members s)) ≡ s.version
+version_in s = ap given_in (version_found s) ∙ given_again (codes "version") s.version refl
 
 pub scope_in : (ss : List SpanRecord) (s : Scope) → found (codes "scope") (group_members ss s) ≡ Some (instrumentation_scope s)
 scope_in ss s =

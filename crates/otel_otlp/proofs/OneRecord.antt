@@ -19,7 +19,7 @@ use Rattle.otel_otlp.proofs.LeftOut.{text_again, number_again, same_flags}
 use Rattle.otel_otlp.proofs.OneAttribute.{same_attributes}
 
 -- ---- members with attributes and the number of dropped attributes after them
-abbrev lost : ℕ → List Member
+abbrev pub lost : ℕ → List Member
 lost n = number_unless_zero (codes "droppedAttributesCount") n
 
 abbrev with_attributes : List Member → List Attribute → ℕ → List Member
@@ -31,34 +31,40 @@ in_front q front xs n a d =
     found-before q (front ++ attributes_member xs) (lost n) (no_number q (codes "droppedAttributesCount") n d)
     ∙ found-before q front (attributes_member xs) (no_list q (codes "attributes") (map key_value xs) a)
 
-attributes_behind : (front : List Member) (xs : List Attribute) (n : ℕ) → found (codes "attributes") front ≡ None → items_in (found (codes "attributes") (with_attributes front xs n)) ≡ map key_value xs
-attributes_behind front xs n none =
+pub attributes_found : (front : List Member) (xs : List Attribute) (n : ℕ) → found (codes "attributes") front ≡ None → found (codes "attributes") (with_attributes front xs n) ≡ found (codes "attributes") (attributes_member xs)
+attributes_found front xs n none =
     let q = codes "attributes" in
-    ap items_in (found-before q (front ++ attributes_member xs) (lost n) (no_number q (codes "droppedAttributesCount") n refl)
+    found-before q (front ++ attributes_member xs) (lost n) (no_number q (codes "droppedAttributesCount") n refl)
     ∙ found-append q front (attributes_member xs)
     ∙ ap (or_else (found q (attributes_member xs))) none
-    ∙ or_else-none (found q (attributes_member xs)))
-    ∙ unless_empty_again q (map key_value xs) refl
+    ∙ or_else-none (found q (attributes_member xs))
+
+attributes_behind : (front : List Member) (xs : List Attribute) (n : ℕ) → found (codes "attributes") front ≡ None → items_in (found (codes "attributes") (with_attributes front xs n)) ≡ map key_value xs
+attributes_behind front xs n none =
+    ap items_in (attributes_found front xs n none) ∙ unless_empty_again (codes "attributes") (map key_value xs) refl
+
+pub lost_found : (front : List Member) (xs : List Attribute) (n : ℕ) → found (codes "droppedAttributesCount") front ≡ None → found (codes "droppedAttributesCount") (with_attributes front xs n) ≡ found (codes "droppedAttributesCount") (lost n)
+lost_found front xs n none =
+    let q = codes "droppedAttributesCount" in
+    found-append q (front ++ attributes_member xs) (lost n)
+    ∙ ap (or_else (found q (lost n))) (found-before q front (attributes_member xs) (no_list q (codes "attributes") (map key_value xs) refl) ∙ none)
+    ∙ or_else-none (found q (lost n))
 
 lost_behind : (front : List Member) (xs : List Attribute) (n : ℕ) → found (codes "droppedAttributesCount") front ≡ None → number_in (found (codes "droppedAttributesCount") (with_attributes front xs n)) ≡ n
 lost_behind front xs n none =
-    let q = codes "droppedAttributesCount" in
-    ap number_in (found-append q (front ++ attributes_member xs) (lost n)
-    ∙ ap (or_else (found q (lost n))) (found-before q front (attributes_member xs) (no_list q (codes "attributes") (map key_value xs) refl) ∙ none)
-    ∙ or_else-none (found q (lost n)))
-    ∙ number_again q n (n == 0) refl refl
+    ap number_in (lost_found front xs n none) ∙ number_again (codes "droppedAttributesCount") n (n == 0) refl refl
 
 -- ---- events
-abbrev event_front : EventRecord → List Member
+abbrev pub event_front : EventRecord → List Member
 event_front e = decimal_member (codes "timeUnixNano") e.timestamp ++ text_member (codes "name") e.name
 
-abbrev event_members : EventRecord → List Member
+abbrev pub event_members : EventRecord → List Member
 event_members e = with_attributes (event_front e) e.attributes e.dropped_attributes_count
 
-time_of : (e : EventRecord) → found (codes "timeUnixNano") (event_members e) ≡ Some (string (decimal e.timestamp))
+pub time_of : (e : EventRecord) → found (codes "timeUnixNano") (event_members e) ≡ Some (string (decimal e.timestamp))
 time_of e = in_front (codes "timeUnixNano") (event_front e) e.attributes e.dropped_attributes_count refl refl
 
-title_of : (e : EventRecord) → found (codes "name") (event_members e) ≡ Some (string e.name)
+pub title_of : (e : EventRecord) → found (codes "name") (event_members e) ≡ Some (string e.name)
 title_of e = in_front (codes "name") (event_front e) e.attributes e.dropped_attributes_count refl refl
 
 same_event : (a b : EventRecord) → IsEventInRange a → IsEventInRange b → event a ≡ event b → SameEvent a b
@@ -78,16 +84,16 @@ same_events = each event event IsEventInRange IsEventInRange SameEvent same_even
 abbrev ids : SpanContextRecord → List Member
 ids c = text_member (codes "traceId") (trace_id_text c.trace_id) ++ text_member (codes "spanId") (span_id_text c.span_id)
 
-abbrev state : SpanContextRecord → List Member
+abbrev pub state : SpanContextRecord → List Member
 state c = text_unless_empty (codes "traceState") (header c.trace_state)
 
 abbrev link_flags : LinkRecord → List Member
 link_flags l = number_member (codes "flags") (flags l.span_context.trace_flags l.span_context.is_remote)
 
-abbrev link_front : LinkRecord → List Member
+abbrev pub link_front : LinkRecord → List Member
 link_front l = context_members l.span_context ++ link_flags l
 
-abbrev link_members : LinkRecord → List Member
+abbrev pub link_members : LinkRecord → List Member
 link_members l = with_attributes (link_front l) l.attributes l.dropped_attributes_count
 
 in_link : (q : List ℕ) (l : LinkRecord) → bytes_eq q (codes "attributes") ≡ false → bytes_eq q (codes "droppedAttributesCount") ≡ false → found q (link_members l) ≡ found q (link_front l)
@@ -99,27 +105,32 @@ in_ids q l f t =
     found-before q (context_members l.span_context) (link_flags l) f
     ∙ found-before q (ids l.span_context) (state l.span_context) (no_text q (codes "traceState") (header l.span_context.trace_state) t)
 
-linked_trace : (l : LinkRecord) → found (codes "traceId") (link_members l) ≡ Some (string (trace_id_text l.span_context.trace_id))
+pub linked_trace : (l : LinkRecord) → found (codes "traceId") (link_members l) ≡ Some (string (trace_id_text l.span_context.trace_id))
 linked_trace l = in_link (codes "traceId") l refl refl ∙ in_ids (codes "traceId") l refl refl
 
-linked_span : (l : LinkRecord) → found (codes "spanId") (link_members l) ≡ Some (string (span_id_text l.span_context.span_id))
+pub linked_span : (l : LinkRecord) → found (codes "spanId") (link_members l) ≡ Some (string (span_id_text l.span_context.span_id))
 linked_span l = in_link (codes "spanId") l refl refl ∙ in_ids (codes "spanId") l refl refl
 
-linked_flags : (l : LinkRecord) → found (codes "flags") (link_members l) ≡ Some (number (unsigned (flags l.span_context.trace_flags l.span_context.is_remote)))
+pub linked_flags : (l : LinkRecord) → found (codes "flags") (link_members l) ≡ Some (number (unsigned (flags l.span_context.trace_flags l.span_context.is_remote)))
 linked_flags l = in_link (codes "flags") l refl refl ∙ found-append (codes "flags") (context_members l.span_context) (link_flags l)
+
+pub state_found : (l : LinkRecord) → found (codes "traceState") (link_members l) ≡ found (codes "traceState") (state l.span_context)
+state_found l =
+    let q = codes "traceState" in
+    in_link q l refl refl
+    ∙ found-before q (context_members l.span_context) (link_flags l) refl
+    ∙ found-append q (ids l.span_context) (state l.span_context) ∙ or_else-none (found q (state l.span_context))
 
 linked_state : (l : LinkRecord) → text_in (found (codes "traceState") (link_members l)) ≡ header l.span_context.trace_state
 linked_state l =
     let q = codes "traceState" in
-    ap text_in (in_link q l refl refl
-    ∙ found-before q (context_members l.span_context) (link_flags l) refl
-    ∙ found-append q (ids l.span_context) (state l.span_context) ∙ or_else-none (found q (state l.span_context)))
+    ap text_in (state_found l)
     ∙ text_again q (header l.span_context.trace_state) (length (header l.span_context.trace_state) == 0) refl refl
 
-none_of_attributes : (l : LinkRecord) → found (codes "attributes") (link_front l) ≡ None
+pub none_of_attributes : (l : LinkRecord) → found (codes "attributes") (link_front l) ≡ None
 none_of_attributes l = in_ids (codes "attributes") l refl refl
 
-none_of_losses : (l : LinkRecord) → found (codes "droppedAttributesCount") (link_front l) ≡ None
+pub none_of_losses : (l : LinkRecord) → found (codes "droppedAttributesCount") (link_front l) ≡ None
 none_of_losses l = in_ids (codes "droppedAttributesCount") l refl refl
 
 same_link : (a b : LinkRecord) → IsLinkInRange a → IsLinkInRange b → link a ≡ link b → SameLink a b

@@ -20,7 +20,7 @@ use Rattle.otel_otlp.proofs.OneAttribute.{same_attributes}
 use Rattle.otel_otlp.proofs.OneRecord.{same_events, same_links}
 use Rattle.otel_otlp.proofs.Found.{or_else, or_else-none, if_so, found, same_found, found-append, found-before, if_none, no_list, no_number, no_text, text_in, number_in}
 
-abbrev members : SpanRecord → List Member
+abbrev pub members : SpanRecord → List Member
 members s = identity s ++ work s ++ records s ++ losses s
 
 -- the members of its work except the status
@@ -63,22 +63,22 @@ in_span q s p =
     ∙ found-append q (identity s) (work s)
     ∙ ap (λ o. or_else o (found q (identity s))) (found-before q (four s) (status_member s.status) (no_status q s.status p.st))
 
-name_of : (s : SpanRecord) → found (codes "name") (members s) ≡ Some (string s.name)
+pub name_of : (s : SpanRecord) → found (codes "name") (members s) ≡ Some (string s.name)
 name_of s = in_span (codes "name") s (record { a = refl; e = refl; l = refl; da = refl; de = refl; dl = refl; st = refl })
 
-kind_of : (s : SpanRecord) → found (codes "kind") (members s) ≡ Some (number (unsigned (kind_number s.span_kind)))
+pub kind_of : (s : SpanRecord) → found (codes "kind") (members s) ≡ Some (number (unsigned (kind_number s.span_kind)))
 kind_of s = in_span (codes "kind") s (record { a = refl; e = refl; l = refl; da = refl; de = refl; dl = refl; st = refl })
 
-start_of : (s : SpanRecord) → found (codes "startTimeUnixNano") (members s) ≡ Some (string (decimal s.start_time))
+pub start_of : (s : SpanRecord) → found (codes "startTimeUnixNano") (members s) ≡ Some (string (decimal s.start_time))
 start_of s = in_span (codes "startTimeUnixNano") s (record { a = refl; e = refl; l = refl; da = refl; de = refl; dl = refl; st = refl })
 
-end_of : (s : SpanRecord) → found (codes "endTimeUnixNano") (members s) ≡ Some (string (decimal s.end_time))
+pub end_of : (s : SpanRecord) → found (codes "endTimeUnixNano") (members s) ≡ Some (string (decimal s.end_time))
 end_of s = in_span (codes "endTimeUnixNano") s (record { a = refl; e = refl; l = refl; da = refl; de = refl; dl = refl; st = refl })
 
-abbrev flags_member : SpanRecord → List Member
+abbrev pub flags_member : SpanRecord → List Member
 flags_member s = number_member (codes "flags") (flags s.span_context.trace_flags s.parent_span_is_remote)
 
-flags_of : (s : SpanRecord) → found (codes "flags") (members s) ≡ Some (number (unsigned (flags s.span_context.trace_flags s.parent_span_is_remote)))
+pub flags_of : (s : SpanRecord) → found (codes "flags") (members s) ≡ Some (number (unsigned (flags s.span_context.trace_flags s.parent_span_is_remote)))
 flags_of s =
     in_span (codes "flags") s (record { a = refl; e = refl; l = refl; da = refl; de = refl; dl = refl; st = refl })
     ∙ found-append (codes "flags") (context_members s.span_context ++ parent_member s.parent_span_id) (flags_member s)
@@ -91,29 +91,33 @@ in_identity q s f p t =
     ∙ found-before q (context_members s.span_context) (parent_member s.parent_span_id) (if_none (s.parent_span_id == 0) q (text_member (codes "parentSpanId") (span_id_text s.parent_span_id)) (ap (λ b. if_so b (string (span_id_text s.parent_span_id))) p))
     ∙ found-before q (text_member (codes "traceId") (trace_id_text s.span_context.trace_id) ++ text_member (codes "spanId") (span_id_text s.span_context.span_id)) (text_unless_empty (codes "traceState") (header s.span_context.trace_state)) (no_text q (codes "traceState") (header s.span_context.trace_state) t)
 
-trace_id_of : (s : SpanRecord) → found (codes "traceId") (members s) ≡ Some (string (trace_id_text s.span_context.trace_id))
+pub trace_id_of : (s : SpanRecord) → found (codes "traceId") (members s) ≡ Some (string (trace_id_text s.span_context.trace_id))
 trace_id_of s = in_span (codes "traceId") s (record { a = refl; e = refl; l = refl; da = refl; de = refl; dl = refl; st = refl }) ∙ in_identity (codes "traceId") s refl refl refl
 
-span_id_of : (s : SpanRecord) → found (codes "spanId") (members s) ≡ Some (string (span_id_text s.span_context.span_id))
+pub span_id_of : (s : SpanRecord) → found (codes "spanId") (members s) ≡ Some (string (span_id_text s.span_context.span_id))
 span_id_of s = in_span (codes "spanId") s (record { a = refl; e = refl; l = refl; da = refl; de = refl; dl = refl; st = refl }) ∙ in_identity (codes "spanId") s refl refl refl
+
+pub state_found : (s : SpanRecord) → found (codes "traceState") (members s) ≡ found (codes "traceState") (text_unless_empty (codes "traceState") (header s.span_context.trace_state))
+state_found s =
+    let q = codes "traceState" in
+    let ids = text_member (codes "traceId") (trace_id_text s.span_context.trace_id) ++ text_member (codes "spanId") (span_id_text s.span_context.span_id) in
+    let state = text_unless_empty (codes "traceState") (header s.span_context.trace_state) in
+    in_span q s (record { a = refl; e = refl; l = refl; da = refl; de = refl; dl = refl; st = refl })
+    ∙ found-before q (context_members s.span_context ++ parent_member s.parent_span_id) (flags_member s) refl
+    ∙ found-before q (context_members s.span_context) (parent_member s.parent_span_id) (if_none (s.parent_span_id == 0) q (text_member (codes "parentSpanId") (span_id_text s.parent_span_id)) refl)
+    ∙ found-append q ids state ∙ or_else-none (found q state)
 
 state_of : (s : SpanRecord) → text_in (found (codes "traceState") (members s)) ≡ header s.span_context.trace_state
 state_of s =
     let q = codes "traceState" in
-    let ids = text_member (codes "traceId") (trace_id_text s.span_context.trace_id) ++ text_member (codes "spanId") (span_id_text s.span_context.span_id) in
-    let state = text_unless_empty (codes "traceState") (header s.span_context.trace_state) in
-    ap text_in (in_span q s (record { a = refl; e = refl; l = refl; da = refl; de = refl; dl = refl; st = refl })
-    ∙ found-before q (context_members s.span_context ++ parent_member s.parent_span_id) (flags_member s) refl
-    ∙ found-before q (context_members s.span_context) (parent_member s.parent_span_id) (if_none (s.parent_span_id == 0) q (text_member (codes "parentSpanId") (span_id_text s.parent_span_id)) refl)
-    ∙ found-append q ids state ∙ or_else-none (found q state))
-    ∙ text_again q (header s.span_context.trace_state) (length (header s.span_context.trace_state) == 0) refl refl
+    ap text_in (state_found s) ∙ text_again q (header s.span_context.trace_state) (length (header s.span_context.trace_state) == 0) refl refl
 
-message_of : (d : List ℕ) → text_in (found (codes "message") (number_member (codes "code") 2 ++ text_unless_empty (codes "message") d)) ≡ d
+pub message_of : (d : List ℕ) → text_in (found (codes "message") (number_member (codes "code") 2 ++ text_unless_empty (codes "message") d)) ≡ d
 message_of d =
     ap text_in (found-append (codes "message") (number_member (codes "code") 2) (text_unless_empty (codes "message") d) ∙ or_else-none (found (codes "message") (text_unless_empty (codes "message") d)))
     ∙ text_again (codes "message") d (length d == 0) refl refl
 
-code_of : (d : List ℕ) → found (codes "code") (number_member (codes "code") 2 ++ text_unless_empty (codes "message") d) ≡ Some (number (unsigned 2))
+pub code_of : (d : List ℕ) → found (codes "code") (number_member (codes "code") 2 ++ text_unless_empty (codes "message") d) ≡ Some (number (unsigned 2))
 code_of d = found-before (codes "code") (number_member (codes "code") 2) (text_unless_empty (codes "message") d) (no_text (codes "code") (codes "message") d refl)
 
 abbrev is_there : Option Data → Bool
@@ -143,7 +147,7 @@ same_status (status.Error d) (status.Error c) e =
     ∙ ap text_in (same_found (codes "message") (number_member (codes "code") 2 ++ text_unless_empty (codes "message") d) (number_member (codes "code") 2 ++ text_unless_empty (codes "message") c) (ap (inside success) e))
     ∙ message_of c)
 
-status_of : (s : SpanRecord) → found (codes "status") (members s) ≡ found (codes "status") (status_member s.status)
+pub status_of : (s : SpanRecord) → found (codes "status") (members s) ≡ found (codes "status") (status_member s.status)
 status_of s =
     let q = codes "status" in
     found-before q (identity s ++ work s ++ records s) (losses s) (no_losses q s refl refl refl)
@@ -177,7 +181,7 @@ same_parent q a b false false r ea eb ha hb e =
 abbrev ids : SpanRecord → List Member
 ids s = text_member (codes "traceId") (trace_id_text s.span_context.trace_id) ++ text_member (codes "spanId") (span_id_text s.span_context.span_id)
 
-parent_of : (s : SpanRecord) → found (codes "parentSpanId") (members s) ≡ found (codes "parentSpanId") (parent_member s.parent_span_id)
+pub parent_of : (s : SpanRecord) → found (codes "parentSpanId") (members s) ≡ found (codes "parentSpanId") (parent_member s.parent_span_id)
 parent_of s =
     let q = codes "parentSpanId" in
     in_span q s (record { a = refl; e = refl; l = refl; da = refl; de = refl; dl = refl; st = refl })
@@ -188,7 +192,7 @@ parent_of s =
     ∙ or_else-none (found q (parent_member s.parent_span_id))
 
 -- a name that no member before the records has
-record IsBehind (q : List ℕ) (s : SpanRecord) : Type 0 where
+pub record IsBehind (q : List ℕ) (s : SpanRecord) : Type 0 where
   st : bytes_eq q (codes "status") ≡ false
   p : bytes_eq q (codes "parentSpanId") ≡ false
   t : bytes_eq q (codes "traceState") ≡ false
@@ -202,7 +206,7 @@ no_start q s h =
     ∙ ap (λ o. or_else o (found q (identity s))) (found-before q (four s) (status_member s.status) (no_status q s.status h.st) ∙ h.four)
     ∙ in_identity q s h.flags h.p h.t ∙ h.ids
 
-loss_of : (q : List ℕ) (s : SpanRecord) → IsBehind q s → bytes_eq q (codes "attributes") ≡ false → bytes_eq q (codes "events") ≡ false → bytes_eq q (codes "links") ≡ false
+pub loss_of : (q : List ℕ) (s : SpanRecord) → IsBehind q s → bytes_eq q (codes "attributes") ≡ false → bytes_eq q (codes "events") ≡ false → bytes_eq q (codes "links") ≡ false
     → found q (members s) ≡ found q (losses s)
 loss_of q s h a e l =
     found-append q (identity s ++ work s ++ records s) (losses s)
@@ -216,72 +220,90 @@ record_of q s h l =
     ∙ ap (or_else (found q (records s))) (no_start q s h)
     ∙ or_else-none (found q (records s))
 
+pub attributes_found : (s : SpanRecord) → found (codes "attributes") (members s) ≡ found (codes "attributes") (attributes_member s.attributes)
+attributes_found s =
+    let q = codes "attributes" in
+    record_of q s (record { st = refl; p = refl; t = refl; four = refl; flags = refl; ids = refl }) (no_losses q s refl refl refl)
+    ∙ found-before q (attributes_member s.attributes ++ events_member s.events) (links_member s.links) (no_list q (codes "links") (map link s.links) refl)
+    ∙ found-before q (attributes_member s.attributes) (events_member s.events) (no_list q (codes "events") (map event s.events) refl)
+
 attributes_of : (s : SpanRecord) → items_in (found (codes "attributes") (members s)) ≡ map key_value s.attributes
 attributes_of s =
-    let q = codes "attributes" in
-    ap items_in (record_of q s (record { st = refl; p = refl; t = refl; four = refl; flags = refl; ids = refl }) (no_losses q s refl refl refl)
-    ∙ found-before q (attributes_member s.attributes ++ events_member s.events) (links_member s.links) (no_list q (codes "links") (map link s.links) refl)
-    ∙ found-before q (attributes_member s.attributes) (events_member s.events) (no_list q (codes "events") (map event s.events) refl))
-    ∙ unless_empty_again q (map key_value s.attributes) refl
+    ap items_in (attributes_found s) ∙ unless_empty_again (codes "attributes") (map key_value s.attributes) refl
 
-events_of : (s : SpanRecord) → items_in (found (codes "events") (members s)) ≡ map event s.events
-events_of s =
+pub events_found : (s : SpanRecord) → found (codes "events") (members s) ≡ found (codes "events") (events_member s.events)
+events_found s =
     let q = codes "events" in
-    ap items_in (record_of q s (record { st = refl; p = refl; t = refl; four = refl; flags = refl; ids = refl }) (no_losses q s refl refl refl)
+    record_of q s (record { st = refl; p = refl; t = refl; four = refl; flags = refl; ids = refl }) (no_losses q s refl refl refl)
     ∙ found-before q (attributes_member s.attributes ++ events_member s.events) (links_member s.links) (no_list q (codes "links") (map link s.links) refl)
     ∙ found-append q (attributes_member s.attributes) (events_member s.events)
     ∙ ap (or_else (found q (events_member s.events))) (no_list q (codes "attributes") (map key_value s.attributes) refl)
-    ∙ or_else-none (found q (events_member s.events)))
-    ∙ unless_empty_again q (map event s.events) refl
+    ∙ or_else-none (found q (events_member s.events))
 
-links_of : (s : SpanRecord) → items_in (found (codes "links") (members s)) ≡ map link s.links
-links_of s =
+events_of : (s : SpanRecord) → items_in (found (codes "events") (members s)) ≡ map event s.events
+events_of s =
+    ap items_in (events_found s) ∙ unless_empty_again (codes "events") (map event s.events) refl
+
+pub links_found : (s : SpanRecord) → found (codes "links") (members s) ≡ found (codes "links") (links_member s.links)
+links_found s =
     let q = codes "links" in
-    ap items_in (record_of q s (record { st = refl; p = refl; t = refl; four = refl; flags = refl; ids = refl }) (no_losses q s refl refl refl)
+    record_of q s (record { st = refl; p = refl; t = refl; four = refl; flags = refl; ids = refl }) (no_losses q s refl refl refl)
     ∙ found-append q (attributes_member s.attributes ++ events_member s.events) (links_member s.links)
     ∙ ap (or_else (found q (links_member s.links)))
     (found-before q (attributes_member s.attributes) (events_member s.events) (no_list q (codes "events") (map event s.events) refl)
     ∙ no_list q (codes "attributes") (map key_value s.attributes) refl)
-    ∙ or_else-none (found q (links_member s.links)))
-    ∙ unless_empty_again q (map link s.links) refl
+    ∙ or_else-none (found q (links_member s.links))
 
-abbrev lost_attributes : SpanRecord → List Member
+links_of : (s : SpanRecord) → items_in (found (codes "links") (members s)) ≡ map link s.links
+links_of s =
+    ap items_in (links_found s) ∙ unless_empty_again (codes "links") (map link s.links) refl
+
+abbrev pub lost_attributes : SpanRecord → List Member
 lost_attributes s = number_unless_zero (codes "droppedAttributesCount") s.dropped_attributes
 
-abbrev lost_events : SpanRecord → List Member
+abbrev pub lost_events : SpanRecord → List Member
 lost_events s = number_unless_zero (codes "droppedEventsCount") s.dropped_events
 
-abbrev lost_links : SpanRecord → List Member
+abbrev pub lost_links : SpanRecord → List Member
 lost_links s = number_unless_zero (codes "droppedLinksCount") s.dropped_links
+
+pub dropped_attributes_found : (s : SpanRecord) → found (codes "droppedAttributesCount") (members s) ≡ found (codes "droppedAttributesCount") (lost_attributes s)
+dropped_attributes_found s =
+    let q = codes "droppedAttributesCount" in
+    loss_of q s (record { st = refl; p = refl; t = refl; four = refl; flags = refl; ids = refl }) refl refl refl
+    ∙ found-before q (lost_attributes s ++ lost_events s) (lost_links s) (no_number q (codes "droppedLinksCount") s.dropped_links refl)
+    ∙ found-before q (lost_attributes s) (lost_events s) (no_number q (codes "droppedEventsCount") s.dropped_events refl)
 
 dropped_attributes_of : (s : SpanRecord) → number_in (found (codes "droppedAttributesCount") (members s)) ≡ s.dropped_attributes
 dropped_attributes_of s =
-    let q = codes "droppedAttributesCount" in
-    ap number_in (loss_of q s (record { st = refl; p = refl; t = refl; four = refl; flags = refl; ids = refl }) refl refl refl
-    ∙ found-before q (lost_attributes s ++ lost_events s) (lost_links s) (no_number q (codes "droppedLinksCount") s.dropped_links refl)
-    ∙ found-before q (lost_attributes s) (lost_events s) (no_number q (codes "droppedEventsCount") s.dropped_events refl))
-    ∙ number_again q s.dropped_attributes (s.dropped_attributes == 0) refl refl
+    ap number_in (dropped_attributes_found s) ∙ number_again (codes "droppedAttributesCount") s.dropped_attributes (s.dropped_attributes == 0) refl refl
 
-dropped_events_of : (s : SpanRecord) → number_in (found (codes "droppedEventsCount") (members s)) ≡ s.dropped_events
-dropped_events_of s =
+pub dropped_events_found : (s : SpanRecord) → found (codes "droppedEventsCount") (members s) ≡ found (codes "droppedEventsCount") (lost_events s)
+dropped_events_found s =
     let q = codes "droppedEventsCount" in
-    ap number_in (loss_of q s (record { st = refl; p = refl; t = refl; four = refl; flags = refl; ids = refl }) refl refl refl
+    loss_of q s (record { st = refl; p = refl; t = refl; four = refl; flags = refl; ids = refl }) refl refl refl
     ∙ found-before q (lost_attributes s ++ lost_events s) (lost_links s) (no_number q (codes "droppedLinksCount") s.dropped_links refl)
     ∙ found-append q (lost_attributes s) (lost_events s)
     ∙ ap (or_else (found q (lost_events s))) (no_number q (codes "droppedAttributesCount") s.dropped_attributes refl)
-    ∙ or_else-none (found q (lost_events s)))
-    ∙ number_again q s.dropped_events (s.dropped_events == 0) refl refl
+    ∙ or_else-none (found q (lost_events s))
 
-dropped_links_of : (s : SpanRecord) → number_in (found (codes "droppedLinksCount") (members s)) ≡ s.dropped_links
-dropped_links_of s =
+dropped_events_of : (s : SpanRecord) → number_in (found (codes "droppedEventsCount") (members s)) ≡ s.dropped_events
+dropped_events_of s =
+    ap number_in (dropped_events_found s) ∙ number_again (codes "droppedEventsCount") s.dropped_events (s.dropped_events == 0) refl refl
+
+pub dropped_links_found : (s : SpanRecord) → found (codes "droppedLinksCount") (members s) ≡ found (codes "droppedLinksCount") (lost_links s)
+dropped_links_found s =
     let q = codes "droppedLinksCount" in
-    ap number_in (loss_of q s (record { st = refl; p = refl; t = refl; four = refl; flags = refl; ids = refl }) refl refl refl
+    loss_of q s (record { st = refl; p = refl; t = refl; four = refl; flags = refl; ids = refl }) refl refl refl
     ∙ found-append q (lost_attributes s ++ lost_events s) (lost_links s)
     ∙ ap (or_else (found q (lost_links s)))
     (found-before q (lost_attributes s) (lost_events s) (no_number q (codes "droppedEventsCount") s.dropped_events refl)
     ∙ no_number q (codes "droppedAttributesCount") s.dropped_attributes refl)
-    ∙ or_else-none (found q (lost_links s)))
-    ∙ number_again q s.dropped_links (s.dropped_links == 0) refl refl
+    ∙ or_else-none (found q (lost_links s))
+
+dropped_links_of : (s : SpanRecord) → number_in (found (codes "droppedLinksCount") (members s)) ≡ s.dropped_links
+dropped_links_of s =
+    ap number_in (dropped_links_found s) ∙ number_again (codes "droppedLinksCount") s.dropped_links (s.dropped_links == 0) refl refl
 
 pub equal_values_say_same : EqualValuesSaySame
 equal_values_say_same s t in_s in_t e =

@@ -10,7 +10,7 @@ use Rattle.otel_otlp.proofs.Nesting.{batch_depth}
 use Rattle.otel_otlp.proofs.OneBatch.{equal_batches_say_same}
 use Rattle.otel_otlp.proofs.OneGroup.{inside}
 
-is_read : (r : Parts) (ss : List SpanRecord) → depth (traces_data r ss) ≤ max_depth
+pub is_read : (r : Parts) (ss : List SpanRecord) → depth (traces_data r ss) ≤ max_depth
 is_read r ss = let inner = batch_depth r ss in omega (arith, inner)
 
 pub equal_texts_say_same : EqualTextsSaySame

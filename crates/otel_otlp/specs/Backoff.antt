@@ -1,5 +1,5 @@
 -- The waits before a refused request is sent again, in milliseconds.
-use Rattle.std.specs.Prelude.{◌≡◌, ℕ, ◌+◌, ◌-◌, ◌*◌, ◌/◌, ◌^◌, min, max, Option, Some, None, refl}
+use Rattle.std.specs.Prelude.{◌≡◌, ℕ, ◌-◌, ◌*◌, ◌/◌, ◌^◌, min, max, Option, Some, None, refl}
 
 -- the wait after the first refusal in a row, before the factor
 abbrev pub first : ℕ

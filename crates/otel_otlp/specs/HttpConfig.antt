@@ -1,10 +1,13 @@
 -- How a collector is reached, and the head of each request [OpenTelemetry protocol, "OTLP/HTTP
 -- Request"].
-use Rattle.std.specs.Prelude.{◌≡◌, ◌⊎◌, ℕ, ◌-◌, ◌==◌, ◌&&◌, Bool, true, false, not, List, [], ◌∷◌, ◌++◌}
+use Rattle.std.specs.Prelude.{◌≡◌, ◌≢◌, ◌⊎◌, ℕ, ◌-◌, ◌==◌, Bool, true, false, List, [], ◌∷◌, ◌++◌}
 use Rattle.std.specs.Prelude.{length, take, slice_index, codes, string_bytes, if◌then◌else◌, ⊤, refl}
+use Rattle.std.specs.Prelude.{All, eqb, is_some}
+use Rattle.std.specs.List.{ends_with}
 use Rattle.http_header.specs.HeaderMap.{Entries, insert}
 use Rattle.http_header.specs.FieldValue.{FieldValue, plain_value}
-use Rattle.http_uri.specs.Uri.{Spells}
+use Rattle.http_uri.specs.Uri.{Spells, uri_scheme, uri_path}
+use Rattle.http_uri.specs.declared.uri.Uri.{Uri}
 use Rattle.http.specs.declared.request.Parts.{Parts}
 use Rattle.otel_otlp.specs.declared.otlp_http.config.ConfigError.{ConfigError}
 use Rattle.otel_otlp.specs.declared.otlp_http.config.ConfigError.TheVariants as error
@@ -38,6 +41,12 @@ NamesHeader name (error.Endpoint text) = ⊥
 NamesHeader name (error.Header text) = string_bytes text ≡ name
 NamesHeader name (error.Memory failed) = ⊤
 
+-- the error names the endpoint, unless memory ran out
+abbrev pub NamesEndpoint : List ℕ → ConfigError → Type 0
+NamesEndpoint endpoint (error.Endpoint text) = string_bytes text ≡ endpoint
+NamesEndpoint endpoint (error.Header text) = ⊥
+NamesEndpoint endpoint (error.Memory failed) = ⊤
+
 -- ---- the target
 -- whether the text ends with a slash
 abbrev pub ends_with_slash : List ℕ → Bool
@@ -49,9 +58,21 @@ joined endpoint [] = endpoint
 joined endpoint (c ∷ path) =
     (if ends_with_slash endpoint then take (length endpoint - 1) endpoint else endpoint) ++ c ∷ path
 
--- the target of requests for the signal with this path
-abbrev pub target : Config → List ℕ → List ℕ
-target config path = joined config.endpoint (if config.is_of_signal then [] else path)
+-- what is added to the endpoint for the signal with this path: nothing if it is of one signal
+abbrev pub added : Config → List ℕ → List ℕ
+added config path = if config.is_of_signal then [] else path
+
+-- the text has no query and no fragment
+abbrev pub IsPlain : List ℕ → Type 0
+IsPlain text = All (λ c. (c ≢ 63) × (c ≢ 35)) text
+
+-- The URI is the endpoint with the path added. It has a scheme, and the path is the end of its own,
+-- so the endpoint has a host, and no query or fragment in front of a path.
+pub record IsTarget (endpoint path : List ℕ) (uri : Uri) : Type 0 where
+  pub text : Spells (joined endpoint path) uri
+  pub scheme : is_some (uri_scheme uri) ≡ true
+  pub end : ends_with eqb (uri_path uri) path ≡ true
+  pub plain : path ≢ [] → IsPlain endpoint
 
 -- ---- the head
 -- the headers with the content type of JSON, in place of any other
@@ -62,7 +83,7 @@ with_json headers =
 -- a POST to the target, with the configured headers and the content type of JSON
 pub record IsHead (config : Config) (path : List ℕ) (head : Parts) : Type 0 where
   pub method : head.method ≡ codes "POST"
-  pub uri : Spells (target config path) head.uri
+  pub uri : IsTarget config.endpoint (added config path) head.uri
   pub headers : head.headers ≡ with_json config.headers
 
 -- ---- worked rows

@@ -6,7 +6,7 @@ use Rattle.std.specs.Prelude.{option_map, option_and_then, string_bytes, codes}
 use Rattle.std.specs.Option.{SomeIff}
 use Rattle.std.specs.Str.Parse.{without_leading_plus, IsNumeral, digits_value}
 use Rattle.serde_json.specs.Data.{Data, null, boolean, number, string, array, object}
-use Rattle.serde_json.specs.Find.{get, as_u64, as_number, as_str}
+use Rattle.serde_json.specs.Find.{get, as_u64, as_str}
 use Rattle.serde_json.specs.Read.{read}
 use Rattle.otel_otlp.specs.declared.otlp_http.response.Partial.{Partial}
 
@@ -51,3 +51,10 @@ abbrev pub IsReadFrom : List ℕ → List ℕ → Partial → Type 0
 IsReadFrom name [] p = IsWhole p
 IsReadFrom name (b ∷ body) p =
     (d : Data) × (read (b ∷ body) ≡ Some d) × IsPartial name d p
+
+-- the message of a response that isn't a success: the member `message` of its body
+-- [google/rpc/status.proto, `Status`]
+pub record IsMessageOf (body message : List ℕ) : Type 0 where
+  pub value : Data
+  pub reads : read body ≡ Some value
+  pub has : option_and_then as_str (get (codes "message") value) ≡ Some message

@@ -16,3 +16,15 @@ pub mod Written
 pub mod Sorted
 pub mod SortedView
 pub mod StreamClient
+pub mod FileClient
+pub mod HttpPart
+pub mod HttpFate
+pub mod HttpPause
+pub mod HttpTally
+pub mod HttpExporter
+pub mod ReadMembers
+pub mod ReadValues
+pub mod ReadGroups
+pub mod ReadTraces
+pub mod ReadView
+pub mod ReadBack

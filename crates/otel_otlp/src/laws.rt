@@ -1,6 +1,7 @@
 //! Laws of the definitions, each the contract of a function that does nothing.
 ghost use Rattle.otel_otlp.specs.Lossless.{EqualValuesSaySame, EqualGroupsNameSame};
 ghost use Rattle.otel_otlp.specs.Lossless.{EqualBatchesSaySame, EqualTextsSaySame};
+ghost use Rattle.otel_otlp.specs.ReadBack.{BatchesReadBack, SpansReadBack};
 ghost use Rattle.otel_otlp.specs.Trees.{UncountedTreesAreWhole};
 
 /// States that spans with equal values have the same ids, the parent's too, the same flags, kind,
@@ -27,6 +28,22 @@ pub fn equal_batches_say_same()
 /// [`equal_batches_say_same`].
 pub fn equal_texts_say_same()
     ensures { EqualTextsSaySame }
+{}
+
+/// States that the text of a batch is a line that [`crate::read_resource_spans`] reads as the
+/// batch's resource with its spans, scope by scope, and as nothing else.
+///
+/// Lost are the type of an array without items, which is read as one of texts, the blanks at the
+/// ends of a trace state's values, whether a span's own context is remote, earlier values of a key
+/// of a scope or of a resource, and differences between equal scopes. The numbers have to fit their
+/// types, and the trace states have to be ones, as in all spans of programs.
+pub fn batches_read_back()
+    ensures { BatchesReadBack }
+{}
+
+/// States the same of [`crate::read_traces`], without the resources.
+pub fn spans_read_back()
+    ensures { SpansReadBack }
 {}
 
 /// States that a body or an attribute of a log record is written whole if none of its parts is

@@ -10,13 +10,16 @@ mod lines;
 mod logs;
 mod object;
 mod otlp_http;
+mod read;
 mod traces;
 mod trees;
 mod written;
 
 pub use crate::otlp_http::{
-    Backoff, ConfigError, HttpClient, HttpError, OtlpHttpConfig, StreamClient,
+    Backoff, ClockCalls, ConfigError, FileClient, HttpClient, HttpError, OtlpHttpConfig,
+    OtlpHttpExporter, OtlpHttpLogExporter, OtlpHttpSpanExporter, StreamClient,
 };
+pub use crate::read::{ReadError, ResourceSpans, read_resource_spans, read_traces};
 pub use append_file::AppendFile;
 pub use exporter::{OtlpJsonExporter, OtlpJsonLogExporter, OtlpJsonSpanExporter};
 pub use logs::{logs_data, logs_text};

@@ -3,12 +3,25 @@
 
 mod backoff;
 mod client;
+mod clock_calls;
 mod config;
+mod exporter;
+mod fate;
+mod file_client;
+mod link;
+mod outbox;
+mod part;
+mod pause;
 mod response;
+mod signal;
 mod status;
 mod stream_client;
+mod tally;
 
 pub use crate::otlp_http::backoff::Backoff;
 pub use crate::otlp_http::client::{HttpClient, HttpError};
+pub use crate::otlp_http::clock_calls::ClockCalls;
 pub use crate::otlp_http::config::{ConfigError, OtlpHttpConfig};
+pub use crate::otlp_http::exporter::{OtlpHttpExporter, OtlpHttpLogExporter, OtlpHttpSpanExporter};
+pub use crate::otlp_http::file_client::FileClient;
 pub use crate::otlp_http::stream_client::StreamClient;

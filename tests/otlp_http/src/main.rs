@@ -1,8 +1,10 @@
-//! Sends spans by OTLP over HTTP: requests to standard output, responses from standard input.
+//! Sends spans by OTLP over HTTP.
 //!
-//! The arguments are the numbers of the first batch and of the one past the last. A batch is sent
-//! until the answer isn't to try again. Each answer is a line on standard error: the batch's
-//! number, and the status or the error. The program ends once no more requests can be sent.
+//! The arguments are the numbers of the first batch and of the one past the last, and an address or
+//! a folder, whose path has a `/`. Each request has its own connection to the address, or by the
+//! pipes of the folder. Without either, requests go to standard output, and responses come from
+//! standard input, until no more requests can be sent. The number of each batch that has left the
+//! exporter is a line on standard error.
 #![tactic(auto)]
 
 use http::{Request, Response};
@@ -10,16 +12,25 @@ use opentelemetry::trace::{
     SpanContext, SpanId, SpanKind, Status, TraceFlags, TraceId, TraceState,
 };
 use opentelemetry::{InstrumentationScope, StringValue};
-use otel_otlp::{HttpClient, HttpError, StreamClient, traces_text};
-use otel_sdk_base::resource::Resource;
+use otel_otlp::{
+    FileClient, HttpClient, HttpError, OtlpHttpConfig, OtlpHttpExporter, OtlpHttpSpanExporter,
+    StreamClient,
+};
+use otel_sdk_base::{Accepted, CountedClock, Exporter};
 use otel_sdk_span::{SpanData, SpanEvents, SpanLinks};
 use std::alloc::{AllocError, Global};
 use std::hash::RandomState;
 use std::io::{self, ErrorKind};
+use std::net::TcpStream;
 use std::rc::Rc;
 
 /// The number of spans of a batch.
 const SPANS: u64 = 25;
+
+/// The nanoseconds of an hour.
+const HOUR: u64 = 3_600_000_000_000;
+
+type Sender<C> = OtlpHttpSpanExporter<C, HostRuntime, CountedClock>;
 
 fn span(alloc: Global, number: u64) -> Result<SpanData, AllocError> {
     let (trace_id, span_id) = (TraceId::from(1), SpanId::from(number));
@@ -50,33 +61,16 @@ fn span(alloc: Global, number: u64) -> Result<SpanData, AllocError> {
     })
 }
 
-fn request(alloc: Global, number: u64) -> Result<Request<Vec<u8>>, AllocError> {
+fn batch(alloc: Global, number: u64) -> Result<Vec<SpanData>, AllocError> {
     let mut batch = Vec::new(alloc);
     for it in number * SPANS..(number + 1) * SPANS {
         batch.push(span(alloc, it + 1)?)?;
     }
-    let resource = Resource::builder_empty(alloc).build();
-    let text = traces_text(alloc, &resource, &batch)?;
-    let made = Request::post(alloc, "http://127.0.0.1/v1/traces")
-        .header("content-type", "application/json")
-        .body(Vec::from_slice(alloc, text.as_bytes())?);
-    match made {
-        Ok(request) => Ok(request),
-        Err(_) => Err(AllocError),
-    }
-}
-
-// Returns `true` if the batch is to be sent again.
-fn is_again(answer: &Result<Response<Vec<u8>>, HttpError>) -> bool {
-    match answer {
-        Ok(response) => matches!(response.status().as_u16(), 429 | 502 | 503 | 504),
-        Err(_) => true,
-    }
+    Ok(batch)
 }
 
 // Reads the numbers of the first batch and of the one past the last.
-fn bounds(rt: HostRuntime) -> io::Result<(u64, u64)> {
-    let words: Vec<String> = std::env::args(&rt)?.collect(rt.alloc())?;
+fn bounds(words: &[String]) -> io::Result<(u64, u64)> {
     let read = |place: usize| match words.get(place) {
         Some(word) => word.as_str().parse::<u64>().ok(),
         None => None,
@@ -87,19 +81,89 @@ fn bounds(rt: HostRuntime) -> io::Result<(u64, u64)> {
     }
 }
 
-fn main(rt: HostRuntime) -> io::Result<()> {
+/// Sends each request over a connection of its own.
+#[derive(Drop)]
+struct Dial {
+    rt: HostRuntime,
+    keys: RandomState,
+    address: String,
+    sent: Accepted<Request<Vec<u8>>>,
+}
+
+impl HttpClient for Dial {
+    ghost use Rattle.std.specs.Prelude.{flat_map};
+
+    ghost sent = { λ c. flat_map (λ batch. batch) c.sent.batches };
+
+    fn send_bytes(&mut self, request: &Request<Vec<u8>>) -> Result<Response<Vec<u8>>, HttpError> {
+        self.sent = self.sent.and_one(request);
+        let Ok(stream) = TcpStream::connect(&self.rt, self.address.as_str()) else {
+            return Err(HttpError::Unreachable);
+        };
+        StreamClient::new(self.rt.alloc(), self.keys, &stream, &stream).send_bytes(request)
+    }
+}
+
+// Creates the exporter. Its clock moves on by an hour at each reading, so it never waits.
+fn exporter<C: HttpClient>(rt: HostRuntime, client: C) -> io::Result<Sender<C>> {
     let alloc = rt.alloc();
-    let (mut number, end) = bounds(rt)?;
-    let mut client = StreamClient::new(alloc, RandomState::new(&rt)?, rt.stdin(), rt.stdout());
-    while number < end && client.is_open() {
-        let answer = client.send_bytes(&request(alloc, number)?);
-        match &answer {
-            Ok(response) => eprintln!(rt; "{number} {}", response.status().as_u16())?,
-            Err(error) => eprintln!(rt; "{number} {error}")?,
+    let Ok(config) = OtlpHttpConfig::new(alloc) else {
+        return Err(ErrorKind::OutOfMemory.into());
+    };
+    match OtlpHttpExporter::new(alloc, client, config, rt, CountedClock::new(HOUR)) {
+        Ok(exporter) => Ok(exporter),
+        Err(_) => Err(ErrorKind::OutOfMemory.into()),
+    }
+}
+
+// Sends the batches, until no more requests can be sent.
+fn send<C: HttpClient>(
+    rt: HostRuntime,
+    exporter: &mut Sender<C>,
+    bounds: (u64, u64),
+    is_open: fn(&C) -> bool,
+) -> io::Result<()> {
+    let (mut number, end) = bounds;
+    while number < end && is_open(exporter.client()) {
+        if exporter.waiting() > 0 {
+            let _ = exporter.force_flush();
+        } else if exporter.export(&batch(rt.alloc(), number)?).is_err() {
+            return Err(ErrorKind::OutOfMemory.into());
         }
-        if !is_again(&answer) {
+        if exporter.waiting() == 0 {
+            eprintln!(rt; "{number}")?;
             number += 1;
         }
     }
     Ok(())
+}
+
+fn main(rt: HostRuntime) -> io::Result<()> {
+    let words: Vec<String> = std::env::args(&rt)?.collect(rt.alloc())?;
+    let bounds = bounds(words.as_slice())?;
+    let keys = RandomState::new(&rt)?;
+    match words.get(3) {
+        Some(folder) if folder.as_str().contains('/') => {
+            let client = FileClient::new(rt.alloc(), keys, rt, folder.as_str())?;
+            send(rt, &mut exporter(rt, client)?, bounds, |_| true)
+        }
+        Some(address) => {
+            let client = Dial {
+                rt,
+                keys,
+                address: address.clone()?,
+                sent: Accepted::new(),
+            };
+            send(rt, &mut exporter(rt, client)?, bounds, |_| true)
+        }
+        None => {
+            let client = StreamClient::new(rt.alloc(), keys, rt.stdin(), rt.stdout());
+            send(
+                rt,
+                &mut exporter(rt, client)?,
+                bounds,
+                StreamClient::is_open,
+            )
+        }
+    }
 }

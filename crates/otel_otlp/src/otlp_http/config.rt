@@ -1,10 +1,9 @@
 //! How a collector is reached.
 ghost use Rattle.std.specs.Prelude.{◌≡◌, [], codes, IfOk, IfErr, IsErr, IsTrue, ◌↔◌, true, false};
-ghost use Rattle.std.specs.Prelude.{string_bytes, if◌then◌else◌};
+ghost use Rattle.std.specs.Prelude.{string_bytes, if◌then◌else◌, alloc_error};
 ghost use Rattle.http_header.specs.HeaderMap.{insert};
 ghost use Rattle.http_header.specs.FieldValue.{plain_value, IsFieldValue};
 ghost use Rattle.http_header.specs.Token.{lowercase};
-ghost use Rattle.http_uri.specs.Uri.{Spells};
 ghost use Rattle.otel_otlp.specs.HttpConfig as spec;
 ghost use Rattle.otel_otlp.specs.declared.otlp_http.config.ConfigError.TheVariants.{Memory};
 
@@ -40,7 +39,9 @@ impl From<AllocError> for ConfigError {
 }
 
 /// Returns the error that names the endpoint.
-fn no_endpoint(alloc: Global, endpoint: &str) -> ConfigError {
+fn no_endpoint(alloc: Global, endpoint: &str) -> ConfigError
+    ensures { spec.NamesEndpoint endpoint.now result }
+{
     match String::from_str(alloc, endpoint) {
         Ok(endpoint) => ConfigError::Endpoint(endpoint),
         Err(error) => ConfigError::Memory(error),
@@ -62,10 +63,23 @@ fn joined(alloc: Global, endpoint: &[u8], path: &[u8]) -> Result<Vec<u8>, AllocE
     Ok(text)
 }
 
+/// Returns `true` if the text has no query and no fragment.
+fn is_plain(text: &str) -> bool
+    ensures { IsTrue result ↔ spec.IsPlain text.now }
+{
+    text.as_bytes()
+        .iter()
+        .all(|byte| *byte != b'?' && *byte != b'#')
+}
+
 /// Returns the URI of the endpoint with the path added.
 fn target(alloc: Global, endpoint: &str, path: &str) -> Result<Uri, ConfigError>
-    ensures { IfOk result (Spells (spec.joined endpoint.now path.now)) }
+    ensures ok { IfOk result (spec.IsTarget endpoint.now path.now) }
+    ensures err { IfErr result (spec.NamesEndpoint endpoint.now) }
 {
+    if !path.is_empty() && !is_plain(endpoint) {
+        return Err(no_endpoint(alloc, endpoint));
+    }
     let text = joined(alloc, endpoint.as_bytes(), path.as_bytes())?;
     let uri = match Uri::from_bytes(alloc, text.as_slice()) {
         Ok(uri) => uri,
@@ -87,7 +101,8 @@ fn path_unless(is_of_signal: bool, path: &str) -> &str
 
 /// Returns the headers with the content type of JSON.
 fn with_json(mut headers: HeaderMap) -> Result<HeaderMap, ConfigError>
-    ensures { IfOk result (λ new. new ≡ spec.with_json headers) }
+    ensures ok { IfOk result (λ new. new ≡ spec.with_json headers) }
+    ensures err { IfErr result (λ error. error ≡ Memory alloc_error) }
 {
     let json = HeaderValue::from_static("application/json");
     match headers.insert(http::header::CONTENT_TYPE, json) {
@@ -218,6 +233,8 @@ impl OtlpHttpConfig {
     ///
     /// # Errors
     ///
+    /// The configuration is dropped.
+    ///
     /// - `Header` if the name is `Content-Type`, `Content-Length` or `Host`, in any case, or if the
     ///   name or the value isn't one of a header: neither may hold CR, LF or NUL. Also if there are
     ///   too many headers.
@@ -263,10 +280,11 @@ impl OtlpHttpConfig {
     ///
     /// # Errors
     ///
-    /// `Endpoint` if the endpoint isn't a URI with a scheme and a host, or if it has a query to
-    /// which the path can't be added. `Memory` if out of memory.
+    /// `Endpoint` if the endpoint isn't a URI with a scheme and a host, or if the path is to be
+    /// added after a query or a fragment. `Memory` if out of memory.
     pub(crate) fn into_head(self, alloc: Global, path: &str) -> Result<Parts, ConfigError>
-        ensures { IfOk result (spec.IsHead self path.now) }
+        ensures ok { IfOk result (spec.IsHead self path.now) }
+        ensures err { IfErr result (spec.NamesEndpoint self.endpoint) }
     {
         let path = path_unless(self.is_of_signal, path);
         let uri = target(alloc, self.endpoint.as_str(), path)?;

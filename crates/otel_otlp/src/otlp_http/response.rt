@@ -106,7 +106,9 @@ pub(crate) fn read_partial(alloc: Global, body: &[u8], name: &str) -> Option<Par
 
 /// Returns the message of a response that isn't a success. `None` if there is none, or if out of
 /// memory.
-pub(crate) fn message_of(alloc: Global, body: &[u8]) -> Option<String> {
+pub(crate) fn message_of(alloc: Global, body: &[u8]) -> Option<String>
+    ensures { IfSome result (λ message. spec.IsMessageOf body.now (string_bytes message)) }
+{
     let Ok(value) = Value::from_slice(alloc, body) else {
         return None;
     };

@@ -1,5 +1,6 @@
 //! What a client over a reader and a writer sends and reads, byte by byte, and over readers and
 //! writers that are slow, interrupted or fail.
+mod files;
 mod limits;
 mod pieces;
 mod requests;

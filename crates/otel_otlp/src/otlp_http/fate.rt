@@ -1,0 +1,82 @@
+//! The meaning of a collector's answer for the request.
+ghost use Rattle.std.specs.Prelude.{◌≡◌, IfSome, MatchOption};
+ghost use Rattle.otel_otlp.specs.HttpFate.{IsWaitOf, IsAskedWait, IsAgain, IsFate};
+
+use crate::otlp_http::client::HttpError;
+use crate::otlp_http::response::{Partial, message_of, read_partial};
+use crate::otlp_http::status::{StatusClass, class_of, wait_of};
+use http::{HeaderValue, Response};
+use std::alloc::Global;
+
+/// A request that is to be sent again.
+#[derive(Clone, Copy, Debug)]
+pub struct Refusal {
+    /// The status, if the collector has answered.
+    pub status: Option<u16>,
+    /// The wait in seconds that the collector asked for.
+    pub wait: Option<u64>,
+}
+
+/// The meaning of an answer.
+#[derive(Drop)]
+pub enum Fate {
+    /// The collector has taken the request. `None` if the body couldn't be read.
+    Taken(Option<Partial>),
+    /// The request is to be sent again.
+    Stays(Refusal),
+    /// The request is never to be sent again. The collector's message, if there is one.
+    GivenUp(Option<String>),
+}
+
+/// Returns the wait in seconds that the value asks for.
+fn wait_of_value(value: &HeaderValue, now: u64) -> Option<u64>
+    ensures { IsWaitOf now value.now result }
+{
+    match value.to_str() {
+        Ok(text) => wait_of(text, now),
+        Err(_) => None,
+    }
+}
+
+/// Returns the wait in seconds that the response asks for.
+fn asked_wait(response: &Response<Vec<u8>>, now: u64) -> Option<u64>
+    ensures { IsAskedWait now response.now result }
+{
+    match response.headers().get("retry-after") {
+        Some(value) => wait_of_value(value, now),
+        None => None,
+    }
+}
+
+/// Returns the refusal of a response that asks to send again.
+fn refusal_of(response: &Response<Vec<u8>>, now: u64) -> Refusal
+    ensures { IsAgain now response.now result }
+{
+    Refusal {
+        status: Some(response.status().as_u16()),
+        wait: asked_wait(response, now),
+    }
+}
+
+/// Returns the meaning of the answer at this second since 1970. The name is that of the member with
+/// the number of rejected items.
+pub(crate) fn fate_of(
+    alloc: Global,
+    answer: &Result<Response<Vec<u8>>, HttpError>,
+    name: &str,
+    now: u64,
+) -> Fate
+    ensures { IsFate name.now now answer.now result }
+{
+    let Ok(response) = answer else {
+        return Fate::Stays(Refusal {
+            status: None,
+            wait: None,
+        });
+    };
+    match class_of(response.status()) {
+        StatusClass::Taken => Fate::Taken(read_partial(alloc, response.body().as_slice(), name)),
+        StatusClass::Again => Fate::Stays(refusal_of(response, now)),
+        StatusClass::Never => Fate::GivenUp(message_of(alloc, response.body().as_slice())),
+    }
+}

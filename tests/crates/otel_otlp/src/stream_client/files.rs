@@ -1,0 +1,64 @@
+//! The files that a client opens, writes and reads for each request.
+use crate::stream_client::{Answer, OK, SENT, is_answer, request};
+use otel_otlp::{FileClient, HttpClient};
+use std::fs;
+use std::hash::RandomState;
+use std::random::RandomSource;
+use std::test::Fail;
+
+/// Creates a folder of a new name.
+fn folder(rt: HostRuntime) -> Result<String, Fail> {
+    let mut bytes = [0; 8];
+    rt.fill_bytes(&mut bytes)?;
+    let number = u64::from_le_bytes(bytes);
+    let folder = format!(in rt.alloc(); "/tmp/file-client-{number:x}")?;
+    fs::create_dir(&rt, folder.as_str())?;
+    Ok(folder)
+}
+
+/// The contents of the files `request` and `response`, if they are there, and the answer.
+const FOLDERS: [(Option<&'static str>, Option<&'static str>, Answer); 7] = [
+    (Some(""), Some(OK), Ok((200, "{}", false))),
+    (
+        Some(""),
+        Some("HTTP/1.1 503 Busy\r\nRetry-After: 7\r\n\r\nx"),
+        Ok((503, "x", false)),
+    ),
+    (Some(""), Some(""), Err("unreachable")),
+    (
+        Some(""),
+        Some("HTTP/1.1 200 OK\r\nContent-Length: 2\r\n\r\n{"),
+        Err("malformed"),
+    ),
+    (Some(""), None, Err("unreachable")),
+    (None, Some(OK), Err("unreachable")),
+    (Some(""), Some(OK), Ok((200, "{}", false))),
+];
+
+/// One client, whose files are others at each request.
+#[test]
+fn the_files_are_opened_anew_for_each_request(rt: HostRuntime) -> Result<(), Fail> {
+    let alloc = rt.alloc();
+    let folder = folder(rt)?;
+    let to = format!(in alloc; "{folder}/request")?;
+    let from = format!(in alloc; "{folder}/response")?;
+    let mut client = FileClient::new(alloc, RandomState::new(&rt)?, rt, folder.as_str())?;
+    for (place, (request_file, response_file, wanted)) in FOLDERS.iter().enumerate() {
+        for (path, contents) in [(&to, request_file), (&from, response_file)] {
+            let _ = fs::remove_file(&rt, path.as_str());
+            if let Some(contents) = contents {
+                fs::write(&rt, path.as_str(), contents.as_bytes())?;
+            }
+        }
+        let sent = client.send_bytes(&request(alloc)?);
+        assert!(rt; is_answer(&sent, false, wanted), "answer {place}");
+        if request_file.is_some() && response_file.is_some() {
+            assert!(rt;
+                fs::read(&rt, to.as_str())?.as_slice() == SENT,
+                "request {place}"
+            );
+        }
+    }
+    fs::remove_dir_all(&rt, folder.as_str())?;
+    Ok(())
+}
