@@ -29,6 +29,11 @@ last_cell cells from to start end =
     max (end_cell cells (to - from) (after_start from to (max start end)))
     (cell_of cells from to start)
 
+-- the number of cells from the first to the last one of a span
+abbrev pub filled : ℕ → ℕ → ℕ → ℕ → ℕ → ℕ
+filled cells from to start end =
+    last_cell cells from to start end - cell_of cells from to start + 1
+
 -- the characters of an event and of a filled cell: ◆ and █, or in ASCII * and =
 abbrev pub mark_char : Bool → ℕ
 mark_char ascii = if ascii then 42 else 9670

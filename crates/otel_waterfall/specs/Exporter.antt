@@ -1,7 +1,8 @@
 -- Contracts' view of an exporter that draws spans. Not in the Rust crates.
-use Rattle.std.specs.Prelude.{◌≡◌, ◌⊎◌, ℕ, Bool, true, List, [], take, Option, Result, Err, ⊤}
+use Rattle.std.specs.Prelude.{◌≡◌, ◌⊎◌, ℕ, Bool, true, List, [], take, Option, Result, Ok, Err, ⊤}
 use Rattle.std.specs.Prelude.{IsTrue, IsErrOf}
 use Rattle.std.specs.Io.KnownBytes.{Keeps}
+use Rattle.std.specs.declared.io.Error.{Error}
 use Rattle.otel_sdk_base.specs.Export.{Calls}
 use Rattle.otel_sdk_base.specs.declared.error.OTelSdkError.{OTelSdkError}
 use Rattle.otel_sdk_base.specs.declared.error.OTelSdkError.TheVariants as error
@@ -37,6 +38,23 @@ exporter_calls contents = record {
       × (new ≡ record old { output = new.output; is_shut_down = true });
   takes_resource = λ old _ new. new ≡ old;
 }
+
+-- ---- the writer's answers, of which only its calls show `may_write`
+
+-- the answer of a write that gets no further: no byte was taken, or an error
+abbrev pub TakesNone : Result ℕ Error → Type 0
+TakesNone (Ok count) = count ≡ 0
+TakesNone (Err error) = ⊤
+
+-- a write got no further
+abbrev pub IsStuck : (Result ℕ Error → Type 0) → Type 0
+IsStuck may_write = (answer : Result ℕ Error) × may_write answer × TakesNone answer
+
+-- the error says that memory ran out, or that the writer failed, which it did
+abbrev pub IsWritersError : (Result ℕ Error → Type 0) → OTelSdkError → Type 0
+IsWritersError may_write (error.Memory cause) = ⊤
+IsWritersError may_write (error.InternalFailure message) = IsStuck may_write
+IsWritersError may_write other = ⊥
 
 -- a part of the picture of the batch, from its first byte on, or nothing
 abbrev pub IsPartOfPicture : Bool → ℕ → List SpanRecord → List ℕ → Type 0

@@ -1,10 +1,14 @@
 pub mod Bar
 pub mod Columns
+pub mod Details
 pub mod Drawn
 pub mod Duration
+pub mod Escape
 pub mod Exporter
 pub mod Line
 pub mod Name
+pub mod Page
+pub mod PageRow
 pub mod Picture
 pub mod Prefix
 pub mod Rows

@@ -52,7 +52,7 @@ impl Scale {
 
     /// Returns the cell of this moment: the cell of an event, or the first cell of a span that
     /// starts then.
-    fn cell_of(self, moment: u64) -> usize
+    pub(crate) fn cell_of(self, moment: u64) -> usize
         ensures { result ≡ spec.cell_of self.cells self.from self.to moment }
     {
         self.cell_at(self.after_start(moment))
@@ -64,6 +64,15 @@ impl Scale {
     {
         self.end_cell(self.after_start(start.max(end)))
             .max(self.cell_of(start))
+    }
+
+    /// Returns the number of cells from the first to the last one of a span.
+    pub(crate) fn filled(self, start: u64, end: u64) -> u128
+        ensures { result ≡ spec.filled self.cells self.from self.to start end }
+    {
+        self.last_cell(start, end)
+            .saturating_sub(self.cell_of(start)) as u128
+            + 1
     }
 
     /// Returns whether an event at one of these moments marks this cell.

@@ -20,7 +20,7 @@ fn moments_of(alloc: Global, events: &[Event]) -> Result<Vec<u64>, AllocError>
 }
 
 /// Returns the outcome that a span's row shows for its status.
-fn outcome_of(status: &Status) -> Outcome
+pub(crate) fn outcome_of(status: &Status) -> Outcome
     ensures { result ≡ spec.outcome_of status.now }
 {
     match status {
@@ -32,7 +32,7 @@ fn outcome_of(status: &Status) -> Outcome
 
 /// Returns a span as it is drawn.
 #[tactic(auto, using(crate::proofs::Moments::moments_are))]
-fn drawn_span(alloc: Global, is_ascii: bool, span: &SpanData) -> Result<Span, AllocError>
+pub(crate) fn drawn_span(alloc: Global, is_ascii: bool, span: &SpanData) -> Result<Span, AllocError>
     ensures { IfOk result (λ drawn. spec.look drawn ≡ spec.look_of is_ascii span.now) }
 {
     Ok(Span {

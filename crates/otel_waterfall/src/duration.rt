@@ -40,7 +40,7 @@ fn length_text(alloc: Global, n: u64) -> Result<String, AllocError>
 
 /// Returns the text of the time from a start to an end, with a minus sign if the end is before the
 /// start.
-pub(crate) fn duration_text(alloc: Global, start: u64, end: u64) -> Result<String, AllocError>
+pub fn duration_text(alloc: Global, start: u64, end: u64) -> Result<String, AllocError>
     ensures { IfOk result (λ text. string_bytes text ≡ spec.duration_text start end) }
 {
     if end < start {

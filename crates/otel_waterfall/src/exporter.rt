@@ -1,12 +1,15 @@
 //! The exporter.
-ghost use Rattle.std.specs.Prelude.{◌≡◌, ℕ, List, [], ◌∷◌, ◌++◌, take, false, true};
-ghost use Rattle.std.specs.Prelude.{IsTrue, IsErrOf, IfOk, OnOk, OnErr, alloc_error};
+ghost use Rattle.std.specs.Prelude.{◌≡◌, ◌≢◌, ◌≤◌, ℕ, List, [], ◌∷◌, ◌++◌, length, take};
+ghost use Rattle.std.specs.Prelude.{false, true, None, Some, alloc_error, is_ok};
+ghost use Rattle.std.specs.Prelude.{IsTrue, IsErrOf, IfErr, IfOk, IfSome, OnOk, OnErr};
 ghost use Rattle.std.specs.Io.KnownBytes.{Appends, Keeps};
 ghost use Rattle.std.specs.String.{string_bytes};
 ghost use Rattle.otel_waterfall.specs.Columns.{picture_width};
-ghost use Rattle.otel_waterfall.specs.Exporter.{RefusesIfShutDown, IsPartOfPicture};
+ghost use Rattle.otel_waterfall.specs.Exporter.{IsPartOfPicture, IsStuck, IsWritersError};
+ghost use Rattle.otel_waterfall.specs.Exporter.{RefusesIfShutDown};
 ghost use Rattle.otel_waterfall.specs.Picture.{IsPictureOf};
 
+use crate::calls::WriterCalls;
 use crate::columns::Style;
 use crate::drawn::drawn;
 use crate::pictures::picture;
@@ -15,7 +18,7 @@ use otel_sdk_base::resource::Resource;
 use otel_sdk_base::{Accepted, Exporter};
 use otel_sdk_span::SpanData;
 use std::alloc::{AllocError, Global};
-use std::io::{ErrorKind, Write};
+use std::io::ErrorKind;
 use std::marker::Model;
 use std::rc::Rc;
 
@@ -94,29 +97,45 @@ impl<W> WaterfallExporter<W> {
     }
 }
 
-/// Writes all bytes. Returns whether the writer accepted them.
-fn write_all<W: Write>(output: &mut W, bytes: &[u8]) -> bool
-    ensures all { IsTrue result
-        → Appends (W.contents output.old) (W.contents output.new) bytes.now }
-    ensures cut { (n : ℕ) × Appends (W.contents output.old) (W.contents output.new)
-        (take n bytes.now) }
+/// Writes some of the bytes. An interrupted write is tried again. Returns the number of bytes that
+/// the writer took, or `None` if it failed or took none.
+fn write_some<W: WriterCalls>(output: &mut W, bytes: &[u8]) -> Option<usize>
+    ensures some { IfSome result (λ n. (n ≤ length bytes.now)
+        × Appends (W.contents output.old) (W.contents output.new) (take n bytes.now)) }
+    ensures more { result ≢ Some 0 }
+    ensures none { result ≡ None → Keeps (W.contents output.old) (W.contents output.new) }
+    ensures stuck { result ≡ None → IsStuck W.may_write }
 {
-    let mut rest = bytes;
     for _ in 0..u64::MAX {
-        if rest.is_empty() {
-            return true;
-        }
-        match output.write(rest) {
-            Ok(0) => return false,
-            Ok(count) => rest = &rest[count..],
+        match output.write_some(bytes) {
+            Ok(0) => return None,
+            Ok(count) => return Some(count),
             Err(error) => {
                 if error.kind() != ErrorKind::Interrupted {
-                    return false;
+                    return None;
                 }
             }
         }
     }
-    false
+    None
+}
+
+/// Writes all bytes. Returns whether the writer accepted them.
+fn write_all<W: WriterCalls>(output: &mut W, bytes: &[u8]) -> bool
+    ensures all { IsTrue result
+        → Appends (W.contents output.old) (W.contents output.new) bytes.now }
+    ensures cut { (n : ℕ) × Appends (W.contents output.old) (W.contents output.new)
+        (take n bytes.now) }
+    ensures stuck { result ≡ false → IsStuck W.may_write }
+{
+    let mut rest = bytes;
+    while !rest.is_empty() {
+        match write_some(output, rest) {
+            Some(count) => rest = &rest[count..],
+            None => return false,
+        }
+    }
+    true
 }
 
 /// Returns the picture of a batch of spans.
@@ -129,7 +148,7 @@ fn picture_of(alloc: Global, style: Style, batch: &[SpanData]) -> Result<String,
 }
 
 /// Writes the picture of a batch of spans.
-fn write_picture<W: Write>(
+fn write_picture<W: WriterCalls>(
     alloc: Global,
     style: Style,
     output: &mut W,
@@ -144,6 +163,7 @@ fn write_picture<W: Write>(
     ensures memory { IsErrOf result (OTelSdkError.Memory alloc_error)
         → output.new ≡ output.old }
     ensures open { IsErrOf result OTelSdkError.AlreadyShutdown → ⊥ }
+    ensures failed { IfErr result (IsWritersError W.may_write) }
 {
     let text = picture_of(alloc, style, batch)?;
     let message = String::from_str(alloc, "the writer failed")?;
@@ -158,18 +178,19 @@ fn write_picture<W: Write>(
 /// # Errors
 ///
 /// `InternalFailure` if the writer failed, or `Memory` if it failed and memory ran out too.
-fn flush<W: Write>(alloc: Global, output: &mut W) -> OTelSdkResult
+fn flush<W: WriterCalls>(alloc: Global, output: &mut W) -> OTelSdkResult
+    ensures flushed { W.may_flush (is_ok result) }
     ensures bytes { Keeps (W.contents output.old) (W.contents output.new) }
     ensures open { IsErrOf result OTelSdkError.AlreadyShutdown → ⊥ }
 {
-    if output.flush().is_ok() {
+    if output.flush_all() {
         return Ok(());
     }
     let message = String::from_str(alloc, "the writer failed")?;
     Err(OTelSdkError::InternalFailure(message))
 }
 
-impl<W: Write + Drop> Exporter<SpanData> for WaterfallExporter<W> {
+impl<W: WriterCalls + Drop> Exporter<SpanData> for WaterfallExporter<W> {
     ghost use Rattle.otel_waterfall.specs.Exporter.{exporter_calls};
 
     ghost accepted = { λ e. e.accepted };
@@ -195,6 +216,8 @@ impl<W: Write + Drop> Exporter<SpanData> for WaterfallExporter<W> {
         ensures cut { OnErr result ((part : List ℕ)
             × IsPartOfPicture self.old.is_ascii self.old.width batch.now part
             × Appends (W.contents self.old.output) (W.contents self.new.output) part) }
+        ensures failed { self.old.is_shut_down ≡ false
+            → IfErr result (IsWritersError W.may_write) }
         ensures nothing { batch.now ≡ [] → OnOk result
             (Appends (W.contents self.old.output) (W.contents self.new.output) []) }
         ensures rest { self.new ≡ record self.old {
@@ -220,6 +243,7 @@ impl<W: Write + Drop> Exporter<SpanData> for WaterfallExporter<W> {
     fn force_flush(&mut self) -> OTelSdkResult
         ensures refused { RefusesIfShutDown result self.old self.new }
         ensures bytes { Keeps (W.contents self.old.output) (W.contents self.new.output) }
+        ensures flushed { self.old.is_shut_down ≡ false → W.may_flush (is_ok result) }
         ensures rest { self.new ≡ record self.old { output = self.new.output } }
     {
         if self.is_shut_down {
@@ -238,6 +262,7 @@ impl<W: Write + Drop> Exporter<SpanData> for WaterfallExporter<W> {
     fn shutdown(&mut self) -> OTelSdkResult
         ensures refused { RefusesIfShutDown result self.old self.new }
         ensures bytes { Keeps (W.contents self.old.output) (W.contents self.new.output) }
+        ensures flushed { self.old.is_shut_down ≡ false → W.may_flush (is_ok result) }
         ensures down { self.new ≡ record self.old {
           output = self.new.output;
           is_shut_down = true;

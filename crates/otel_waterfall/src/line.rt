@@ -61,7 +61,7 @@ fn name_column(
 }
 
 /// Returns the text of a status.
-fn outcome_text(outcome: Outcome) -> &'static str
+pub(crate) fn outcome_text(outcome: Outcome) -> &'static str
     ensures { result.now ≡ spec.outcome_text outcome }
 {
     match outcome {

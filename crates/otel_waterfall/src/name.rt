@@ -21,7 +21,7 @@ fn steers(category: GeneralCategory) -> bool
 
 /// Returns the character as it is shown: `?` if it can steer a terminal or, in ASCII, if it is
 /// above U+007E.
-fn shown(is_ascii: bool, c: char) -> char
+pub(crate) fn shown(is_ascii: bool, c: char) -> char
     ensures { result ≡ spec.shown is_ascii c }
 {
     if steers(GeneralCategory::for_char(c)) || (is_ascii && c > '~') {
@@ -36,7 +36,7 @@ fn shown(is_ascii: bool, c: char) -> char
 /// # Errors
 ///
 /// Returns an error if out of memory.
-pub(crate) fn shown_name(alloc: Global, is_ascii: bool, name: &str) -> Result<Vec<char>, AllocError>
+pub fn shown_name(alloc: Global, is_ascii: bool, name: &str) -> Result<Vec<char>, AllocError>
     ensures { IfOk result (λ chars. chars.items ≡ spec.shown_name is_ascii name.now) }
 {
     let mut chars = Vec::new(alloc);
@@ -74,7 +74,7 @@ fn count_within(name: &[char], columns: usize) -> usize
 }
 
 /// Returns the number of columns of `columns` that a name leaves empty.
-pub(crate) fn columns_left(name: &[char], columns: usize) -> usize
+pub fn columns_left(name: &[char], columns: usize) -> usize
     ensures { result ≡ columns - spec.columns_of name.now }
 {
     let mut left = columns;
@@ -93,7 +93,7 @@ fn cut_char(is_ascii: bool) -> char
 
 /// Cuts a name to `columns` columns, without allocating. If it was longer, it ends in `…` or `~`.
 #[tactic(auto, using(crate::proofs::Widths::fits))]
-pub(crate) fn fit(is_ascii: bool, columns: usize, name: &mut Vec<char>)
+pub fn fit(is_ascii: bool, columns: usize, name: &mut Vec<char>)
     requires { 0 < columns }
     ensures { name.new.items ≡ spec.fitted is_ascii columns name.old.items }
 {

@@ -29,15 +29,15 @@ fn push_line(text: &mut String, line: &[char]) -> Result<(), AllocError>
 
 /// The number of spans of a trace, their least start and their greatest end.
 #[derive(Clone, Copy, Debug)]
-struct Extent {
-    count: usize,
-    from: u64,
-    to: u64,
+pub(crate) struct Extent {
+    pub count: usize,
+    pub from: u64,
+    pub to: u64,
 }
 
 /// Returns the extent of a trace of the batch.
 #[tactic(auto, using(crate::proofs::Traces::extents))]
-fn extent_of(batch: &[Span], trace: TraceId) -> Extent
+pub(crate) fn extent_of(batch: &[Span], trace: TraceId) -> Extent
     ensures count { result.count ≡ length (spec.spans_of trace (map look batch.now)) }
     ensures from { result.from ≡ spec.least_start (spec.spans_of trace (map look batch.now)) }
     ensures to { result.to ≡ spec.greatest_end (spec.spans_of trace (map look batch.now)) }
@@ -58,7 +58,7 @@ fn extent_of(batch: &[Span], trace: TraceId) -> Extent
 }
 
 /// Returns the word for this number of spans.
-fn spans_word(count: usize) -> &'static str
+pub(crate) fn spans_word(count: usize) -> &'static str
     ensures { result.now ≡ spec.spans_word count }
 {
     if count == 1 { "span" } else { "spans" }

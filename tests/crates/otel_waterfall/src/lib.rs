@@ -7,5 +7,6 @@
 mod durations;
 mod flushes;
 mod names;
+mod pages;
 mod pictures;
 mod refusals;

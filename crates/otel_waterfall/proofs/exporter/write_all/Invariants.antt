@@ -1,9 +1,12 @@
 -- The bytes that are gone from the rest were appended.
-use Rattle.std.proofs.Common.{◌≡◌, ℕ, List, ◌++◌}
+use Rattle.std.proofs.Common.{◌≡◌, ℕ, List, ◌++◌, length}
 use Rattle.std.specs.Io.KnownBytes.{Appends}
 use Rattle.otel_waterfall.proofs.exporter.write_all.Given as goal
 
-abbrev pub invariant-loop : goal.invariant-loop
-invariant-loop g l =
+abbrev pub invariant-loop-rest : goal.invariant-loop-rest
+invariant-loop-rest g l =
     (done : List ℕ) × (l.bytes ≡ done ++ l.rest)
     × Appends (g.W.Write.contents l.initial.output) (g.W.Write.contents l.output) done
+
+abbrev pub decreases-loop-rest : goal.decreases-loop-rest
+decreases-loop-rest g l = length l.rest
