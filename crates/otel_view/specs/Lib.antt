@@ -1,0 +1,3 @@
+pub mod Skipped
+pub mod Summary
+pub mod Trace

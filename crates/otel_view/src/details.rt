@@ -1,0 +1,192 @@
+//! What a picture of a trace doesn't show: attributes, events, links and statuses.
+
+use crate::clock::Clock;
+use anyhow::Result;
+use opentelemetry::KeyValue;
+use opentelemetry::trace::{Event, Link, SpanKind, Status};
+use otel_sdk_span::SpanData;
+use otel_waterfall::{duration_text, fit, shown_name};
+use std::alloc::{AllocError, Global};
+
+/// The columns after which a line of a text is cut.
+const COLUMNS: usize = 1000;
+
+/// Appends a line of a text as it is shown.
+fn push_shown(alloc: Global, text: &mut String, line: &str) -> Result<(), AllocError> {
+    let mut chars = shown_name(alloc, false, line)?;
+    fit(false, COLUMNS, &mut chars);
+    for c in &chars {
+        text.push(*c)?;
+    }
+    Ok(())
+}
+
+/// Appends a text of one or more lines. Each but the first is indented further.
+fn push_lines(
+    alloc: Global,
+    text: &mut String,
+    indent: &str,
+    lines: &str,
+) -> Result<(), AllocError> {
+    let mut is_first = true;
+    for line in lines.split('\n') {
+        if !is_first {
+            text.push_str(indent)?;
+            text.push_str("  ")?;
+        }
+        push_shown(alloc, text, line)?;
+        text.push('\n')?;
+        is_first = false;
+    }
+    Ok(())
+}
+
+/// Appends the attributes, a line for each.
+fn push_attributes(
+    alloc: Global,
+    text: &mut String,
+    indent: &str,
+    attributes: &[KeyValue],
+) -> Result<(), AllocError> {
+    for attribute in attributes {
+        text.push_str(indent)?;
+        push_shown(alloc, text, attribute.key.as_str())?;
+        text.push_str(" = ")?;
+        let value = attribute.value.as_str(alloc)?;
+        push_lines(alloc, text, indent, value.as_str())?;
+    }
+    Ok(())
+}
+
+/// Appends how many things were dropped.
+fn push_dropped(
+    alloc: Global,
+    text: &mut String,
+    indent: &str,
+    count: u32,
+    things: &str,
+) -> Result<(), AllocError> {
+    if count > 0 {
+        let line = format!(in alloc; "{indent}{count} more {things} were dropped\n")?;
+        text.push_str(line.as_str())?;
+    }
+    Ok(())
+}
+
+/// Appends an event, at its time after the start of the trace.
+fn push_event(
+    alloc: Global,
+    text: &mut String,
+    start: u64,
+    event: &Event,
+) -> Result<(), AllocError> {
+    let after = duration_text(alloc, start, event.timestamp)?;
+    let after = after.as_str();
+    let line = format!(in alloc; "  event at {after}: ")?;
+    text.push_str(line.as_str())?;
+    push_lines(alloc, text, "  ", event.name.as_str())?;
+    push_attributes(alloc, text, "    ", event.attributes.as_slice())?;
+    push_dropped(
+        alloc,
+        text,
+        "    ",
+        event.dropped_attributes_count,
+        "attributes",
+    )
+}
+
+/// Appends a link.
+fn push_link(alloc: Global, text: &mut String, link: &Link) -> Result<(), AllocError> {
+    let trace = link.span_context.trace_id();
+    let span = link.span_context.span_id();
+    let line = format!(in alloc; "  link to span {span} of trace {trace}\n")?;
+    text.push_str(line.as_str())?;
+    push_attributes(alloc, text, "    ", link.attributes.as_slice())?;
+    push_dropped(
+        alloc,
+        text,
+        "    ",
+        link.dropped_attributes_count,
+        "attributes",
+    )
+}
+
+/// Appends the status, unless it is unset.
+fn push_status(alloc: Global, text: &mut String, status: &Status) -> Result<(), AllocError> {
+    match status {
+        Status::Unset => Ok(()),
+        Status::Ok => text.push_str("  status ok\n"),
+        Status::Error { description } => {
+            text.push_str("  status error: ")?;
+            push_lines(alloc, text, "  ", description.as_str())
+        }
+    }
+}
+
+/// Returns the word for the kind of a span.
+fn kind_word(kind: &SpanKind) -> &'static str {
+    match kind {
+        SpanKind::Client => "client",
+        SpanKind::Server => "server",
+        SpanKind::Producer => "producer",
+        SpanKind::Consumer => "consumer",
+        SpanKind::Internal => "internal",
+    }
+}
+
+/// Appends the name of the span, and the line below it.
+fn push_identity(
+    alloc: Global,
+    text: &mut String,
+    clock: &Clock,
+    start: u64,
+    service: &str,
+    span: &SpanData,
+) -> Result<()> {
+    text.push('\n')?;
+    push_lines(alloc, text, "", span.name.as_str())?;
+    let id = span.span_context.span_id();
+    let kind = kind_word(&span.span_kind);
+    let moment = clock.text(alloc, span.start_time)?;
+    let after = duration_text(alloc, start, span.start_time)?;
+    let duration = duration_text(alloc, span.start_time, span.end_time)?;
+    let (moment, after, duration) = (moment.as_str(), after.as_str(), duration.as_str());
+    let line = format!(in alloc; "  {id} {kind}, {moment}, at {after} for {duration}, ")?;
+    text.push_str(line.as_str())?;
+    push_lines(alloc, text, "  ", service)?;
+    Ok(())
+}
+
+/// Appends the details of a span. The trace started at `start`.
+///
+/// # Errors
+///
+/// Out of memory, or a moment that no clock shows.
+pub fn push_span(
+    alloc: Global,
+    text: &mut String,
+    clock: &Clock,
+    start: u64,
+    service: &str,
+    span: &SpanData,
+) -> Result<()> {
+    push_identity(alloc, text, clock, start, service, span)?;
+    push_status(alloc, text, &span.status)?;
+    push_attributes(alloc, text, "  ", span.attributes.as_slice())?;
+    push_dropped(
+        alloc,
+        text,
+        "  ",
+        span.dropped_attributes_count,
+        "attributes",
+    )?;
+    for event in &span.events.events {
+        push_event(alloc, text, start, event)?;
+    }
+    push_dropped(alloc, text, "  ", span.events.dropped_count, "events")?;
+    for link in &span.links.links {
+        push_link(alloc, text, link)?;
+    }
+    push_dropped(alloc, text, "  ", span.links.dropped_count, "links")?;
+    Ok(())
+}

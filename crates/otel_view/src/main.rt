@@ -1,0 +1,42 @@
+//! Traces in a file of OTLP's lines: a list of the newest, a picture of one, or a page of either.
+#![tactic(auto)]
+
+mod args;
+mod chosen;
+mod clock;
+mod details;
+mod input;
+mod list;
+mod page;
+mod summary;
+mod trace;
+mod view;
+
+use anyhow::Result;
+use args::{Options, command};
+use std::fs::File;
+use std::process::ExitCode;
+use view::view;
+
+/// Shows the traces of the file.
+fn run(rt: HostRuntime, options: &Options<'_>) -> Result<()> {
+    if options.file == "-" {
+        return view(rt, options, rt.stdin());
+    }
+    let file = File::open(&rt, options.file)?;
+    view(rt, options, file)
+}
+
+fn main(rt: HostRuntime) -> Result<ExitCode> {
+    let words: Vec<String> = std::env::args(&rt)?.collect(rt.alloc())?;
+    match command(rt.alloc())?.try_get_matches_from(words.as_slice()) {
+        Ok(matches) => {
+            run(rt, &Options::of(&matches)?)?;
+            Ok(ExitCode::SUCCESS)
+        }
+        Err(error) => {
+            error.print(&rt)?;
+            Ok(ExitCode::from(error.exit_code() as u8))
+        }
+    }
+}
