@@ -9,60 +9,60 @@ use otel_otlp::{AppendFile, OtlpJsonSpanExporter};
 use otel_sdk::EnvConfig;
 use otel_sdk::trace::{SpanExporter, Tracing};
 use otel_waterfall::WaterfallExporter;
-use service::{NAME, serve};
+use service::{Call, NAME, serve};
 use std::process::ExitCode;
 
 /// Answers the requests, and hands their spans to the exporter.
-fn run<E: SpanExporter>(
-    rt: HostRuntime,
-    config: &EnvConfig,
-    matches: &ArgMatches<'_>,
-    exporter: E,
-) -> Result<()> {
-    let builder = Tracing::builder(rt).with_exporter(exporter);
-    let builder = builder.with_env(rt.alloc(), config)?;
-    if matches.get_flag("fixed") {
+fn run<E: SpanExporter>(call: &Call<'_>, exporter: E) -> Result<()> {
+    let builder = Tracing::builder(call.rt).with_exporter(exporter);
+    let builder = builder.with_env(call.rt.alloc(), &call.env)?;
+    if call.matches.get_flag("fixed") {
         // A millisecond from one reading of the clock to the next.
-        let tracing = builder.counted(1_000_000).build(rt.alloc(), NAME)?;
-        return serve(rt, config, matches, tracing);
+        let tracing = builder.counted(1_000_000).build(call.rt.alloc(), NAME)?;
+        return serve(call, tracing);
     }
-    serve(rt, config, matches, builder.build(rt.alloc(), NAME)?)
+    serve(call, builder.build(call.rt.alloc(), NAME)?)
+}
+
+/// Returns the command with the arguments about requests.
+fn command<'a>(rt: HostRuntime) -> Result<Command<'a>, clap::Error> {
+    let command = Command::new(rt.alloc(), NAME)
+        .version("0.33.1")
+        .about("Answers the HTTP requests of standard input, and traces them")
+        .after_help(EnvConfig::HELP)
+        .arg(arg!(in rt.alloc(); --headers "Reads requests as lines of headers"))?;
+    Ok(command.arg(arg!(in rt.alloc(); --fixed "Counts ids and the clock"))?)
 }
 
 /// Reads the arguments.
 fn parsed<'a>(rt: HostRuntime, words: &'a [String]) -> Result<ArgMatches<'a>, clap::Error> {
-    Command::new(rt.alloc(), NAME)
-        .version("0.33.1")
-        .about("Answers the HTTP requests of standard input, and traces them")
-        .after_help(EnvConfig::HELP)
-        .arg(arg!(in rt.alloc(); --headers "Reads requests as lines of headers"))?
-        .arg(arg!(in rt.alloc(); --fixed "Counts ids and the clock"))?
+    command(rt)?
         .arg(arg!(in rt.alloc(); --waterfall "Draws the traces on stderr").conflicts_with("FILE")?)?
         .arg(arg!(in rt.alloc(); [FILE] "Appends the spans to this file, as lines of JSON"))?
         .try_get_matches_from(words)
 }
 
 /// Answers the requests with the exporter that the arguments name.
-fn export(rt: HostRuntime, config: &EnvConfig, matches: &ArgMatches<'_>) -> Result<()> {
-    if matches.get_flag("waterfall") {
-        let exporter = WaterfallExporter::new(rt.alloc(), rt.stderr());
-        return run(rt, config, matches, exporter);
+fn export(call: &Call<'_>) -> Result<()> {
+    let alloc = call.rt.alloc();
+    if call.matches.get_flag("waterfall") {
+        return run(call, WaterfallExporter::new(alloc, call.rt.stderr()));
     }
-    let path = matches.get_str("FILE").unwrap_or("/dev/null");
-    let file = AppendFile::new(rt, String::from_str(rt.alloc(), path)?);
-    let exporter = OtlpJsonSpanExporter::new(rt.alloc(), file)?;
-    run(rt, config, matches, exporter)
+    let path = call.matches.get_str("FILE").unwrap_or("/dev/null");
+    let file = AppendFile::new(call.rt, String::from_str(alloc, path)?);
+    run(call, OtlpJsonSpanExporter::new(alloc, file)?)
 }
 
 /// Answers the requests as the environment and the arguments say.
-fn start(rt: HostRuntime, matches: &ArgMatches<'_>) -> Result<()> {
-    export(rt, &EnvConfig::from_env(&rt)?, matches)
+fn start(rt: HostRuntime, matches: ArgMatches<'_>) -> Result<()> {
+    let env = EnvConfig::from_env(&rt)?;
+    export(&Call { rt, env, matches })
 }
 
 fn main(rt: HostRuntime) -> Result<ExitCode> {
     let words: Vec<String> = std::env::args(&rt)?.collect(rt.alloc())?;
     match parsed(rt, &words) {
-        Ok(matches) => start(rt, &matches).map(|_| ExitCode::SUCCESS),
+        Ok(matches) => start(rt, matches).map(|_| ExitCode::SUCCESS),
         Err(error) => {
             error.print(&rt)?;
             Ok(ExitCode::from(error.exit_code() as u8))

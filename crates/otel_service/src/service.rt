@@ -3,13 +3,13 @@
 use anyhow::{Context, Error, Result, bail, ensure};
 use bytes::{BufMut, Bytes};
 use clap::ArgMatches;
-use http::{HeaderMap, HeaderName, HeaderValue, Request, StatusCode};
+use http::{HeaderMap, Request, StatusCode};
 use http_server::{Config, Connection, Reason, Response, State};
 use opentelemetry::logs::{Logger, LoggerProvider};
 use opentelemetry::trace::{SpanBuilder, SpanKind, Status};
 use opentelemetry::{KeyValue, Value};
 use otel_appender_log::OpenTelemetryLogBridge;
-use otel_http::{HeaderExtractor, HeaderInjector};
+use otel_http::{HeaderExtractor, HeaderInjector, add_header_line};
 use otel_otlp::OtlpJsonLogExporter;
 use otel_sdk::env::{ConfiguredPropagator, EnvConfig, WithEnv};
 use otel_sdk::logs::{SdkLoggerProvider, SimpleLogProcessor, SimpleLogger};
@@ -27,24 +27,24 @@ const BATCH: usize = 512;
 /// A logger that writes its records to standard error, as lines of JSON.
 type LineLogger = SimpleLogger<OtlpJsonLogExporter<Stderr>, HostRuntime>;
 
-/// Makes the logger and the propagator.
-fn tools(rt: HostRuntime, config: &EnvConfig) -> Result<(LineLogger, ConfiguredPropagator)> {
-    let exporter = OtlpJsonLogExporter::new(rt.alloc(), rt.stderr())?;
-    let lines = SimpleLogProcessor::new(rt.alloc(), exporter)?;
-    let loggers = SdkLoggerProvider::builder(rt).with_log_processor(lines);
-    let loggers = loggers.with_env(rt.alloc(), config)?.build(rt.alloc())?;
-    let logger = loggers.logger(rt.alloc(), NAME.into())?;
-    Ok((logger, config.propagator(rt.alloc())?))
+/// How the program was called.
+#[derive(Drop)]
+pub struct Call<'a> {
+    /// The runtime.
+    pub rt: HostRuntime,
+    /// The configuration from the environment.
+    pub env: EnvConfig,
+    /// The arguments.
+    pub matches: ArgMatches<'a>,
 }
 
-/// Reads a line `name: value`.
-fn header(rt: HostRuntime, line: &str) -> Option<(HeaderName, HeaderValue)> {
-    let (name, value) = line.split_once(':')?;
-    let name = HeaderName::from_bytes(rt.alloc(), name.as_bytes()).ok()?;
-    Some((
-        name,
-        HeaderValue::from_str(rt.alloc(), value.trim_ascii()).ok()?,
-    ))
+/// Makes the logger.
+fn logger(call: &Call<'_>) -> Result<LineLogger> {
+    let alloc = call.rt.alloc();
+    let lines = SimpleLogProcessor::new(alloc, OtlpJsonLogExporter::new(alloc, call.rt.stderr())?)?;
+    let loggers = SdkLoggerProvider::builder(call.rt).with_log_processor(lines);
+    let loggers = loggers.with_env(alloc, &call.env)?.build(alloc)?;
+    Ok(loggers.logger(alloc, NAME.into())?)
 }
 
 /// A service that answers requests.
@@ -67,32 +67,29 @@ pub struct Service<P, E: SpanExporter, L> {
 /// # Errors
 ///
 /// The reason why the input isn't read, an answer isn't written, or spans are lost.
-pub fn serve<P: Pipeline, E: SpanExporter>(
-    rt: HostRuntime,
-    config: &EnvConfig,
-    matches: &ArgMatches<'_>,
-    tracing: Tracing<P, E>,
-) -> Result<()> {
-    let (logger, propagator) = tools(rt, config)?;
+pub fn serve<P: Pipeline, E: SpanExporter>(call: &Call<'_>, tracing: Tracing<P, E>) -> Result<()> {
+    let propagator = call.env.propagator(call.rt.alloc())?;
+    let log = OpenTelemetryLogBridge::new(call.rt.alloc(), logger(call)?);
     let mut service = Service {
-        rt,
+        rt: call.rt,
         tracing,
         propagator,
-        log: OpenTelemetryLogBridge::new(rt.alloc(), logger),
+        log,
         is_told: false,
     };
-    let answered = service.answer_input(rt, matches);
+    let answered = service.answer_input(call);
     service.finish().and(answered)
 }
 
 impl<P: Pipeline, E: SpanExporter, L: Logger> Service<P, E, L> {
     /// Answers the requests of standard input, until it ends or a request is refused.
-    fn answer_input(&mut self, rt: HostRuntime, matches: &ArgMatches<'_>) -> Result<()> {
-        if matches.get_flag("headers") {
-            return self.answer_lines(rt.stdin(), &mut rt.stdout());
+    fn answer_input(&mut self, call: &Call<'_>) -> Result<()> {
+        if call.matches.get_flag("headers") {
+            return self.answer_lines(call.rt.stdin(), &mut call.rt.stdout());
         }
-        let mut peer = Connection::new(rt.alloc(), RandomState::new(&rt)?, Config::default());
-        self.answer_peer(rt, &mut peer)
+        let keys = RandomState::new(&call.rt)?;
+        let mut peer = Connection::new(call.rt.alloc(), keys, Config::default());
+        self.answer_peer(call.rt, &mut peer)
     }
 
     /// Answers the HTTP requests of standard input, until it ends or a request is refused.
@@ -114,9 +111,8 @@ impl<P: Pipeline, E: SpanExporter, L: Logger> Service<P, E, L> {
         let text = io::read_to_string(self.rt.alloc(), input)?;
         let mut headers = HeaderMap::new(self.rt.alloc());
         for line in text.trim_ascii().lines() {
-            if let Some((name, value)) = header(self.rt, line) {
-                headers.append(name, value)?;
-            } else if line.is_empty() && !headers.is_empty() {
+            add_header_line(self.rt.alloc(), &mut headers, line)?;
+            if line.is_empty() && !headers.is_empty() {
                 writeln!(output, "{}", self.answer("/cart", &headers)?)?;
                 headers.clear();
             }
@@ -135,10 +131,7 @@ impl<P: Pipeline, E: SpanExporter, L: Logger> Service<P, E, L> {
         let caller = self.tracing.receive(&self.propagator, &received)?;
         let builder = SpanBuilder::from_name("serve".into());
         let span = self.tracing.enter_with(builder.with_kind(SpanKind::Server));
-        let lines = self.work(path);
-        if let Err(error) = &lines {
-            drop(self.show(error));
-        }
+        let lines = self.work(path).inspect_err(|error| drop(self.show(error)));
         drop(span.map(|span| self.tracing.exit(span)));
         self.tracing.detach(caller);
         if self.tracing.ended_spans() >= BATCH {

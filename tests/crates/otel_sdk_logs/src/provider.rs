@@ -362,3 +362,24 @@ fn a_processor_chooses_the_records_that_it_wants(rt: HostRuntime) -> Result<(), 
     assert!(rt; !logger.event_enabled(Severity::Info, "cart", None));
     Ok(())
 }
+
+#[test]
+fn a_disabled_provider_emits_nothing(rt: HostRuntime) -> Result<(), Fail> {
+    let alloc = rt.alloc();
+    let processor = SimpleLogProcessor::new(alloc, InMemoryLogExporter::new(alloc))?;
+    let provider = SdkLoggerProvider::builder(rt)
+        .with_log_processor(processor)
+        .with_clock(ManualClock::new(5))
+        .disabled()
+        .build(alloc)?;
+    let logger = provider.logger(alloc, StringValue::from("tests"))?;
+    assert!(rt; !logger.event_enabled(Severity::Fatal4, "t", None));
+    assert!(rt; !logger.event_enabled_in(&Context::new(), Severity::Fatal4, "t", None));
+    emit(alloc, &logger, 1)?;
+    logger.emit_in(&Context::new(), logger.create_log_record(alloc)?);
+    assert_eq!(rt; provider.dropped_records(), 0);
+    assert!(rt; provider.force_flush().is_ok());
+    assert!(rt; numbers(&rt, alloc, &provider).is_empty());
+    assert!(rt; provider.shutdown().is_ok());
+    Ok(())
+}
