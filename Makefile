@@ -5,6 +5,8 @@
 #   make prove                      proves and builds the programs, and runs them
 #   make example                    runs a service: prints the headers that it sends on for examples/service and for no headers,
 #                                   a picture of its traces, its log lines, and its spans as lines of JSON
+#   make example-collector          runs the service and a collector, sends the spans there by curl, and prints what arrived
+#   make view                       lists the traces of that service's spans, draws the first, and writes a page of all
 #   make example-c                  runs a C program with the static library of crates/otel_c, which is proved first
 #   make install PREFIX=P           installs this library with its header under P: libraries, pkg-config's file and a manual page
 #   make test                       checks every proof, test, vector, misuse case and run out of memory, and the wrong bodies that
@@ -16,14 +18,17 @@
 #   make tests                      runs the tests; CRATE=C of one crate; TEST=T whose path contains T
 #   make edit CRATE=C EDIT=E        checks that the prover refuses one wrong body, in seconds after a check of the crate
 #   make mutants                    the same for all wrong bodies, from nothing; CRATE=C of one crate
+#   make untried                    the same for the ones that may have become right
 #   make vectors                    compares answers with recorded ones of the Rust crate
 #   make otlp                       reads lines of JSON with another implementation
 #   make b3                         exchanges headers of B3 with Zipkin's libraries
+#   make page                       opens pages of traces in a browser; PICTURE=1 also makes docs/page.png
 #   make collector                  sends spans to a collector on the loopback address, by OTLP over HTTP
 #   make c                          calls the library from C, Python and Go
 #   make fuzz-c                     fuzzes the library for C; RUNS=N sets the number of runs
 #   make misuse                     checks that misuse doesn't compile; CASE=NAME one case
 #   make memory                     runs programs out of memory: each allocation fails in turn
+#   make viewer                     reads files of many writers with the viewer of traces
 #   make long                       runs the programs on long inputs
 #   make calls                      checks that make memory covers each call that can run out of memory
 #   make new-crate                  checks that ./new makes a crate whose program runs
@@ -46,7 +51,7 @@ GIVEN := $(if $(filter -,$(INPUT)),,< "$(INPUT)")
 CRATES := $(patsubst crates/%/src,%,$(wildcard crates/*/src))
 IS_CRATE = @$(if $(filter $(CRATE),$(CRATES)),true,echo 'make $@: name a crate, as in `make $@ CRATE=otel_ids`: $(CRATES)' >&2; exit 2)
 
-.PHONY: run prove example example-c install test check tests edit mutants vectors otlp b3 collector c fuzz-c misuse memory long calls new-crate fuzz documents bench
+.PHONY: run prove example example-collector view example-c install test check tests edit mutants untried vectors otlp b3 page collector c fuzz-c misuse memory viewer long calls new-crate fuzz documents bench
 
 run:
 	@program=$$(tests/tools/programs.py path otel_carry) && "$$program" $(GIVEN)
@@ -58,6 +63,15 @@ example:
 	@program=$$(tests/tools/programs.py path otel_service) && spans=crates/otel_service/out/spans.jsonl && rm -f "$$spans" \
 		&& for input in examples/service /dev/null; do "$$program" --headers --fixed --waterfall < "$$input" || exit; done \
 		&& "$$program" --headers "$$spans" < examples/service > /dev/null && echo "the spans as lines of JSON: $$spans" >&2
+
+example-collector:
+	@program=$$(tests/tools/programs.py path otel_service) && tests/tools/otlp_http --for "$$program" --headers --fixed < examples/service
+
+view:
+	@service=$$(tests/tools/programs.py path otel_service) && program=$$(tests/tools/programs.py path otel_view) \
+		&& spans=crates/otel_view/out/spans.jsonl && rm -f "$$spans" && mkdir -p crates/otel_view/out \
+		&& "$$service" --headers --fixed "$$spans" < examples/service > /dev/null && "$$program" "$$spans" && echo && "$$program" "$$spans" 0af7 \
+		&& page=crates/otel_view/out/traces.html && "$$program" "$$spans" --html "$$page" && echo "a page of the traces: $$page" >&2
 
 example-c:
 	@archive=$$(tests/tools/programs.py archive) && room=$$(mktemp -d) && trap 'rm -rf "$$room"' EXIT \
@@ -84,6 +98,9 @@ edit:
 mutants:
 	@tests/tools/edits $(CRATE)
 
+untried:
+	@tests/tools/edits --untried
+
 vectors:
 	@tests/tools/progress.py --part vectors tests/vectors/run
 
@@ -92,6 +109,9 @@ otlp:
 
 b3:
 	@tests/tools/progress.py --part b3 tests/b3/run
+
+page:
+	@tests/tools/progress.py --part page tests/page/run $(if $(PICTURE),--picture)
 
 collector:
 	@tests/tools/progress.py --part 'spans to a collector' tests/otlp_http/run
@@ -108,6 +128,9 @@ misuse:
 
 memory:
 	@program=$$(tests/tools/programs.py path otel_carry) && tests/tools/progress.py --part 'runs out of memory' tests/memory/sweep "$$program"
+
+viewer:
+	@tests/tools/progress.py --part 'the viewer' tests/view/run
 
 long:
 	@for name in otel_carry otel_service; do program=$$(tests/tools/programs.py path $$name) \

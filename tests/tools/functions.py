@@ -1,4 +1,5 @@
 """The functions of a source, by the paths that a check of the crate uses for them."""
+import itertools
 import re
 
 
@@ -18,7 +19,7 @@ def owner_of(header):
         return re.match(r"\w+", rest)[0]
     dropped = ()
     if rest.startswith("<"):
-        depth = [sum({"<": 1, ">": -1}.get(it, 0) for it in rest[:end]) for end in range(1, len(rest))]
+        depth = list(itertools.accumulate({"<": 1, ">": -1}.get(it, 0) for it in rest[:-1]))
         end = depth.index(0) + 1
         dropped, rest = re.findall(r"[<,]\s*(?:const )?(\w+)", rest[:end]), rest[end:]
     trait, is_for, of = re.split(r"\bwhere\b|\{", rest)[0].partition(" for ")
@@ -43,16 +44,17 @@ class Function:
         return self.is_of_trait and self.file == other.file and calls
 
 
-def home_of(owner, module, text):
-    """The module of the type of an `impl`: this one, or the one from which the source imports the type."""
+def home_of(owner, module, text, declares):
+    """The module of the type of an `impl`: this one, or the one that declares the type that the source imports."""
     found = re.search(rf"(?m)^use (crate|super)((?:::\w+)*)::(?:\{{[^}}]*\b)?{owner}\b", text)
     if not found:
         return module
-    return "::".join(it for it in (module.rpartition("::")[0] if found[1] == "super" else "", found[2].removeprefix("::")) if it)
+    named = (module.rpartition("::")[0] if found[1] == "super" else "", found[2].removeprefix("::"))
+    return declares("::".join(it for it in named if it), owner)
 
 
-def functions(file, text):
-    """The functions of a source laid out by `rt fmt`."""
+def functions(file, text, declares=lambda module, name: module):
+    """The functions of a source laid out by `rt fmt`. `declares` finds the module that declares the type that a module exports."""
     module = re.sub(r"(^|/)(lib|main|mod)$", "", file.removeprefix("src/").removesuffix(".rt")).replace("/", "::")
     lines, owner, header, home = text.split("\n"), "", "", module
     at = 0
@@ -62,7 +64,7 @@ def functions(file, text):
             header = line + "".join(lines[at + 1 : at + 8])
             owner = owner_of(header)
             is_own = line.startswith("impl") and " for " not in header.partition("{")[0]
-            home = home_of(owner, module, text) if is_own else module
+            home = home_of(owner, module, text, declares) if is_own else module
         elif line == "}":
             owner, header, home = "", "", module
         found = re.match(r"( *)(?:pub(?:\(\w+\))? )?(?:final |const |unsafe |ghost |extern \S+ )*fn (\w+)", line)

@@ -24,7 +24,8 @@ import unproved
 from built import KIT, PARTS, TOP, below, crates, words
 
 # The arguments and the input with which `make prove` runs each program. A program without either runs as it is.
-SHOWN = {"otel_carry": ([], "examples/first-run"), "otel_service": (["--headers", "--fixed", "--waterfall"], "examples/service")}
+SHOWN = {"otel_carry": ([], "examples/first-run"), "otel_service": (["--headers", "--fixed", "--waterfall"], "examples/service"),
+         "otel_view": (["--help"], os.devnull)}
 STATIC = "otel_c"
 
 

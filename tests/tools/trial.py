@@ -20,6 +20,7 @@ import threading
 import time
 
 import built
+import reads
 from built import KIT, PARTS, TOP, below
 from functions import functions
 from wrong_bodies import read
@@ -95,7 +96,7 @@ class Place:
 
     def functions(self, file):
         if file not in self.found:
-            self.found[file] = list(functions(file, self.text(file)))
+            self.found[file] = list(functions(file, self.text(file), reads.crate(self.crate).declares))
         return self.found[file]
 
     def functions_of(self, file, old):
@@ -132,7 +133,7 @@ class Place:
         finally:
             for file in texts:
                 write(f"{self.folder}/{file}", self.text(file))
-        return Said(self.crate, ran.stdout, ran.returncode, lambda file: functions(file, texts.get(file) or self.text(file)))
+        return Said(self.crate, ran.stdout, ran.returncode, lambda file: functions(file, texts.get(file) or self.text(file), reads.crate(self.crate).declares))
 
 
 class Said:

@@ -1,4 +1,4 @@
-"""The wrong bodies of a crate, from its files of edits, and the checksum of all files that their trial reads.
+"""The wrong bodies of a crate, from its files of edits, and a checksum of all that a trial of them reads.
 
 tests/mutants/CRATE/PATH.edits has the wrong bodies of crates/CRATE/src/PATH.rt, in sections:
 
@@ -9,8 +9,8 @@ tests/mutants/CRATE/PATH.edits has the wrong bodies of crates/CRATE/src/PATH.rt,
 Further pairs of a section apply to the result of the earlier ones. `file: src/PATH.rt` before a pair names another source. A
 crate's must-fail/ has one file NAME.edit for each wrong body, in the kit's format: `file:` and then the pairs.
 
-tests/mutants/refused has a line `CRATE CHECKSUM` for each crate with wrong bodies. The checksum covers all files that their trial
-reads, without lines that are comments, and is written once the prover has refused every one of them. While it is up to date, they
+tests/mutants/refused has a line `CRATE/src/PATH.rt CHECKSUM` for each source with wrong bodies. The checksum covers the texts on
+which their trial depends, see reads.py, and is written once the prover has refused every one of them. While it is up to date, they
 needn't be tried again.
 """
 import functools
@@ -19,17 +19,15 @@ import hashlib
 import os
 import subprocess
 
-from built import PARTS, TOP, below, crates
+import reads
+from built import TOP, crates
+from functions import functions
 
 HERE = os.path.dirname(os.path.abspath(__file__))
 MUTANTS = f"{TOP}/tests/mutants"
 REFUSED = f"{MUTANTS}/refused"
-# The scripts that the trial runs, beside the kit.
-SCRIPTS = "edits", "trial.py", "wrong_bodies.py", "functions.py", "built.py"
-# How a line begins that is a comment, by the ending of the file.
-COMMENTS = {".rt": "//", ".antt": "--"}
-# The files of a proof that no other crate can name.
-OF_ONE_FUNCTION = "Proof.antt", "Invariants.antt", "Answers.antt"
+# The script that decides whether a wrong body is refused.
+TRIAL = f"{HERE}/trial.py"
 
 
 def read(path):
@@ -91,13 +89,15 @@ def wrong_bodies(crate):
     return {it.name: it for it in sorted(found, key=lambda it: it.name)}
 
 
+def by_source(crate):
+    """The wrong bodies of the crate, by the first source that each changes."""
+    found = {}
+    for it in wrong_bodies(crate).values():
+        found.setdefault(it.pairs[0][0] if it.pairs else it.file, []).append(it)
+    return found
+
+
 # Checksums
-
-def files_of(crate, is_below):
-    """The files of the crate that the trial reads: for a crate below, the files that other crates can name."""
-    found = (it for part in PARTS for it in glob.glob(f"{TOP}/crates/{crate}/{part}/**/*", recursive=True) if os.path.isfile(it))
-    return sorted(it for it in found if not (is_below and os.path.basename(it) in OF_ONE_FUNCTION))
-
 
 @functools.cache
 def logic():
@@ -105,44 +105,55 @@ def logic():
     return subprocess.run(["rt", "version"], stdout=subprocess.PIPE, text=True, check=True).stdout.split()[-1]
 
 
-def without_comments(path, text):
-    """The text of a file, without the lines that are comments: no proof depends on them."""
-    begins = COMMENTS.get(os.path.splitext(path)[1])
-    return "".join(it for it in text.splitlines(keepends=True) if not (begins and it.lstrip().startswith(begins)))
+def sources():
+    """Each source with wrong bodies, such as `otel_ids/src/span_id.rt`: its crate, and its path there."""
+    return {f"{crate}/{file}": (crate, file) for crate in crates() for file in by_source(crate)}
 
 
-def checksum(crate, read=read):
-    """The checksum of all files that the trial of the crate's wrong bodies reads. `read` reads the files of the crate."""
-    known = crates()
-    digest = hashlib.sha256()
-    for word in [logic(), *(it.pairs for it in wrong_bodies(crate).values()), *wrong_bodies(crate)]:
+def checksum(crate, file, changed=lambda path, text: text):
+    """The checksum of all that a trial of this source's wrong bodies depends on, with the texts as they are changed."""
+    bodies, digest = by_source(crate)[file], hashlib.sha256()
+    texts = [reads.texts_of(crate, it) for it in sorted({of for it in bodies for of, _, _ in it.pairs})]
+    if not all(is_inside(old, crate, of) for it in bodies for of, old, _ in it.pairs):
+        # Of a constant: the functions of other sources that name it are checked.
+        texts.append({it: reads.read(it) for it in reads.crate(crate).sources.values()})
+    words = [logic(), crates()[crate], read(TRIAL), [it.path for it in functions_of(crate, file)]]
+    for word in [*words, *sorted((it.name, it.pairs) for it in bodies)]:
         digest.update(repr(word).encode())
-    paths = [f"{HERE}/{it}" for it in SCRIPTS]
-    for it in [*below(crate, known), crate]:
-        digest.update(repr((it, known[it])).encode())
-        paths += files_of(it, is_below=it != crate)
-    for path in paths:
-        digest.update(repr((os.path.relpath(path, TOP), without_comments(path, read(path)))).encode())
+    for path, text in sorted((path, text) for found in texts for path, text in found.items()):
+        digest.update(repr((os.path.relpath(path, TOP), changed(path, text))).encode())
     return digest.hexdigest()[:32]
 
 
+@functools.cache
+def functions_of(crate, file):
+    return list(functions(file, read(f"{TOP}/crates/{crate}/{file}")))
+
+
+def is_inside(old, crate, file):
+    """Whether this text of a source is inside a function."""
+    text = read(f"{TOP}/crates/{crate}/{file}")
+    line = text[: max(text.find(old), 0)].count("\n")
+    return any(it.begin <= line <= it.end for it in functions_of(crate, file))
+
+
 def committed(path=REFUSED):
-    """The checksums of tests/mutants/refused, by crate."""
+    """The checksums of tests/mutants/refused, by source."""
     lines = (line.split("#")[0].split() for line in read(path).split("\n")) if os.path.isfile(path) else ()
     return {line[0]: line[1] for line in lines if len(line) == 2}
 
 
-def stale(names):
-    """The crates whose line is out of date, of these."""
+def stale():
+    """The sources whose line is out of date, with their crates and paths."""
     lines = committed()
-    return [it for it in names if lines.get(it) != (checksum(it) if wrong_bodies(it) else None)]
+    return {it: of for it, of in sources().items() if lines.get(it) != checksum(*of)}
 
 
-def write_line(crate):
-    """Writes the crate's line, which says that every wrong body was refused."""
-    lines = {**committed(), crate: checksum(crate)}
-    lines = {it: lines[it] for it in sorted(lines) if it in crates() and wrong_bodies(it)}
-    head = "# Of each crate a checksum of all that the trial of its wrong bodies reads. `make mutants CRATE=NAME` writes it\n" \
-           "# if the prover refuses every one of them; `make test` tries only the crates whose line isn't right.\n"
+def write_lines(names):
+    """Writes the lines of these sources, which say that every wrong body was refused."""
+    known = sources()
+    lines = {it: line for it, line in committed().items() if it in known} | {it: checksum(*known[it]) for it in names}
+    head = "# Of each source a checksum of all that a trial of its wrong bodies depends on. `make mutants CRATE=NAME` writes it\n" \
+           "# if the prover refuses every one of them; `make test` tries only the ones whose line isn't right.\n"
     with open(REFUSED, "w", encoding="utf-8") as file:
-        file.write(head + "".join(f"{it} {lines[it]}\n" for it in lines))
+        file.write(head + "".join(f"{it} {lines[it]}\n" for it in sorted(lines)))

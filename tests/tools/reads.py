@@ -1,0 +1,193 @@
+"""The texts on which a trial of wrong bodies depends: a source with its proofs, and the definitions, lemmas and contracts that these
+name, in the crate and in the crates below.
+
+The prover knows of another function only its contract, and of another file only what it can name. So the texts are the source itself
+and the proofs of its functions, whole; of every other source only what is outside the bodies of functions; and the files of
+specs/ and proofs/ that are imported. Whether a file is named is read from its imports, and from the `impl`s of the types and traits
+in the files that are: such a source is taken too.
+"""
+import functools
+import glob
+import os
+import re
+
+import built
+from built import TOP, below
+from functions import functions
+
+# How a line begins that is a comment, by the ending of the file.
+COMMENTS = {".rt": "//", ".antt": "--"}
+# The lists of modules, which grow with the crate.
+LIST = "Lib.antt"
+# An item of a source that has a name.
+ITEM = r"\b(?:fn|struct|enum|union|trait|type|const|static)\s+{}\b"
+
+
+@functools.cache
+def read(path):
+    """The text of the file, without the lines that are comments: no proof depends on them."""
+    begins = COMMENTS.get(os.path.splitext(path)[1])
+    with open(path, encoding="utf-8") as file:
+        return "".join(it for it in file if not (begins and it.lstrip().startswith(begins)))
+
+
+def without_bodies(file, text):
+    """The text of a source without the bodies of its functions."""
+    lines = text.split("\n")
+    for it in reversed(list(functions(file, text))):
+        own = lines[it.begin : it.end + 1]
+        indent = re.match(" *", own[0])[0]
+        opens = next((at for at, line in enumerate(own) if line == f"{indent}{{" or re.match(rf"{indent}\S.*\{{$", line)), None)
+        if opens is not None:
+            del lines[it.begin + opens + 1 : it.end]
+    return "\n".join(lines)
+
+
+@functools.cache
+def crates():
+    return built.crates()
+
+
+class Crate:
+    """A crate: its folder, its sources by their modules, such as `trace::live`, and the folders of proofs by the end of their paths,
+    such as `SpanId/from_hex`."""
+
+    def __init__(self, name):
+        self.name, self.folder = name, f"{TOP}/crates/{name}"
+        self.sources = {}
+        for path in glob.glob(f"{self.folder}/src/**/*.rt", recursive=True):
+            file = os.path.relpath(path, f"{self.folder}/src")
+            self.sources[re.sub(r"(^|/)(lib|main|mod)$", "", file.removesuffix(".rt")).replace("/", "::")] = path
+        self.proofs = {}
+        for folder, _, _ in os.walk(f"{self.folder}/proofs"):
+            self.proofs.setdefault("/".join(folder.split("/")[-2:]), []).append(folder)
+
+    def module(self, words):
+        """The source of the longest module with which this path begins, and the rest of the path."""
+        for count in range(len(words), -1, -1):
+            if "::".join(words[:count]) in self.sources:
+                return "::".join(words[:count]), words[count:]
+        raise KeyError(self.name)
+
+    def home(self, words, seen=()):
+        """The file that declares the item with this path, through the imports that lead to it."""
+        if words[:1] in (["specs"], ["proofs"]) and words[1:2] != ["declared"]:
+            files = (f"{self.folder}/{'/'.join(words[:count])}.antt" for count in range(len(words), 0, -1))
+            return next(filter(os.path.isfile, files), None)
+        module, rest = self.module(words[2:] if words[:1] == ["specs"] else words)
+        path = self.sources[module]
+        if not rest or path in seen or re.search(ITEM.format(rest[0]), read(path)):
+            return path
+        for used in imports(path, module, self.name):
+            if used[-1] == rest[0] and used[0] in crates():
+                return crate(used[0]).home(used[1:], (*seen, path))
+        return path
+
+    def declares(self, module, name):
+        """The module of this crate that declares the item that a module exports by this name."""
+        path = self.home([*module.split("::"), name])
+        return next((it for it, source in self.sources.items() if source == path), module)
+
+
+@functools.cache
+def crate(name):
+    return Crate(name)
+
+
+def leaves(text):
+    """The paths of an import, such as `a::{b, c::d as e}`."""
+    head, brace, inside = text.partition("{")
+    if not brace:
+        return [text.split(" as ")[0].strip()]
+    parts, depth, part = [], 0, ""
+    for it in inside.rpartition("}")[0]:
+        depth += (it == "{") - (it == "}")
+        if it == "," and not depth:
+            parts, part = [*parts, part], ""
+        else:
+            part += it
+    return [head.strip() + leaf for it in [*parts, part] if it.strip() for leaf in leaves(it)]
+
+
+@functools.cache
+def imports(path, module, name):
+    """The paths that a source of this module and crate imports or names, each a list of words that begins with a crate."""
+    text = read(path)
+    found = [leaf for it in re.findall(r"(?m)^\s*(?:pub(?:\(\w+\))? )?use ([^;]*);", text) for leaf in leaves(it)]
+    found += re.findall(r"\b(?:crate|super)(?:::\w+)+(?!\w|::)", text)
+    paths = []
+    for it in found:
+        words = re.findall(r"\w+", it)
+        here = module.split("::") if module else []
+        while words[:1] == ["super"]:
+            words, here = words[1:], here[:-1]
+            if words[:1] != ["super"]:
+                words = [name, *here, *words]
+        if words[:1] in (["crate"], ["self"]):
+            words = [name, *([] if words[0] == "crate" else here), *words[1:]]
+        elif words[:1] and words[0] not in crates() and f"{module}::{words[0]}".strip(":") in crate(name).sources:
+            words = [name, *here, *words]
+        paths.append([words[0], *(word for word in words[1:] if word != "self")] if words else [""])
+    return paths
+
+
+def of_functions(path, of):
+    """The files of the proofs of the source's functions."""
+    for it in functions(os.path.relpath(path, of.folder), read(path)):
+        for folder in of.proofs.get("/".join(it.path.split("::")[-2:]), ()):
+            yield from glob.glob(f"{folder}/**/*.antt", recursive=True)
+            yield from glob.glob(f"{os.path.dirname(folder)}/+/*.antt")
+
+
+@functools.cache
+def interface(path):
+    """The text of a file that other files can name."""
+    return without_bodies(path.partition("/src/")[2], read(path)) if path.endswith(".rt") else read(path)
+
+
+@functools.cache
+def named(path):
+    """The files of our crates that this one names."""
+    name = crate_of(path)
+    paths = [[it, *tail.strip(".").split(".")] for it, tail in re.findall(r"\bRattle\.(\w+)((?:\.[\w+-]+)*)", read(path))]
+    if path.endswith(".rt"):
+        paths += imports(path, next(it for it, source in crate(name).sources.items() if source == path), name)
+    found = {crate(it[0]).home(it[1:]) for it in paths if it[0] in crates()}
+    return frozenset(it for it in found if it and os.path.basename(it) != LIST)
+
+
+@functools.cache
+def declared(path):
+    """The names of the types and traits of a source."""
+    return frozenset(re.findall(r"(?m)^\s*(?:pub(?:\(\w+\))? )?(?:struct|enum|trait|union) (\w+)", read(path)))
+
+
+@functools.cache
+def implemented(path):
+    """The names in the header of each `impl` of a source."""
+    return [frozenset(re.findall(r"\w+", it)) for it in re.findall(r"(?m)^impl\b([^{]*)", read(path))]
+
+
+@functools.cache
+def sources_of(name):
+    """The sources of the crate and of the ones below it, and the types and traits that they declare."""
+    found = [path for it in [*below(name, crates()), name] for path in crate(it).sources.values()]
+    return found, frozenset().union(*map(declared, found))
+
+
+def texts_of(name, file):
+    """The texts on which the trial of the wrong bodies of this source depends, by path."""
+    own, (sources, ours) = f"{crate(name).folder}/{file}", sources_of(name)
+    found, due = set(), {own, *of_functions(own, crate(name))}
+    while due:
+        while due:
+            path = due.pop()
+            found.add(path)
+            due |= named(path) - found
+        known = frozenset().union(*(declared(it) for it in found if it.endswith(".rt")))
+        due = {it for it in sources if it not in found and any(header & known and header & ours <= known for header in implemented(it))}
+    return {it: read(it) if it == own else interface(it) for it in sorted(found)}
+
+
+def crate_of(path):
+    return os.path.relpath(path, f"{TOP}/crates").split("/")[0]
