@@ -13,6 +13,7 @@ mod injections;
 mod name_member;
 mod operation;
 mod random;
+mod requests;
 mod rounds;
 mod runs;
 mod sdk;
@@ -42,6 +43,7 @@ fn play(task: &Task<'_>, rt: HostRuntime) -> Result<Option<u64>, AllocError> {
         "inject" => injections::play(task, alloc),
         "run" => runs::play(task, alloc),
         "sdk" => sdk::play(task, alloc, rt),
+        "otlp" => requests::play(task, alloc, rt),
         "id" => ids::play(task, alloc),
         "header" => headers::play(task, alloc),
         "table" | "span" => spans::play(task, alloc),

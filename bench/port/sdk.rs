@@ -5,8 +5,9 @@ use opentelemetry::trace::{Span, Tracer, TracerProvider};
 use opentelemetry::{Context, Key, KeyValue, StringValue, Value};
 use otel_sdk::error::OTelSdkError;
 use otel_sdk::trace::{
-    BatchConfig, BatchSpanProcessor, CountedIdGenerator, InMemorySpanExporter, LiveSpans,
-    ManualClock, Sampler, SdkTracer, SdkTracerProvider, SpanProcessor, TracerPipeline,
+    BatchConfig, BatchSpanProcessor, CountedIdGenerator, FinishedSpans, InMemorySpanExporter,
+    LiveSpans, ManualClock, Sampler, SdkTracer, SdkTracerProvider, SpanData, SpanProcessor,
+    TracerPipeline,
 };
 use std::alloc::{AllocError, Global};
 
@@ -127,6 +128,17 @@ fn flush(
     processor.force_flush().map_err(no_memory)?;
     add(sum, processor.queued_spans());
     Ok(())
+}
+
+/// Returns ended spans, as [`make`] makes them.
+pub fn ended(alloc: Global, rt: HostRuntime, size: usize) -> Result<Vec<SpanData>, AllocError> {
+    let mut live = LiveSpans::new(alloc);
+    make(alloc, &tracer(alloc, rt, Sampler::AlwaysOn)?, size, &mut live)?;
+    let exporter = InMemorySpanExporter::new(alloc);
+    let mut processor = BatchSpanProcessor::new(alloc, exporter, BatchConfig::default());
+    live.collect(&mut processor).map_err(no_memory)?;
+    processor.force_flush().map_err(no_memory)?;
+    processor.exporter().get_finished_spans()
 }
 
 /// A span that records starts and ends.

@@ -2,7 +2,7 @@
 use crate::lines::Lines;
 use http_header::{HeaderMap, HeaderName, HeaderValue};
 use opentelemetry::propagation::{Extractor, Injector};
-use otel_http::{HeaderExtractor, HeaderInjector};
+use otel_http::{HeaderExtractor, HeaderInjector, add_header_line};
 use std::alloc::{AllocError, Global};
 
 pub fn play<R: Print>(alloc: Global, lines: &Lines<'_, R>) {
@@ -14,6 +14,9 @@ pub fn play<R: Print>(alloc: Global, lines: &Lines<'_, R>) {
     }
     if lines.begin("header-injector-set") {
         lines.end(set(alloc, lines));
+    }
+    if lines.begin("header-line-add") {
+        lines.end(add_line(alloc, lines));
     }
 }
 
@@ -68,5 +71,14 @@ fn set<R: Print>(alloc: Global, lines: &Lines<'_, R>) -> Result<(), AllocError> 
     let names = if answer.is_ok() { 2 } else { 1 };
     lines.answer_named("set", answer);
     lines.due(is_due(&injector.into_headers(), names));
+    Ok(())
+}
+
+fn add_line<R: Print>(alloc: Global, lines: &Lines<'_, R>) -> Result<(), AllocError> {
+    let mut headers = headers(alloc)?;
+    let answer = add_header_line(alloc, &mut headers, "X-Id: 1");
+    let names = if answer.is_ok() { 2 } else { 1 };
+    lines.answer_named("added", answer.map_err(|_| AllocError));
+    lines.due(is_due(&headers, names));
     Ok(())
 }

@@ -10,7 +10,9 @@ use otel_sdk::trace::{
     BatchSpanProcessor, EndRefused, Exporter, FinishedSpans, InMemorySpanExporter, LiveSpans,
     SdkSpan, SimpleSpanProcessor, SpanData, SpanLimits, SpanProcessor,
 };
-use otel_waterfall::WaterfallExporter;
+use otel_waterfall::{
+    PageSpan, PageTrace, WaterfallExporter, duration_text, html_page, shown_name,
+};
 use std::alloc::{AllocError, Global};
 use std::io;
 
@@ -56,6 +58,16 @@ pub fn play<R: Print>(alloc: Global, lines: &Lines<'_, R>) {
     }
     if lines.begin("waterfall-export") {
         lines.end(drawn(alloc, lines));
+    }
+    if lines.begin("html-page") {
+        lines.end(page(alloc, lines));
+    }
+    if lines.begin("shown-name") {
+        let name = shown_name(alloc, false, "work");
+        lines.answer_named("made", name.map(|_| ()));
+    }
+    if lines.begin("duration-text") {
+        lines.answer_named("made", duration_text(alloc, 0, 1).map(|_| ()));
     }
 }
 
@@ -276,5 +288,24 @@ fn drawn<R: Print>(alloc: Global, lines: &Lines<'_, R>) -> Result<(), AllocError
     lines.answer_named("drawn", exporter.export(&batch));
     lines.free_ok("WaterfallExporter::force_flush", exporter.force_flush());
     lines.free_ok("WaterfallExporter::shutdown", exporter.shutdown());
+    Ok(())
+}
+
+/// Returns a span of a page.
+fn of_service(alloc: Global, id: u64, parent: u64) -> Result<PageSpan, AllocError> {
+    Ok(PageSpan {
+        service: StringValue::from("s"),
+        data: child(alloc, id, parent)?,
+    })
+}
+
+fn page<R: Print>(alloc: Global, lines: &Lines<'_, R>) -> Result<(), AllocError> {
+    let spans = vec![in alloc; of_service(alloc, 3, 0)?, of_service(alloc, 4, 3)?]?;
+    let traces = [PageTrace {
+        trace_id: TraceId::from(1),
+        start: StringValue::from("now"),
+        spans,
+    }];
+    lines.answer_named("made", html_page(alloc, &traces).map(|_| ()));
     Ok(())
 }

@@ -5,7 +5,7 @@ use opentelemetry::trace::{
     Event, Link, SpanContext, SpanId, Status, TraceFlags, TraceId, TraceState,
 };
 use opentelemetry::{Array, Key, KeyValue, StringValue, Value};
-use otel_otlp::{OtlpJsonSpanExporter, traces_data, traces_text};
+use otel_otlp::{OtlpJsonSpanExporter, read_resource_spans, read_traces, traces_data, traces_text};
 use otel_sdk::error::{OTelSdkError, OTelSdkResult};
 use otel_sdk::resource::Resource;
 use otel_sdk::trace::{Exporter, SpanData};
@@ -27,6 +27,12 @@ pub fn play<R: Print>(alloc: Global, lines: &Lines<'_, R>) {
     }
     if lines.begin("json-traces-text") {
         lines.end(text(alloc, lines));
+    }
+    if lines.begin("json-read-resource-spans") {
+        lines.end(read_groups(alloc, lines));
+    }
+    if lines.begin("json-read-traces") {
+        lines.end(read(alloc, lines));
     }
 }
 
@@ -133,5 +139,23 @@ fn text<R: Print>(alloc: Global, lines: &Lines<'_, R>) -> Result<(), AllocError>
     let resource = resource(alloc)?;
     let batch = [full(alloc)?];
     lines.answer_of(traces_text(alloc, &resource, &batch));
+    Ok(())
+}
+
+fn read_groups<R: Print>(alloc: Global, lines: &Lines<'_, R>) -> Result<(), AllocError> {
+    let resource = resource(alloc)?;
+    let batch = [full(alloc)?];
+    let line = traces_text(alloc, &resource, &batch)?;
+    let read = read_resource_spans(alloc, line.as_str());
+    lines.answer_of(read.map(|groups| groups.len()));
+    Ok(())
+}
+
+fn read<R: Print>(alloc: Global, lines: &Lines<'_, R>) -> Result<(), AllocError> {
+    let resource = resource(alloc)?;
+    let batch = [full(alloc)?];
+    let line = traces_text(alloc, &resource, &batch)?;
+    let read = read_traces(alloc, line.as_str());
+    lines.answer_of(read.map(|spans| spans.len()));
     Ok(())
 }

@@ -1,17 +1,23 @@
-//! A client over a reader and a writer.
+//! A client over a reader and a writer, and one over files that aren't there.
 use crate::lines::Lines;
 use http::Request;
-use otel_otlp::{HttpClient, StreamClient};
+use otel_otlp::{FileClient, HttpClient, StreamClient};
 use std::alloc::{AllocError, Global};
 use std::hash::RandomState;
 use std::io;
 
 pub fn play<R: Print>(rt: HostRuntime, lines: &Lines<'_, R>) {
+    let Ok(keys) = RandomState::new(&rt) else {
+        return;
+    };
     if lines.begin("stream-client-send-bytes") {
-        let Ok(keys) = RandomState::new(&rt) else {
-            return;
-        };
         lines.end(send(rt.alloc(), keys, lines));
+    }
+    if lines.begin("file-client-new") {
+        lines.answer_named("made", FileClient::new(rt.alloc(), keys, rt, "/nowhere"));
+    }
+    if lines.begin("file-client-send-bytes") {
+        lines.end(send_to_files(rt, keys, lines));
     }
 }
 
@@ -41,5 +47,16 @@ fn send<R: Print>(
     let is_due = sent.is_ok() == client.is_open();
     lines.answer_of(sent.map(|response| response.body().as_slice() == b"{\"a\":1}".as_slice()));
     lines.due(is_due);
+    Ok(())
+}
+
+fn send_to_files<R: Print>(
+    rt: HostRuntime,
+    keys: RandomState,
+    lines: &Lines<'_, R>,
+) -> Result<(), AllocError> {
+    let request = request(rt.alloc())?;
+    let mut client = FileClient::new(rt.alloc(), keys, rt, "/nowhere")?;
+    lines.answer_named("sent", client.send_bytes(&request));
     Ok(())
 }

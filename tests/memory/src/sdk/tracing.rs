@@ -13,6 +13,7 @@ use otel_propagators::TraceContextPropagator;
 use otel_sdk::resource::Resource;
 use otel_sdk::trace::{
     CountedIdGenerator, Entered, ManualClock, NotEntered, OpenPipeline, Sampler, Tracing,
+    TracingBuilder,
 };
 use std::alloc::{AllocError, Global};
 
@@ -43,14 +44,18 @@ fn with_resource<R: Print>(rt: HostRuntime, lines: &Lines<'_, R>) -> Result<(), 
     Ok(())
 }
 
-/// A value without spans.
-pub fn app(rt: HostRuntime) -> Result<App, AllocError> {
+/// The builder of a value.
+pub fn builder(rt: HostRuntime) -> TracingBuilder<Sampler, CountedIdGenerator, ManualClock, Tally> {
     Tracing::builder(rt)
         .with_exporter(Tally::new())
         .with_sampler(Sampler::AlwaysOn)
         .with_id_generator(CountedIdGenerator::new())
         .with_clock(ManualClock::new(1))
-        .build(rt.alloc(), "cart")
+}
+
+/// A value without spans.
+pub fn app(rt: HostRuntime) -> Result<App, AllocError> {
+    builder(rt).build(rt.alloc(), "cart")
 }
 
 /// Enters a span of the set-up.

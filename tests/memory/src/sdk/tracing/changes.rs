@@ -2,8 +2,8 @@
 use crate::context::contexts::remote;
 use crate::lines::Lines;
 use crate::sdk::tracing::exports::has_exported;
-use crate::sdk::tracing::{App, app, enter};
-use opentelemetry::trace::{Status, TraceState};
+use crate::sdk::tracing::{App, app, builder, enter};
+use opentelemetry::trace::{Run, SpanBuilder, Status, TraceState};
 use opentelemetry::{Key, KeyValue, StringValue, Value};
 use std::alloc::{AllocError, Global};
 
@@ -18,6 +18,9 @@ pub fn play<R: Print>(rt: HostRuntime, lines: &Lines<'_, R>) {
     }
     if lines.begin("tracing-without-span") {
         lines.end(without_span(rt, lines));
+    }
+    if lines.begin("tracing-disabled") {
+        lines.end(disabled(rt, lines));
     }
 }
 
@@ -82,5 +85,21 @@ fn without_span<R: Print>(rt: HostRuntime, lines: &Lines<'_, R>) -> Result<(), A
     lines.free_ok("Tracing::add_event", answer);
     let answer = add(rt.alloc(), &mut app, Call::AddLink);
     lines.free_ok("Tracing::add_link", answer);
+    Ok(())
+}
+
+/// Each call of a disabled value that takes memory in others.
+fn disabled<R: Print>(rt: HostRuntime, lines: &Lines<'_, R>) -> Result<(), AllocError> {
+    let alloc = rt.alloc();
+    let mut app = builder(rt).disabled().build(alloc, "cart")?;
+    lines.free_ok("Tracing::enter", app.enter("s"));
+    let builder = SpanBuilder::from_name(StringValue::from("s"));
+    lines.free_ok("Tracing::enter_with", app.enter_with(builder));
+    let answer = add(alloc, &mut app, Call::RecordError);
+    lines.free_ok("Tracing::record_error", answer);
+    let failed = app.try_in_span("s", Run(|_: &mut App| -> Result<u8, u16> { Err(402) }));
+    lines.free_ok("Tracing::flush", app.flush());
+    lines.free_of("Tracing::shutdown", app.shutdown());
+    lines.due(failed == Err(402) && app.unrecorded() == 0);
     Ok(())
 }
