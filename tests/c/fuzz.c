@@ -240,6 +240,21 @@ static void check_child(otel_handle *context, const otel_span_context *span, ote
     otel_free(&child);
 }
 
+/* Whether the span is read from the values of headers without a context, and sent on. */
+static void check_span(text parent, text state, const otel_span_context *span, text wanted) {
+    otel_span_context read;
+    text same;
+    ASK(&same, otel_span_from_values, parent.bytes, parent.bytes ? parent.length : 0,
+        state.bytes, state.bytes ? state.length : 0, &read);
+    assert(memcmp(&read, span, sizeof read) == 0);
+    assert(same.length == wanted.length && memcmp(same.bytes, wanted.bytes, same.length) == 0);
+    free(same.bytes);
+    ASK(&same, otel_span_traceparent, &read);
+    assert((same.bytes == NULL) == (parent.bytes == NULL));
+    assert(!same.bytes || memcmp(same.bytes, parent.bytes, OTEL_MAX_TRACEPARENT) == 0);
+    free(same.bytes);
+}
+
 /* Whether the context that is made of the values of headers is the one that is extracted. */
 static void check_values(otel_handle *headers, otel_handle *context,
                          const otel_span_context *span) {
@@ -256,6 +271,7 @@ static void check_values(otel_handle *headers, otel_handle *context,
     ASK(&held, otel_context_trace_state, context);
     ASK(&same, otel_context_trace_state, &made);
     assert(held.length == same.length && memcmp(held.bytes, same.bytes, same.length) == 0);
+    check_span(parent, state, span, held);
     free(parent.bytes), free(state.bytes), free(baggage.bytes), free(held.bytes), free(same.bytes);
     otel_free(&made);
 }

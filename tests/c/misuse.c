@@ -22,6 +22,9 @@
 
 static void outputs(void) {
     otel_handle headers = OTEL_NOTHING, context = OTEL_NOTHING;
+    otel_span_context span = OTEL_NO_SPAN;
+    ASKS(7, otel_span_from_values, TEXT(PARENT), TEXT("a=1,b=2"), &span);
+    ASKS(55, otel_span_traceparent, &span);
     CALL(OTEL_STATUS_OK, otel_headers_new(&headers));
     CALL(OTEL_STATUS_OK, otel_headers_append(&headers, TEXT("traceparent"), TEXT(PARENT)));
     CALL(OTEL_STATUS_OK, otel_headers_append(&headers, TEXT("tracestate"), TEXT("a=1,b=2")));
@@ -67,6 +70,13 @@ static void inputs(void) {
     check(span.is_remote == 1, "is_remote");
     CALL(OTEL_STATUS_INVALID, otel_context_set_span(&context, NULL, NULL, 0));
     CALL(OTEL_STATUS_INVALID, otel_context_set_span(&context, &span, "a=1", LONG));
+    CALL(OTEL_STATUS_INVALID, otel_span_from_values(NULL, 1, "", 0, &span, NULL, 0, NULL));
+    CALL(OTEL_STATUS_INVALID, otel_span_from_values("", LONG, "", 0, &span, NULL, 0, NULL));
+    CALL(OTEL_STATUS_INVALID, otel_span_from_values("", 0, NULL, 1, &span, NULL, 0, NULL));
+    CALL(OTEL_STATUS_INVALID, otel_span_from_values("", 0, "", SIZE_MAX, &span, NULL, 0, NULL));
+    CALL(OTEL_STATUS_INVALID, otel_span_from_values("", 0, "", 0, NULL, NULL, 0, NULL));
+    CALL(OTEL_STATUS_OK, otel_span_from_values(NULL, 0, NULL, 0, &span, NULL, 0, NULL));
+    CALL(OTEL_STATUS_INVALID, otel_span_traceparent(NULL, &none, 1, NULL));
     CALL(OTEL_STATUS_INVALID, otel_context_set_trace_state_pair(NULL, TEXT("a"), TEXT("1")));
     CALL(OTEL_STATUS_INVALID, otel_context_set_trace_state_pair(&headers, TEXT("a"), TEXT("1")));
     CALL(OTEL_STATUS_INVALID, otel_context_set_trace_state_pair(&context, NULL, 1, "1", 1));

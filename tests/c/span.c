@@ -186,6 +186,36 @@ static void children(void) {
     otel_free(&child);
 }
 
+/* The span of values of headers, and back, without a context. */
+static void values(void) {
+    otel_span_context span = none, other = example;
+    WRITES("rojo=1,congo=2", otel_span_from_values, TEXT(PARENT), TEXT("rojo=1, congo=2"), &span);
+    check(memcmp(&span, &example, sizeof span) == 0, "the span of values");
+    WRITES(PARENT, otel_span_traceparent, &span);
+    /* A value that no header can have, and a short buffer, leave the span. */
+    LEAVES(OTEL_STATUS_NOT_TEXT, otel_span_from_values, TEXT("\xff"), "", 0, &span);
+    LEAVES(OTEL_STATUS_UNSENDABLE, otel_span_from_values, TEXT("x"), TEXT("a=\x7f"), &span);
+    LEAVES(OTEL_STATUS_UNSENDABLE, otel_span_from_values, TEXT("\n"), "", 0, &span);
+    LEAVES(OTEL_STATUS_NO_ROOM, otel_span_from_values, TEXT("\t" PARENT " "),
+           TEXT("rojo=1,congo=2"), &span);
+    check(memcmp(&span, &example, sizeof span) == 0, "the span is unchanged");
+    /* A trace state with a fault is none, and so is the one of no span. */
+    WRITES("", otel_span_from_values, TEXT(PARENT), TEXT("Rojo=1"), &span);
+    check(memcmp(&span, &example, sizeof span) == 0, "the span of a faulty trace state");
+    WRITES("", otel_span_from_values, TEXT("x"), TEXT("rojo=1"), &span);
+    check(memcmp(&span, &none, sizeof span) == 0, "no span");
+    LEAVES(OTEL_STATUS_ABSENT, otel_span_traceparent, &span);
+    other.flags = 0xfe;
+    other.is_remote = 2;
+    WRITES("00-4bf92f3577b34da6a3ce929d0e0e4736-00f067aa0ba902b7-fe", otel_span_traceparent,
+           &other);
+    memset(other.span_id, 0, 8);
+    LEAVES(OTEL_STATUS_ABSENT, otel_span_traceparent, &other);
+    memset(other.trace_id, 0, 16);
+    other.span_id[0] = 1;
+    LEAVES(OTEL_STATUS_ABSENT, otel_span_traceparent, &other);
+}
+
 /* Ids of W3C trace-context-2, to and from digits of either case. */
 static void digits(void) {
     static const char *const wrong[] = {
@@ -216,7 +246,7 @@ static void digits(void) {
     CALL(OTEL_STATUS_INVALID, otel_span_id_to_hex(span_id, NULL, 1, NULL));
 }
 
-static void (*const runs[])(void) = {reads, sets, pairs, children, digits};
+static void (*const runs[])(void) = {reads, sets, pairs, children, values, digits};
 
 int main(void) {
     return ends(runs, sizeof runs / sizeof *runs);

@@ -22,6 +22,7 @@
 static void texts(void) {
     static const uint8_t id[8] = {0x00, 0xf0, 0x67, 0xaa, 0x0b, 0xa9, 0x02, 0xb7};
     otel_handle headers = OTEL_NOTHING, context = OTEL_NOTHING;
+    otel_span_context *span = __real_malloc(sizeof *span);
     CALL(OTEL_STATUS_OK, otel_headers_new(&headers));
     CALL(OTEL_STATUS_OK, otel_headers_append(&headers, TEXT("traceparent"), TEXT(PARENT)));
     CALL(OTEL_STATUS_OK, otel_headers_append(&headers, TEXT("tracestate"), TEXT("a=1,b=2")));
@@ -31,6 +32,8 @@ static void texts(void) {
     FILLS(PARENT, otel_headers_get, &headers, TEXT("traceparent"));
     FILLS(PARENT, otel_context_traceparent, &context);
     FILLS("a=1,b=2", otel_context_trace_state, &context);
+    FILLS("a=1,b=2", otel_span_from_values, TEXT(PARENT), TEXT("a=1,b=2"), span);
+    FILLS(PARENT, otel_span_traceparent, span);
     FILLS("k=v;m", otel_context_baggage, &context);
     FILLS("00f067aa0ba902b7", otel_span_id_to_hex, id);
     FILLS("k", otel_baggage_key, &context, 0);
@@ -42,6 +45,7 @@ static void texts(void) {
     FILLS("b=2", otel_trace_state_delete, TEXT("a=1,b=2"), TEXT("a"));
     otel_free(&headers);
     otel_free(&context);
+    free(span);
 }
 
 static void numbers(void) {

@@ -262,6 +262,24 @@ otel_status otel_context_start_child(otel_handle *context, otel_handle *child);
 otel_status otel_context_start_child_with(otel_handle *context, const otel_span_context *ids,
                                           otel_handle *child);
 
+/* ---- the span of headers, without a handle; no call keeps memory */
+
+/* Writes what identifies the span that otel_context_from_values reads from these values, or
+ * OTEL_NO_SPAN if it reads none, and the header of its trace state, which is empty if it has none.
+ * A text of length 0 is for a header that is missing. OTEL_MAX_TRACESTATE bytes are enough.
+ *
+ * OTEL_STATUS_NOT_TEXT and _UNSENDABLE as for otel_context_from_values. After a status other than
+ * OTEL_STATUS_OK the span is unchanged too. */
+otel_status otel_span_from_values(const char *traceparent, size_t traceparent_length,
+                                  const char *tracestate, size_t tracestate_length,
+                                  otel_span_context *span,
+                                  char *buffer, size_t capacity, size_t *length);
+
+/* Writes the value of traceparent for the span, as otel_context_traceparent does for the one of a
+ * context. OTEL_STATUS_ABSENT if an id is 0. OTEL_MAX_TRACEPARENT bytes are enough. */
+otel_status otel_span_traceparent(const otel_span_context *span,
+                                  char *buffer, size_t capacity, size_t *length);
+
 /* ---- ids as hexadecimal digits, two for each byte */
 
 /* Sets the id from its digits, of either case: 32 of a trace id, 16 of a span id. OTEL_STATUS_VALUE

@@ -1,6 +1,7 @@
 -- The texts of three values, by their names.
 use Rattle.std.proofs.Common.{◌≡◌, ◌∙◌, ℕ, List, [], ◌∷◌, true, false, cond, None, Some}
 use Rattle.std.proofs.Common.{Option, Result, Ok, Err, IfOk, OnOk, refl, sym, ap, is_some, ◌||◌}
+use Rattle.std.proofs.Common.{length, subst, inr}
 use Rattle.std.specs.FinMap as fin
 use Rattle.std.specs.Cmp.Lexicographic.{nat_list_cmp_total, texts_ties}
 use Rattle.std.specs.List.{list_any}
@@ -10,12 +11,15 @@ use Rattle.http_header.specs.FieldValue.{is_visible_text}
 use Rattle.otel_context.specs.Context.{ContextRecord, empty_context}
 use Rattle.opentelemetry.specs.Carrier.{at, AreKeys}
 use Rattle.otel_propagators.specs.BaggagePropagator.{baggage_key}
-use Rattle.otel_propagators.specs.TraceContext.{traceparent_key, tracestate_key}
+use Rattle.otel_propagators.specs.TraceContext.{traceparent_key, tracestate_key, trace_extracted}
 use Rattle.otel_c.specs.declared.object.Object.{Object}
 use Rattle.otel_c.specs.declared.status.Status.{Status}
 use Rattle.otel_c.specs.Context.{extracted}
 use Rattle.otel_c.specs.Object.{context_of}
-use Rattle.otel_c.specs.Values.{texts_of, ReadsAs, Reads}
+use Rattle.otel_c.specs.Room.{IsLong}
+use Rattle.otel_c.specs.Span.{state_header}
+use Rattle.otel_c.specs.Status.{HasNoRoom}
+use Rattle.otel_c.specs.Values.{texts_of, ReadsAs, Reads, ReadsSpan, WriteSpanRefused}
 
 pub at_name : (b p s q : List ℕ) → at (texts_of b p s) q
     ≡ cond (bytes_eq q baggage_key) (Some b)
@@ -81,3 +85,24 @@ pub reads : {A : Type 0} (r : Result A Status) (t s b : List ℕ) (new : Option 
 reads (Ok v) t s b new context given into =
     record { context = context; given = given; into = into }
 reads (Err e) t s b new context given h = h
+
+pub reads_span : {E : Type 0} (r : Result ContextRecord E) (t s t' s' : List ℕ) → t' ≡ t → s' ≡ s
+    → is_visible_text t ≡ true → is_visible_text s ≡ true
+    → IfOk r (λ context. context ≡ trace_extracted empty_context (texts_of [] t' s'))
+    → IfOk r (ReadsSpan t s)
+reads_span (Ok c) t s t' s' et es rt rs h = record {
+  parent_readable = rt;
+  state_readable = rs;
+  is = h ∙ (λ i. trace_extracted empty_context (texts_of [] (et i) (es i)));
+}
+reads_span (Err e) t s t' s' et es rt rs h = h
+
+pub span_long : (t s : List ℕ) (context : ContextRecord) → ReadsSpan t s context
+    → (text old : List ℕ) (written : ℕ) (status : Status) → text ≡ state_header context
+    → written ≡ length text → HasNoRoom text old status → WriteSpanRefused t s old written status
+span_long t s context given text old written status same needed short = inr (record {
+  context = context;
+  given = given;
+  long = subst (λ (x : List ℕ). IsLong x old written status) same
+      (record { short = short; length = needed });
+})

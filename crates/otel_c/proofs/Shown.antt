@@ -1,10 +1,9 @@
 -- The parts of the effect of a call on a context make up the whole.
 use Rattle.std.proofs.Common.{◌≡◌, ◌∙◌, ◌++◌, ℕ, List, length, drop, Option, Some, Result, Ok, Err}
-use Rattle.std.proofs.Common.{None, OnOk, IfErr, refl, sym, subst, inl, inr}
+use Rattle.std.proofs.Common.{OnOk, IfErr, sym, subst, inr}
 use Rattle.otel_context.specs.Context.{ContextRecord}
 use Rattle.otel_c.specs.declared.object.Object.{Object}
 use Rattle.otel_c.specs.declared.status.Status.{Status}
-use Rattle.otel_c.specs.declared.status.Status.TheVariants as status
 use Rattle.otel_c.specs.Object.{context_of}
 use Rattle.otel_c.specs.Room.{Holds, IsLong, HoldsFound, FoundRefused}
 use Rattle.otel_c.specs.Baggage.{Shows, ShowRefused, NamedRefused}
@@ -88,12 +87,3 @@ pub has_current : {A : Type 0} (r : Result A Status) (object new : Option Object
 has_current (Ok v) object new context given into =
     record { context = context; given = given; into = into }
 has_current (Err s) object new context given h = h
-
-pub shows_nothing : (object : Option Object) (context : ContextRecord)
-    → context_of object ≡ Some context → (look : ContextRecord → Option (List ℕ)) (old : List ℕ)
-    (written : ℕ) → look context ≡ None → ShowRefused look object old written status.Absent
-shows_nothing object context from look old written none = inr (record {
-  context = context;
-  from = from;
-  why = inl (record { status = refl; none = none });
-})

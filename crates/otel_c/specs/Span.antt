@@ -13,8 +13,8 @@ use Rattle.otel_c.specs.declared.span.SpanParts.{SpanParts}
 use Rattle.otel_c.specs.declared.status.Status.{Status}
 use Rattle.otel_c.specs.Object.{context_of}
 use Rattle.otel_c.specs.Context.{CopyRefused}
-use Rattle.otel_c.specs.Room.{Holds, IsLong}
-use Rattle.otel_c.specs.Status.{IsUnsendable}
+use Rattle.otel_c.specs.Room.{Holds, IsLong, FoundRefused}
+use Rattle.otel_c.specs.Status.{IsOutOfMemory, IsUnsendable}
 use Rattle.otel_c.specs.TraceState.{ReadRefused}
 
 -- the ids as bytes, the most significant first, the flags, and whether it is remote
@@ -26,12 +26,18 @@ parts_of context = record {
   is_remote = context.is_remote;
 }
 
--- the value of `traceparent` for the context's span, if neither of its ids is 0
+-- the value of `traceparent` for a span, if neither of its ids is 0
+abbrev pub parent_header : SpanContextRecord → Option (List ℕ)
+parent_header span = if is_valid span then Some (parent_text (parent span)) else None
+
+-- the value of `traceparent` for the context's span
 abbrev pub traceparent_of : ContextRecord → Option (List ℕ)
-traceparent_of context =
-    if is_valid (span_context context)
-    then Some (parent_text (parent (span_context context)))
-    else None
+traceparent_of context = parent_header (span_context context)
+
+-- why no value of `traceparent` was written
+abbrev pub ParentRefused : SpanContextRecord → List ℕ → ℕ → Status → Type 0
+ParentRefused span old written s =
+    IsOutOfMemory s ⊎ FoundRefused (parent_header span) old written s
 
 -- the parts are the ones of the context's span
 pub record ShowsSpan (object : Option Object) (new : SpanParts) : Type 0 where

@@ -1,18 +1,20 @@
 //! The `traceparent` of a context.
-ghost use Rattle.std.specs.Prelude.{◌≡◌, IfOk, IfErr, OnOk, OnErr, string_bytes};
+ghost use Rattle.std.specs.Prelude.{◌≡◌, [], IfOk, IfErr, OnOk, OnErr, string_bytes};
 ghost use Rattle.otel_ids.specs.Ids.{id_text};
 ghost use Rattle.otel_propagators.specs.TraceContext.{parent};
 ghost use Rattle.otel_propagators.specs.TraceParent.{parent_text};
 ghost use Rattle.otel_c.specs.Baggage.{Shows, ShowRefused};
-ghost use Rattle.otel_c.specs.Span.{traceparent_of};
+ghost use Rattle.otel_c.specs.Room.{HoldsFound};
+ghost use Rattle.otel_c.specs.Span.{parent_header, traceparent_of, span_of, ParentRefused};
 ghost use Rattle.otel_c.specs.Status.{Refuses};
 
 use crate::child::is_valid;
 use crate::context::copy;
 use crate::handle::Handle;
 use crate::room::write_found;
+use crate::span::SpanParts;
 use crate::status::{Status, code};
-use otel_ids::SpanContext;
+use otel_ids::{SpanContext, TraceState};
 use std::alloc::{AllocError, Global};
 
 /// Returns the two digits of the flags.
@@ -32,6 +34,29 @@ fn parent_text(alloc: Global, span_context: &SpanContext) -> Result<String, Allo
     format!(in alloc; "00-{trace_id}-{span_id}-{flags}")
 }
 
+/// Writes the value of `traceparent` for the span context.
+///
+/// # Errors
+///
+/// `Absent` if one of its ids is 0. `NoMemory` if out of memory. `NoRoom` as for [`write_found`].
+fn write_parent(
+    alloc: Global,
+    span: &SpanContext,
+    room: &mut [u8],
+    written: &mut usize,
+) -> Result<(), Status>
+    ensures header { OnOk result (HoldsFound (parent_header span.now)
+        room.old room.new written.new) }
+    ensures unchanged { OnErr result (room.new ≡ room.old) }
+    ensures refused { IfErr result (ParentRefused span.now room.old written.new) }
+{
+    if !is_valid(span) {
+        return Err(Status::Absent);
+    }
+    let text = parent_text(alloc, span)?;
+    write_found(Some(text.as_str()), room, written)
+}
+
 fn traceparent(
     alloc: Global,
     context: &mut Handle,
@@ -46,12 +71,7 @@ fn traceparent(
         ShowRefused traceparent_of context.old.object room.old written.new status) }
 {
     let context = copy(alloc, context)?;
-    let span = context.span_context();
-    if !is_valid(span) {
-        return Err(Status::Absent);
-    }
-    let text = parent_text(alloc, span)?;
-    write_found(Some(text.as_str()), room, written)
+    write_parent(alloc, context.span_context(), room, written)
 }
 
 /// Writes the value of `traceparent` for the context's span.
@@ -70,4 +90,22 @@ pub extern "C" fn otel_context_traceparent(
         (ShowRefused traceparent_of context.old.object room.old written.new) result }
 {
     code(traceparent(alloc, context, room, written))
+}
+
+/// Writes the value of `traceparent` for the ids and the flags of a span.
+#[unsafe(no_mangle)]
+pub extern "C" fn otel_span_traceparent(
+    alloc: Global,
+    span_context: &SpanParts,
+    room: &mut [u8],
+    written: &mut usize,
+) -> u32
+    ensures header { result ≡ 0 → HoldsFound (parent_header (span_of span_context.now []))
+        room.old room.new written.new }
+    ensures unchanged { (result ≡ 0 → ⊥) → room.new ≡ room.old }
+    ensures refused { (result ≡ 0 → ⊥) → Refuses
+        (ParentRefused (span_of span_context.now []) room.old written.new) result }
+{
+    let span = span_context.with_state(TraceState::NONE);
+    code(write_parent(alloc, &span, room, written))
 }

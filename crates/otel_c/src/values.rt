@@ -3,18 +3,21 @@ ghost use Rattle.std.specs.Prelude.{◌≡◌, true, IfOk, IfErr, OnOk, OnErr, o
 ghost use Rattle.http_header.specs.FieldValue.{is_visible_text};
 ghost use Rattle.otel_context.specs.Context.{empty_context};
 ghost use Rattle.opentelemetry.specs.Carrier.{at};
+ghost use Rattle.otel_propagators.specs.TraceContext.{trace_extracted};
 ghost use Rattle.otel_c.specs.Context.{extracted};
 ghost use Rattle.otel_c.specs.Status.{Refuses, IsOutOfMemory};
 ghost use Rattle.otel_c.specs.Values.{texts_of, IsUnreadable, ReadsAs, Reads, ReadRefused};
+ghost use Rattle.otel_c.specs.Values.{ReadsSpan, SpanRefused, WritesSpan, WriteSpanRefused};
 
 use crate::context::make;
 use crate::handle::Handle;
-use crate::room::text_of;
+use crate::room::{text_of, write};
 use crate::sendable;
+use crate::span::SpanParts;
 use crate::status::{Status, code};
 use opentelemetry::Context;
 use opentelemetry::propagation::{Extractor, TextMapPropagator};
-use otel_propagators::W3cPropagator;
+use otel_propagators::{TraceContextPropagator, W3cPropagator};
 use std::alloc::{AllocError, Global};
 
 /// The values of the headers that carry a context.
@@ -137,4 +140,75 @@ pub extern "C" fn otel_context_from_values(
         → Refuses (ReadRefused traceparent.now tracestate.now baggage.now) result }
 {
     code(from_values(alloc, context, traceparent, tracestate, baggage))
+}
+
+/// Returns the context with the span of the values.
+fn extract_span(alloc: Global, values: &Values) -> Result<Context, Status>
+    ensures read { IfOk result (λ context. context ≡ trace_extracted empty_context
+        (texts_of values.now.baggage.now values.now.traceparent.now values.now.tracestate.now)) }
+    ensures refused { IfErr result IsOutOfMemory }
+{
+    let propagator = TraceContextPropagator::new(alloc)?;
+    match propagator.extract_with_context(alloc, &Context::new(), values) {
+        Ok(context) => Ok(context),
+        Err(_) => Err(Status::NoMemory),
+    }
+}
+
+/// Returns the context with the span of the values, if headers can have them.
+fn read_span(alloc: Global, traceparent: &[u8], tracestate: &[u8]) -> Result<Context, Status>
+    ensures read { IfOk result (ReadsSpan traceparent.now tracestate.now) }
+    ensures refused { IfErr result (SpanRefused traceparent.now tracestate.now) }
+{
+    let traceparent = readable(traceparent)?;
+    let tracestate = readable(tracestate)?;
+    let values = Values {
+        baggage: "",
+        traceparent,
+        tracestate,
+    };
+    extract_span(alloc, &values)
+}
+
+fn span_from_values(
+    alloc: Global,
+    traceparent: &[u8],
+    tracestate: &[u8],
+    span: &mut SpanParts,
+    room: &mut [u8],
+    written: &mut usize,
+) -> Result<(), Status>
+    ensures span { OnOk result (WritesSpan traceparent.now tracestate.now span.new
+        room.old room.new written.new) }
+    ensures unchanged { OnErr result (span.new ≡ span.old) }
+    ensures room { OnErr result (room.new ≡ room.old) }
+    ensures refused { IfErr result (WriteSpanRefused traceparent.now tracestate.now
+        room.old written.new) }
+{
+    let context = read_span(alloc, traceparent, tracestate)?;
+    let read = context.span_context();
+    let text = read.trace_state().header(alloc)?;
+    write(text.as_str(), room, written)?;
+    *span = SpanParts::of(read);
+    Ok(())
+}
+
+/// Writes the ids and the flags of the span of the values, and the header of its trace state.
+#[unsafe(no_mangle)]
+pub extern "C" fn otel_span_from_values(
+    alloc: Global,
+    traceparent: &[u8],
+    tracestate: &[u8],
+    span: &mut SpanParts,
+    room: &mut [u8],
+    written: &mut usize,
+) -> u32
+    ensures span { result ≡ 0 → WritesSpan traceparent.now tracestate.now span.new
+        room.old room.new written.new }
+    ensures unchanged { (result ≡ 0 → ⊥) → span.new ≡ span.old }
+    ensures room { (result ≡ 0 → ⊥) → room.new ≡ room.old }
+    ensures refused { (result ≡ 0 → ⊥) → Refuses
+        (WriteSpanRefused traceparent.now tracestate.now room.old written.new) result }
+{
+    code(span_from_values(alloc, traceparent, tracestate, span, room, written))
 }

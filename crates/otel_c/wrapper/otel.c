@@ -20,6 +20,8 @@ PROVED(otel_context_clone)
 PROVED(otel_context_detach_copy)
 PROVED(otel_context_span)
 PROVED(otel_context_traceparent)
+PROVED(otel_span_from_values)
+PROVED(otel_span_traceparent)
 PROVED(otel_context_trace_state)
 PROVED(otel_context_set_span)
 PROVED(otel_context_set_trace_state_pair)
@@ -179,6 +181,27 @@ otel_status otel_context_traceparent(otel_handle *context,
     NEEDS_OUTPUT;
     NEEDS(context != NULL);
     return proved_otel_context_traceparent(context, OUTPUT);
+}
+
+otel_status otel_span_from_values(const char *traceparent, size_t traceparent_length,
+                                  const char *tracestate, size_t tracestate_length,
+                                  otel_span_context *span,
+                                  char *buffer, size_t capacity, size_t *length) {
+    NEEDS_OUTPUT;
+    NEEDS(is_memory(traceparent, traceparent_length) && is_memory(tracestate, tracestate_length));
+    NEEDS(span != NULL);
+    return proved_otel_span_from_values(TEXT(traceparent, traceparent_length),
+                                        TEXT(tracestate, tracestate_length), span, OUTPUT);
+}
+
+otel_status otel_span_traceparent(const otel_span_context *span,
+                                  char *buffer, size_t capacity, size_t *length) {
+    otel_span_context given;
+    NEEDS_OUTPUT;
+    NEEDS(span != NULL);
+    given = *span;
+    given.is_remote = 0;
+    return proved_otel_span_traceparent(&given, OUTPUT);
 }
 
 otel_status otel_context_trace_state(otel_handle *context,
