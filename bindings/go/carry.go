@@ -18,10 +18,9 @@ static otelc_child start_child(otel_span_context span) {
     return otelc_start_child(&span);
 }
 
-static otelc_written inject(otel_span_context span, _GoString_ state, const char *members, size_t length, char *buffer,
-                            size_t capacity) {
+static otelc_sent inject(otel_span_context span, const char *members, size_t length, char *buffer, size_t capacity) {
     const otelc_text baggage = {members, length};
-    return otelc_inject(&span, text_of(state), baggage, buffer, capacity);
+    return otelc_inject(&span, baggage, buffer, capacity);
 }
 */
 import "C"
@@ -54,22 +53,15 @@ func startOf(bytes []byte) *C.char {
 func (b *buffer) start() *C.char     { return startOf(b.bytes) }
 func (b *buffer) capacity() C.size_t { return C.size_t(len(b.bytes)) }
 
-// cut returns the texts of these lengths.
-func (b *buffer) cut(lengths []C.size_t, texts []string) {
-	begin := C.size_t(0)
-	for at, length := range lengths {
-		texts[at] = string(b.bytes[begin : begin+length])
-		begin += length
-	}
+// texts returns the two texts of these lengths.
+func (b *buffer) texts(made *C.otelc_texts) (string, string) {
+	first, second := made.lengths[0], made.lengths[1]
+	return string(b.bytes[:first]), string(b.bytes[first : first+second])
 }
 
 // grow makes room for texts of these lengths.
-func (b *buffer) grow(lengths []C.size_t) {
-	needed := C.size_t(0)
-	for _, length := range lengths {
-		needed += length
-	}
-	b.bytes = make([]byte, needed)
+func (b *buffer) grow(made *C.otelc_texts) {
+	b.bytes = make([]byte, made.lengths[0]+made.lengths[1])
 }
 
 func errorOf(status C.otel_status) error {
@@ -81,31 +73,23 @@ type extracted struct {
 	traceID trace.TraceID
 	spanID  trace.SpanID
 	flags   trace.TraceFlags
-	// The trace state, and the baggage as a header.
-	texts [2]string
+	// The trace state and the baggage, as headers.
+	state, members string
 	// Whether there is a header of a baggage that can be read.
 	hasBaggage bool
 }
 
 // set takes the ids and the flags over.
 func (made *extracted) set(span *C.otel_span_context) {
-	for at, digit := range span.trace_id {
-		made.traceID[at] = byte(digit)
-	}
-	for at, digit := range span.span_id {
-		made.spanID[at] = byte(digit)
-	}
+	made.traceID = *(*trace.TraceID)(unsafe.Pointer(&span.trace_id))
+	made.spanID = *(*trace.SpanID)(unsafe.Pointer(&span.span_id))
 	made.flags = trace.TraceFlags(span.flags)
 }
 
 // partsOf returns the ids and the flags of the span, as C has them.
 func partsOf(sc trace.SpanContext) (span C.otel_span_context) {
-	for at, digit := range sc.TraceID() {
-		span.trace_id[at] = C.uint8_t(digit)
-	}
-	for at, digit := range sc.SpanID() {
-		span.span_id[at] = C.uint8_t(digit)
-	}
+	*(*trace.TraceID)(unsafe.Pointer(&span.trace_id)) = sc.TraceID()
+	*(*trace.SpanID)(unsafe.Pointer(&span.span_id)) = sc.SpanID()
 	span.flags = C.uint8_t(sc.TraceFlags())
 	return span
 }
@@ -121,19 +105,21 @@ func startChild(sc trace.SpanContext) (made extracted, err error) {
 }
 
 // extract reads the headers. An empty text is a missing header.
-func extract(parent, state, members string) (extracted, error) {
+func extract(parent, state, members string) (made extracted, err error) {
 	b := buffers.Get().(*buffer)
 	defer buffers.Put(b)
 	for {
-		var made extracted
 		switch done := C.extract(parent, state, members, b.start(), b.capacity()); done.status {
 		case C.OTEL_STATUS_OK:
 			made.set(&done.span)
-			b.cut(done.lengths[:], made.texts[:])
+			made.state, made.members = b.texts(&done.texts)
+			if done.texts.is_same != 0 {
+				made.members = members
+			}
 			made.hasBaggage = done.has_baggage != 0
 			return made, nil
 		case C.OTEL_STATUS_NO_ROOM:
-			b.grow(done.lengths[:])
+			b.grow(&done.texts)
 		default:
 			return made, errorOf(done.status)
 		}
@@ -141,24 +127,26 @@ func extract(parent, state, members string) (extracted, error) {
 }
 
 // inject returns the headers that carry the span and the baggage. One that is empty needn't be sent.
-func inject(sc trace.SpanContext, held baggage.Baggage) ([3]string, error) {
-	span := partsOf(sc)
-	state := ""
+func inject(sc trace.SpanContext, held baggage.Baggage) (texts [3]string, err error) {
 	if sc.IsValid() {
-		state = sc.TraceState().String()
+		// The library would read each trace state that OpenTelemetry Go can hold, and write the same text again.
+		texts[1] = sc.TraceState().String()
 	}
+	span := partsOf(sc)
 	b := buffers.Get().(*buffer)
 	defer buffers.Put(b)
 	b.members = appendMembers(b.members[:0], held)
 	for {
-		var texts [3]string
-		done := C.inject(span, state, startOf(b.members), C.size_t(len(b.members)), b.start(), b.capacity())
+		done := C.inject(span, startOf(b.members), C.size_t(len(b.members)), b.start(), b.capacity())
 		switch done.status {
 		case C.OTEL_STATUS_OK:
-			b.cut(done.lengths[:], texts[:])
+			texts[0], texts[2] = b.texts(&done.texts)
+			if done.texts.is_same != 0 {
+				texts[2] = string(b.members)
+			}
 			return texts, nil
 		case C.OTEL_STATUS_NO_ROOM:
-			b.grow(done.lengths[:])
+			b.grow(&done.texts)
 		default:
 			return texts, errorOf(done.status)
 		}

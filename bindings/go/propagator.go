@@ -51,7 +51,7 @@ func (Propagator) Extract(ctx context.Context, carrier propagation.TextMapCarrie
 		ctx = trace.ContextWithRemoteSpanContext(ctx, read.span())
 	}
 	if read.hasBaggage {
-		ctx = baggage.ContextWithBaggage(ctx, baggageOf(read.texts[1]))
+		ctx = baggage.ContextWithBaggage(ctx, baggageOf(read.members))
 	}
 	return ctx
 }
@@ -111,7 +111,7 @@ func get(carrier propagation.TextMapCarrier, name string) string {
 // span returns the span of the headers.
 func (read *extracted) span() trace.SpanContext {
 	return trace.NewSpanContext(trace.SpanContextConfig{
-		TraceID: read.traceID, SpanID: read.spanID, TraceFlags: read.flags, TraceState: stateOf(read.texts[0]), Remote: true,
+		TraceID: read.traceID, SpanID: read.spanID, TraceFlags: read.flags, TraceState: stateOf(read.state), Remote: true,
 	})
 }
 

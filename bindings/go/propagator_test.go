@@ -3,7 +3,9 @@ package otelc
 import (
 	"context"
 	"fmt"
+	"math/rand"
 	"net/http"
+	"sort"
 	"strings"
 	"sync"
 	"testing"
@@ -128,6 +130,105 @@ func TestLongHeaders(t *testing.T) {
 	}
 }
 
+// text returns up to this many of the pieces, at random.
+func text(random *rand.Rand, pieces []string, most int) string {
+	made := ""
+	for count := random.Intn(most + 1); count > 0; count-- {
+		made += pieces[random.Intn(len(pieces))]
+	}
+	return made
+}
+
+// sorted returns the members of the header in their order. OpenTelemetry Go's baggages have none.
+func sorted(header string) string {
+	members := strings.Split(header, ",")
+	sort.Strings(members)
+	return strings.Join(members, ",")
+}
+
+// With a space at its end, no baggage is as the library would write it, so that the library does.
+func TestABaggageIsTheOneThatTheLibraryWrites(t *testing.T) {
+	pieces := []string{"a", "b", "Z", "9", "=", "=", "=1", ",", ",", ";", ";p", "%20", "%2F", "%2f", "%41", "%C3%A9", "%7F", "%",
+		"/", " ", "\t", "!", "~", "(", "\"", "\x7f", "\xe9", "a=1,", "b=%20;p,", "c=2;q=3,"}
+	random := rand.New(rand.NewSource(1))
+	longest, full := "a="+strings.Repeat("v", 8190), "k0=v"
+	for at := 1; at < 65; at++ {
+		full += fmt.Sprintf(",k%d=v", at)
+	}
+	for at, header := 0, ""; at < 20000; at++ {
+		if header = text(random, pieces, 8); at < 4 {
+			header = []string{longest, longest + "v", full, full[:100]}[at]
+		}
+		if header == "" {
+			continue
+		}
+		got, want := read(map[string]string{baggageHeader: header}), read(map[string]string{baggageHeader: header + " "})
+		sent := write(want)[baggageHeader]
+		if sorted(write(got)[baggageHeader]) != sorted(sent) {
+			t.Fatalf("%q: %v is read, not %v", header, baggage.FromContext(got), baggage.FromContext(want))
+		}
+		if again := write(read(map[string]string{baggageHeader: sent + " "}))[baggageHeader]; sorted(again) != sorted(sent) {
+			t.Fatalf("%q is sent, and the library writes %q", sent, again)
+		}
+	}
+}
+
+// A baggage of OpenTelemetry Go is sent as the library writes it.
+func TestAHeldBaggageIsSentAsTheLibraryWritesIt(t *testing.T) {
+	pieces := []string{"a", "Z", "9", "=", "%20", "%2F", "%2f", "%41", "%C3%A9", "%7F", "%", "/", "!", "~", "(", "@"}
+	random := rand.New(rand.NewSource(2))
+	for at := 0; at < 20000; at++ {
+		property, err := baggage.NewKeyValueProperty("p", text(random, pieces, 3))
+		if err != nil {
+			t.Fatal(err)
+		}
+		member, err := baggage.NewMember("k", text(random, pieces, 5), []baggage.Property{property}[:at%2]...)
+		if err != nil {
+			t.Fatal(err)
+		}
+		held, err := baggage.New(member)
+		if err != nil {
+			t.Fatal(err)
+		}
+		sent := write(baggage.ContextWithBaggage(context.Background(), held))[baggageHeader]
+		if again := write(read(map[string]string{baggageHeader: sent + " "}))[baggageHeader]; again != sent {
+			t.Fatalf("%q is sent, and the library writes %q", sent, again)
+		}
+	}
+}
+
+// The library writes each trace state that OpenTelemetry Go can hold as OpenTelemetry Go does.
+func TestAHeldTraceStateIsSentAsTheLibraryWritesIt(t *testing.T) {
+	keys := []string{"a", "z", "9", "_", "-", "*", "/", "@"}
+	values := []string{"a", " ", "!", "~", "+", "/", "@", "9", "-", "<", ">"}
+	random := rand.New(rand.NewSource(3))
+	inserted := 0
+	for at := 0; at < 5000; at++ {
+		state := trace.TraceState{}
+		for pairs := random.Intn(5); pairs > 0; pairs-- {
+			key, value := text(random, keys, 5), text(random, values, 5)
+			if at%9 == 0 {
+				key, value = key+strings.Repeat("k", 251), strings.Repeat(" ", 251)+value
+			}
+			if made, err := state.Insert(key, value); err == nil {
+				state = made
+				inserted++
+			}
+		}
+		sc := trace.NewSpanContext(trace.SpanContextConfig{TraceID: trace.TraceID{1}, SpanID: trace.SpanID{1}, TraceState: state})
+		sent := write(trace.ContextWithSpanContext(context.Background(), sc))
+		if sent[tracestate] != state.String() {
+			t.Fatalf("%q is sent as %q", state, sent[tracestate])
+		}
+		if again := trace.SpanContextFromContext(read(sent)).TraceState().String(); again != sent[tracestate] {
+			t.Fatalf("%q is sent, and the library writes %q", sent[tracestate], again)
+		}
+	}
+	if inserted < 1000 {
+		t.Errorf("only %d pairs are valid", inserted)
+	}
+}
+
 func TestFlagsAreKept(t *testing.T) {
 	parent := exampleParent[:53] + "ff"
 	if sent := write(read(map[string]string{traceparent: parent})); sent[traceparent] != parent {
@@ -166,6 +267,8 @@ var propagators = map[string]propagation.TextMapPropagator{
 // carried are headers of requests: with each header, and with fewer.
 var carried = map[string]mapCarrier{
 	"all":    {traceparent: exampleParent, tracestate: exampleState, baggageHeader: exampleBaggage},
+	"fewest": {traceparent: exampleParent, tracestate: "rojo=1", baggageHeader: "userId=alice"},
+	"most":   {traceparent: exampleParent, tracestate: exampleState + ",blue=a:b", baggageHeader: exampleBaggage + ",t=a;ttl=3,r=eu"},
 	"state":  {traceparent: exampleParent, tracestate: exampleState},
 	"parent": {traceparent: exampleParent},
 }
