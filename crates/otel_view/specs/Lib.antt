@@ -1,3 +1,6 @@
+pub mod Chosen
+pub mod Color
+pub mod Progress
 pub mod Skipped
 pub mod Summary
 pub mod Trace

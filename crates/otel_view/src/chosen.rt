@@ -1,7 +1,9 @@
 //! The traces of a page.
-ghost use Rattle.std.specs.Prelude.{◌≡◌, IfNone, IfOk, OnOk, Some, nat_eq};
-ghost use Rattle.indexmap.specs.IndexMap.{IsEmpty, Updates, get, values};
+ghost use Rattle.std.specs.Prelude.{◌≡◌, IfNone, IfSome, IfOk, OnOk, nat_eq};
+ghost use Rattle.indexmap.specs.IndexMap.{IsEmpty, get, insert_entry, values};
+ghost use Rattle.otel_view.specs.Chosen as spec;
 
+use crate::input::SpanTaker;
 use indexmap::IndexMap;
 use opentelemetry::StringValue;
 use opentelemetry::trace::TraceId;
@@ -25,31 +27,29 @@ impl Chosen {
         }
     }
 
-    /// Adds a trace, without its spans, at the end of the page.
+    /// Adds a trace, without its spans, at the end of the page. A trace with this id is replaced.
     ///
     /// # Errors
     ///
     /// `AllocError` if out of memory.
     pub fn choose(&mut self, trace: PageTrace) -> Result<(), AllocError>
-        ensures { OnOk result
-            (Updates nat_eq self.old.traces self.new.traces trace.trace_id (Some trace)) }
+        ensures { OnOk result (self.new.traces.entries
+            ≡ insert_entry nat_eq self.old.traces.entries trace.trace_id trace) }
     {
         self.traces.insert(trace.trace_id, trace)?;
         Ok(())
     }
 
-    /// Adds the span to its trace. A span of a trace that wasn't chosen isn't kept.
+    /// Adds the span to its trace, after its other spans. A span of a trace that wasn't chosen isn't
+    /// kept.
     ///
     /// # Errors
     ///
     /// `AllocError` if out of memory.
-    pub fn add(
-        &mut self,
-        id: TraceId,
-        service: &StringValue,
-        span: SpanData,
-    ) -> Result<(), AllocError>
-        ensures { OnOk result (IfNone (get nat_eq self.old.traces id)
+    fn add(&mut self, id: TraceId, service: &StringValue, span: SpanData) -> Result<(), AllocError>
+        ensures kept { OnOk result (IfSome (get nat_eq self.old.traces id)
+            (spec.KeepsSpan id service.now span self.old.traces self.new.traces)) }
+        ensures other { OnOk result (IfNone (get nat_eq self.old.traces id)
             (self.new.traces ≡ self.old.traces)) }
     {
         if let Some(trace) = self.traces.get_mut(&id) {
@@ -71,5 +71,11 @@ impl Chosen {
         ensures { IfOk result (λ traces. traces.items ≡ values self.traces) }
     {
         self.traces.into_values().collect(alloc)
+    }
+}
+
+impl SpanTaker for Chosen {
+    fn take(&mut self, service: &StringValue, span: SpanData) -> Result<(), AllocError> {
+        self.add(span.span_context.trace_id(), service, span)
     }
 }

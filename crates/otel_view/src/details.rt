@@ -1,6 +1,7 @@
 //! What a picture of a trace doesn't show: attributes, events, links and statuses.
 
 use crate::clock::Clock;
+use crate::color::{Colors, Paint};
 use anyhow::Result;
 use opentelemetry::KeyValue;
 use opentelemetry::trace::{Event, Link, SpanKind, Status};
@@ -112,12 +113,18 @@ fn push_link(alloc: Global, text: &mut String, link: &Link) -> Result<(), AllocE
 }
 
 /// Appends the status, unless it is unset.
-fn push_status(alloc: Global, text: &mut String, status: &Status) -> Result<(), AllocError> {
+fn push_status(
+    alloc: Global,
+    text: &mut String,
+    colors: Colors,
+    status: &Status,
+) -> Result<(), AllocError> {
     match status {
         Status::Unset => Ok(()),
         Status::Ok => text.push_str("  status ok\n"),
         Status::Error { description } => {
-            text.push_str("  status error: ")?;
+            colors.paint(Paint::Error).push(text, "  status error:")?;
+            text.push(' ')?;
             push_lines(alloc, text, "  ", description.as_str())
         }
     }
@@ -134,59 +141,87 @@ fn kind_word(kind: &SpanKind) -> &'static str {
     }
 }
 
-/// Appends the name of the span, and the line below it.
-fn push_identity(
+/// Appends the events, at their times after the start of the trace, and how many were dropped.
+fn push_events(
     alloc: Global,
     text: &mut String,
-    clock: &Clock,
     start: u64,
-    service: &str,
     span: &SpanData,
-) -> Result<()> {
-    text.push('\n')?;
-    push_lines(alloc, text, "", span.name.as_str())?;
-    let id = span.span_context.span_id();
-    let kind = kind_word(&span.span_kind);
-    let moment = clock.text(alloc, span.start_time)?;
-    let after = duration_text(alloc, start, span.start_time)?;
-    let duration = duration_text(alloc, span.start_time, span.end_time)?;
-    let (moment, after, duration) = (moment.as_str(), after.as_str(), duration.as_str());
-    let line = format!(in alloc; "  {id} {kind}, {moment}, at {after} for {duration}, ")?;
-    text.push_str(line.as_str())?;
-    push_lines(alloc, text, "  ", service)?;
-    Ok(())
-}
-
-/// Appends the details of a span. The trace started at `start`.
-///
-/// # Errors
-///
-/// Out of memory, or a moment that no clock shows.
-pub fn push_span(
-    alloc: Global,
-    text: &mut String,
-    clock: &Clock,
-    start: u64,
-    service: &str,
-    span: &SpanData,
-) -> Result<()> {
-    push_identity(alloc, text, clock, start, service, span)?;
-    push_status(alloc, text, &span.status)?;
-    push_attributes(alloc, text, "  ", span.attributes.as_slice())?;
-    push_dropped(
-        alloc,
-        text,
-        "  ",
-        span.dropped_attributes_count,
-        "attributes",
-    )?;
+) -> Result<(), AllocError> {
     for event in &span.events.events {
         push_event(alloc, text, start, event)?;
     }
-    push_dropped(alloc, text, "  ", span.events.dropped_count, "events")?;
+    push_dropped(alloc, text, "  ", span.events.dropped_count, "events")
+}
+
+/// Appends the links, and how many were dropped.
+fn push_links(alloc: Global, text: &mut String, span: &SpanData) -> Result<(), AllocError> {
     for link in &span.links.links {
         push_link(alloc, text, link)?;
     }
-    push_dropped(alloc, text, "  ", span.links.dropped_count, "links")?;
-    Ok(())
+    push_dropped(alloc, text, "  ", span.links.dropped_count, "links")
+}
+
+/// Appends the status, the attributes, the events and the links of a span.
+fn push_parts(
+    alloc: Global,
+    text: &mut String,
+    colors: Colors,
+    start: u64,
+    span: &SpanData,
+) -> Result<(), AllocError> {
+    push_status(alloc, text, colors, &span.status)?;
+    push_attributes(alloc, text, "  ", span.attributes.as_slice())?;
+    let dropped = span.dropped_attributes_count;
+    push_dropped(alloc, text, "  ", dropped, "attributes")?;
+    push_events(alloc, text, start, span)?;
+    push_links(alloc, text, span)
+}
+
+/// How the spans of a trace are shown.
+#[derive(Drop)]
+pub struct Details {
+    /// The clock of their times.
+    pub clock: Clock,
+    /// Whether errors and names are coloured.
+    pub colors: Colors,
+    /// When the trace started.
+    pub start: u64,
+}
+
+impl Details {
+    /// Returns the line below the name of a span, without the service.
+    fn facts(&self, alloc: Global, span: &SpanData) -> Result<String> {
+        let moment = self.clock.text(alloc, span.start_time)?;
+        let after = duration_text(alloc, self.start, span.start_time)?;
+        let duration = duration_text(alloc, span.start_time, span.end_time)?;
+        let (moment, after, duration) = (moment.as_str(), after.as_str(), duration.as_str());
+        let id = span.span_context.span_id();
+        let kind = kind_word(&span.span_kind);
+        Ok(format!(in alloc; "  {id} {kind}, {moment}, at {after} for {duration}, ")?)
+    }
+
+    /// Appends the name of a span.
+    fn push_name(&self, alloc: Global, text: &mut String, name: &str) -> Result<(), AllocError> {
+        let mut lines = String::new(alloc);
+        push_lines(alloc, &mut lines, "", name)?;
+        let _ = lines.pop();
+        self.colors.paint(Paint::Strong).push(text, lines.as_str())?;
+        text.push('\n')
+    }
+
+    /// Returns the details of a span of this service.
+    ///
+    /// # Errors
+    ///
+    /// Out of memory, or a moment that no clock shows.
+    pub fn text(&self, alloc: Global, service: &str, span: &SpanData) -> Result<String> {
+        let facts = self.facts(alloc, span)?;
+        let mut text = String::from_str(alloc, "\n")?;
+        self.push_name(alloc, &mut text, span.name.as_str())?;
+        text.push_str(facts.as_str())?;
+        push_lines(alloc, &mut text, "  ", service)?;
+        push_parts(alloc, &mut text, self.colors, self.start, span)?;
+        Ok(text)
+    }
 }

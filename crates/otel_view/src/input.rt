@@ -2,8 +2,12 @@
 ghost use Rattle.std.specs.Prelude.{◌≡◌, OnOk, IfOk, IfNone, IfSome};
 ghost use Rattle.otel_view.specs.Skipped as spec;
 
+use crate::progress::{Count, Progress};
 use anyhow::Result;
+use opentelemetry::StringValue;
 use otel_otlp::{ReadError, ResourceSpans, read_resource_spans};
+use otel_sdk_base::resource::Resource;
+use otel_sdk_span::SpanData;
 use std::alloc::{AllocError, Global};
 use std::io::{self, BufRead, BufReader, Read};
 
@@ -11,7 +15,7 @@ use std::io::{self, BufRead, BufReader, Read};
 const NUMBERS: usize = 10;
 
 /// The lines that weren't read.
-#[derive(Debug, Drop)]
+#[derive(Drop)]
 pub struct Skipped {
     /// How many they are.
     pub count: u64,
@@ -77,24 +81,70 @@ fn spans_of(alloc: Global, line: &[u8]) -> Result<Vec<ResourceSpans>, ReadError>
     Ok(groups)
 }
 
+/// What takes the spans of lines.
+pub trait SpanTaker {
+    /// Takes a span that this service recorded.
+    ///
+    /// # Errors
+    ///
+    /// `AllocError` if out of memory.
+    fn take(&mut self, service: &StringValue, span: SpanData) -> Result<(), AllocError>;
+}
+
+/// Returns the name of the service that the resource describes.
+fn service_of(alloc: Global, resource: &Resource) -> Result<StringValue, AllocError> {
+    match resource.get("service.name") {
+        Some(value) => StringValue::from_value(alloc, value.clone()?),
+        None => Ok(StringValue::from("")),
+    }
+}
+
+/// Passes on the spans of a resource, in their order.
+fn pass_group<T: SpanTaker>(
+    alloc: Global,
+    taker: &mut T,
+    group: ResourceSpans,
+) -> Result<(), AllocError> {
+    let service = service_of(alloc, &group.resource)?;
+    for span in group.spans {
+        taker.take(&service, span)?;
+    }
+    Ok(())
+}
+
+/// Passes on the spans of a line, in their order.
+fn pass_groups<T: SpanTaker>(
+    alloc: Global,
+    taker: &mut T,
+    groups: Vec<ResourceSpans>,
+) -> Result<(), AllocError> {
+    for group in groups {
+        pass_group(alloc, taker, group)?;
+    }
+    Ok(())
+}
+
 /// The lines of a reader, read one by one.
 #[derive(Drop)]
 pub struct Lines<R> {
     alloc: Global,
+    progress: Progress,
     reader: BufReader<R>,
     line: Vec<u8>,
-    number: u64,
+    count: Count,
     skipped: Skipped,
 }
 
 impl<R: Read + Drop> Lines<R> {
     /// Returns the lines of the reader.
-    pub fn new(alloc: Global, reader: R) -> io::Result<Lines<R>> {
+    pub fn new(rt: HostRuntime, reader: R) -> io::Result<Lines<R>> {
+        let alloc = rt.alloc();
         Ok(Lines {
             alloc,
+            progress: Progress::new(rt),
             reader: BufReader::new(alloc, reader)?,
             line: Vec::new(alloc),
-            number: 0,
+            count: Count { lines: 0, bytes: 0 },
             skipped: Skipped::new(alloc),
         })
     }
@@ -102,16 +152,22 @@ impl<R: Read + Drop> Lines<R> {
     /// Reads the next line. Returns `false` at the end.
     fn read_line(&mut self) -> io::Result<bool> {
         self.line.clear();
-        let count = self.reader.read_until(b'\n', &mut self.line)?;
-        self.number = self.number.saturating_add(1);
-        Ok(count > 0)
+        let bytes = self.reader.read_until(b'\n', &mut self.line)?;
+        let before = self.count;
+        self.count = before.with_line(bytes);
+        if bytes == 0 {
+            self.progress.clear(self.count)?;
+            return Ok(false);
+        }
+        self.progress.tell(before, self.count)?;
+        Ok(true)
     }
 
     /// Returns the spans of the line that was read, or `None` if it has none. A line without spans
     /// is counted unless it is blank.
     fn spans(&mut self) -> Result<Option<Vec<ResourceSpans>>, AllocError>
-        ensures none { IfOk result (λ groups. IfNone groups (spec.SkipsLine self.old.number
-            self.old.line.items self.old.skipped self.new.skipped)) }
+        ensures none { IfOk result (λ groups. IfNone groups (spec.SkipsLine
+            self.old.count.lines self.old.line.items self.old.skipped self.new.skipped)) }
         ensures some { IfOk result (λ groups. IfSome groups (λ _.
             self.new.skipped ≡ self.old.skipped)) }
     {
@@ -127,30 +183,38 @@ impl<R: Read + Drop> Lines<R> {
 
     /// Counts the line that was read, unless it is blank.
     fn skip(&mut self) -> Result<(), AllocError>
-        ensures { OnOk result (spec.SkipsLine self.old.number self.old.line.items
+        ensures { OnOk result (spec.SkipsLine self.old.count.lines self.old.line.items
             self.old.skipped self.new.skipped) }
     {
         if is_blank(self.line.as_slice()) {
             return Ok(());
         }
-        self.skipped.add(self.number)
+        self.skipped.add(self.count.lines)
     }
 
-    /// Returns the spans of the next line that has some, or `None` at the end.
+    /// Reads the next line, and passes its spans on. Returns `false` at the end.
+    fn pass_line<T: SpanTaker>(&mut self, taker: &mut T) -> Result<bool> {
+        if !self.read_line()? {
+            return Ok(false);
+        }
+        if let Some(groups) = self.spans()? {
+            pass_groups(self.alloc, taker, groups)?;
+        }
+        Ok(true)
+    }
+
+    /// Passes on the spans of all lines, in their order.
     ///
     /// # Errors
     ///
     /// The reader's error, or out of memory.
-    pub fn next_spans(&mut self) -> Result<Option<Vec<ResourceSpans>>> {
+    pub fn pass_all<T: SpanTaker>(&mut self, taker: &mut T) -> Result<()> {
         for _ in 0..u64::MAX {
-            if !self.read_line()? {
-                return Ok(None);
-            }
-            if let Some(groups) = self.spans()? {
-                return Ok(Some(groups));
+            if !self.pass_line(taker)? {
+                break;
             }
         }
-        Ok(None)
+        Ok(())
     }
 
     /// Returns the lines that weren't read.

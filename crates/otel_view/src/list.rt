@@ -1,6 +1,7 @@
 //! The list of traces.
 
 use crate::clock::Clock;
+use crate::color::{Colors, Paint};
 use crate::summary::{Head, Summary};
 use anyhow::Result;
 use opentelemetry::trace::TraceId;
@@ -11,7 +12,7 @@ use std::alloc::{AllocError, Global};
 const FIXED: usize = 52;
 
 /// The columns of the service and of the root's name.
-#[derive(Clone, Copy, Debug)]
+#[derive(Clone, Copy)]
 pub struct Columns {
     service: usize,
     name: usize,
@@ -74,21 +75,52 @@ fn push_head(
     push_cell(alloc, line, name.as_str(), columns.name, false)
 }
 
-/// Returns the line of a trace.
-pub fn line(alloc: Global, clock: &Clock, columns: Columns, record: &Summary) -> Result<String> {
+/// Appends the number of errors, which is shown as one unless it is 0.
+fn push_errors(
+    alloc: Global,
+    line: &mut String,
+    colors: Colors,
+    errors: u64,
+) -> Result<(), AllocError> {
+    let count = format!(in alloc; "{errors:>6}")?;
+    colors.error_if(errors > 0).push(line, count.as_str())?;
+    line.push(' ')
+}
+
+/// Appends the id, the start, the duration and the number of spans.
+fn push_numbers(alloc: Global, line: &mut String, clock: &Clock, record: &Summary) -> Result<()> {
     let id = first_digits(alloc, record.id)?;
     let start = clock.text(alloc, record.start)?;
     let duration = duration_text(alloc, record.start, record.end)?;
     let (id, start, duration) = (id.as_str(), start.as_str(), duration.as_str());
-    let (spans, errors) = (record.spans, record.errors);
-    let mut line = format!(in alloc; "{id} {start} {duration:>9} {spans:>5} {errors:>6} ")?;
+    let spans = record.spans;
+    line.push_str(format!(in alloc; "{id} {start} {duration:>9} {spans:>5} ")?.as_str())?;
+    Ok(())
+}
+
+/// Returns the line of a trace.
+pub fn line(
+    alloc: Global,
+    clock: &Clock,
+    colors: Colors,
+    columns: Columns,
+    record: &Summary,
+) -> Result<String> {
+    let mut line = String::new(alloc);
+    push_numbers(alloc, &mut line, clock, record)?;
+    push_errors(alloc, &mut line, colors, record.errors)?;
     push_head(alloc, &mut line, columns, &record.head)?;
     line.push('\n')?;
     Ok(line)
 }
 
 /// Returns the line above the list.
-pub fn heading(alloc: Global, clock: &Clock, columns: Columns) -> Result<String, AllocError> {
+pub fn heading(
+    alloc: Global,
+    clock: &Clock,
+    colors: Colors,
+    columns: Columns,
+) -> Result<String, AllocError> {
     let start = if clock.is_local() {
         "start"
     } else {
@@ -99,6 +131,11 @@ pub fn heading(alloc: Global, clock: &Clock, columns: Columns) -> Result<String,
         "trace", "duration", "spans", "errors"
     )?;
     push_cell(alloc, &mut line, "service", columns.service, true)?;
-    line.push_str(" root\n")?;
-    Ok(line)
+    line.push_str(" root")?;
+    let mut heading = String::new(alloc);
+    colors
+        .paint(Paint::Strong)
+        .push(&mut heading, line.as_str())?;
+    heading.push('\n')?;
+    Ok(heading)
 }

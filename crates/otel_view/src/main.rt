@@ -4,16 +4,20 @@
 mod args;
 mod chosen;
 mod clock;
+mod color;
 mod details;
 mod input;
 mod list;
 mod page;
+mod picture;
+mod progress;
 mod summary;
 mod trace;
 mod view;
 
 use anyhow::Result;
 use args::{Options, command};
+use clap::ArgMatches;
 use std::fs::File;
 use std::process::ExitCode;
 use view::view;
@@ -27,16 +31,23 @@ fn run(rt: HostRuntime, options: &Options<'_>) -> Result<()> {
     view(rt, options, file)
 }
 
+/// Shows the traces that the arguments ask for.
+fn show(rt: HostRuntime, matches: &ArgMatches<'_>) -> Result<ExitCode> {
+    let options = Options::of(matches)?;
+    run(rt, &options)?;
+    Ok(ExitCode::SUCCESS)
+}
+
+/// Tells why the arguments are refused, or prints the help.
+fn refuse(rt: HostRuntime, error: &clap::Error) -> Result<ExitCode> {
+    error.print(&rt)?;
+    Ok(ExitCode::from(error.exit_code() as u8))
+}
+
 fn main(rt: HostRuntime) -> Result<ExitCode> {
     let words: Vec<String> = std::env::args(&rt)?.collect(rt.alloc())?;
     match command(rt.alloc())?.try_get_matches_from(words.as_slice()) {
-        Ok(matches) => {
-            run(rt, &Options::of(&matches)?)?;
-            Ok(ExitCode::SUCCESS)
-        }
-        Err(error) => {
-            error.print(&rt)?;
-            Ok(ExitCode::from(error.exit_code() as u8))
-        }
+        Ok(matches) => show(rt, &matches),
+        Err(error) => refuse(rt, &error),
     }
 }

@@ -1,4 +1,7 @@
 //! A page of HTML with traces.
+ghost use Rattle.std.specs.Prelude.{◌≡◌, IfOk};
+ghost use Rattle.indexmap.specs.IndexMap.{keys};
+ghost use Rattle.otel_view.specs.Chosen as spec;
 
 use crate::chosen::Chosen;
 use crate::clock::Clock;
@@ -45,12 +48,14 @@ pub fn page_trace(rt: HostRuntime, found: Found) -> Result<PageTrace> {
     })
 }
 
-/// Chooses the traces of these records, in this order.
+/// Chooses the traces of these records, in this order, each once.
 ///
 /// # Errors
 ///
 /// A moment that no clock shows, or out of memory.
-pub fn choose(rt: HostRuntime, records: &[Summary]) -> Result<Chosen> {
+pub fn choose(rt: HostRuntime, records: &[Summary]) -> Result<Chosen>
+    ensures { IfOk result (λ chosen. keys chosen.traces ≡ spec.ids_of records.now) }
+{
     let clock = Clock::new(rt);
     let mut chosen = Chosen::new(rt.alloc());
     for record in records {

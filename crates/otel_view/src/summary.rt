@@ -3,13 +3,15 @@ ghost use Rattle.std.specs.Prelude.{◌≡◌, ◌-◌, Some, IfOk, OnOk, filter
 ghost use Rattle.indexmap.specs.IndexMap.{IsEmpty, Updates, get, values};
 ghost use Rattle.otel_view.specs.Summary as spec;
 
+use crate::input::SpanTaker;
 use indexmap::IndexMap;
 use opentelemetry::StringValue;
-use opentelemetry::trace::TraceId;
+use opentelemetry::trace::{SpanId, Status, TraceId};
+use otel_sdk_span::SpanData;
 use std::alloc::{AllocError, Global};
 
 /// The span that names a trace.
-#[derive(Debug, Drop)]
+#[derive(Drop)]
 pub struct Head {
     /// Whether it has no parent.
     pub is_root: bool,
@@ -22,7 +24,7 @@ pub struct Head {
 }
 
 /// A span, as the record of its trace sees it.
-#[derive(Debug, Drop)]
+#[derive(Drop)]
 pub struct Part {
     /// The id of its trace.
     pub trace: TraceId,
@@ -37,7 +39,7 @@ pub struct Part {
 }
 
 /// The record of a trace.
-#[derive(Debug, Drop)]
+#[derive(Drop)]
 pub struct Summary {
     /// The id of the trace.
     pub id: TraceId,
@@ -151,7 +153,7 @@ impl Traces {
     }
 
     /// Returns the records that pass the filter.
-    pub fn into_records(self, alloc: Global, wanted: Filter) -> Result<Vec<Summary>, AllocError>
+    fn into_records(self, alloc: Global, wanted: Filter) -> Result<Vec<Summary>, AllocError>
         ensures { IfOk result (λ kept.
             kept.items ≡ filter (spec.takes wanted) (values self.records)) }
     {
@@ -160,10 +162,69 @@ impl Traces {
             .filter(|trace| wanted.takes(trace))
             .collect(alloc)
     }
+
+    /// Returns the newest records that pass the filter, at most `limit`, the newest first.
+    ///
+    /// # Errors
+    ///
+    /// `AllocError` if out of memory.
+    pub fn into_newest(
+        self,
+        alloc: Global,
+        wanted: Filter,
+        limit: usize,
+    ) -> Result<Vec<Summary>, AllocError>
+        ensures { IfOk result (λ kept. spec.AreNewest limit
+            (filter (spec.takes wanted) (values self.records)) kept.items) }
+    {
+        let mut records = self.into_records(alloc, wanted)?;
+        keep_newest(&mut records, limit)?;
+        Ok(records)
+    }
+}
+
+/// Returns the span as the record of its trace sees it.
+fn part_of(span: SpanData, service: &StringValue, is_wanted: bool) -> Result<Part, AllocError> {
+    Ok(Part {
+        trace: span.span_context.trace_id(),
+        end: span.end_time,
+        is_error: matches!(&span.status, Status::Error { .. }),
+        is_wanted,
+        head: Head {
+            is_root: span.parent_span_id == SpanId::INVALID,
+            start: span.start_time,
+            service: service.clone()?,
+            name: span.name,
+        },
+    })
+}
+
+/// Returns `true` if this service, or none, was asked for.
+fn is_asked_for(wanted: Option<&str>, service: &str) -> bool {
+    match wanted {
+        Some(wanted) => service == wanted,
+        None => true,
+    }
+}
+
+/// The records of traces, of which some have a span of a service.
+#[derive(Drop)]
+pub struct Counting<'a> {
+    /// The service that was asked for.
+    pub service: Option<&'a str>,
+    /// The records.
+    pub traces: Traces,
+}
+
+impl<'a> SpanTaker for Counting<'a> {
+    fn take(&mut self, service: &StringValue, span: SpanData) -> Result<(), AllocError> {
+        let is_wanted = is_asked_for(self.service, service.as_str());
+        self.traces.add(part_of(span, service, is_wanted)?)
+    }
 }
 
 /// The traces that were asked for.
-#[derive(Clone, Copy, Debug)]
+#[derive(Clone, Copy)]
 pub struct Filter {
     /// Only traces with an error.
     pub errors: bool,
@@ -197,7 +258,7 @@ fn age(trace: &Summary) -> u64
 /// # Errors
 ///
 /// `AllocError` if out of memory.
-pub fn keep_newest(records: &mut Vec<Summary>, limit: usize) -> Result<(), AllocError>
+fn keep_newest(records: &mut Vec<Summary>, limit: usize) -> Result<(), AllocError>
     ensures { OnOk result (spec.AreNewest limit records.old.items records.new.items) }
 {
     records.sort_by_key(|trace| age(trace))?;

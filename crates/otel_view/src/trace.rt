@@ -2,6 +2,7 @@
 ghost use Rattle.std.specs.Prelude.{◌≡◌, ◌&&◌, IfOk, OnOk, string_bytes};
 ghost use Rattle.otel_view.specs.Trace as spec;
 
+use crate::input::SpanTaker;
 use opentelemetry::StringValue;
 use opentelemetry::trace::TraceId;
 use otel_sdk_span::SpanData;
@@ -55,7 +56,7 @@ fn is_first(ids: &[TraceId], id: TraceId) -> bool
 }
 
 /// The spans of the trace that was asked for.
-#[derive(Debug, Drop)]
+#[derive(Drop)]
 pub struct Found {
     /// The digits that the trace's id begins with, in lower case.
     digits: String,
@@ -93,19 +94,6 @@ impl Found {
         Ok(is_first(self.ids.as_slice(), id))
     }
 
-    /// Adds the span, if it belongs to the trace.
-    ///
-    /// # Errors
-    ///
-    /// `AllocError` if out of memory.
-    pub fn add(&mut self, service: &StringValue, span: SpanData) -> Result<(), AllocError> {
-        if self.takes(span.span_context.trace_id())? {
-            self.services.push(service.clone()?)?;
-            self.spans.push(span)?;
-        }
-        Ok(())
-    }
-
     /// Returns the starts and the places of the spans, ordered by start and then by place.
     ///
     /// # Errors
@@ -118,5 +106,16 @@ impl Found {
         }
         places.sort()?;
         Ok(places)
+    }
+}
+
+impl SpanTaker for Found {
+    /// Adds the span, if it belongs to the trace.
+    fn take(&mut self, service: &StringValue, span: SpanData) -> Result<(), AllocError> {
+        if self.takes(span.span_context.trace_id())? {
+            self.services.push(service.clone()?)?;
+            self.spans.push(span)?;
+        }
+        Ok(())
     }
 }
