@@ -8,7 +8,7 @@ use std::collections::HashMap;
 
 pub type Carrier = HashMap<String, String>;
 
-/// The number of keys, and the keys in rising order.
+/// The number of keys, and the keys in sorted order.
 fn keys(alloc: Global, carrier: &Carrier) -> Result<Answer, Fault> {
     let keys = Extractor::keys(carrier, alloc)?;
     let mut answer = Answer::new(alloc);

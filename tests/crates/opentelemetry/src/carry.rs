@@ -128,7 +128,7 @@ fn attached_in_order(outcomes: &[AttachOutcome]) -> u16 {
     position
 }
 
-/// Asserts that all positions were taken, that the next attach was refused, and the outcome of an
+/// Asserts that all positions were used, that the next attach was refused, and the outcome of an
 /// attach after the detaches.
 fn assert_limit(rt: &impl Abort, outcomes: &[AttachOutcome], again: Option<AttachOutcome>) {
     assert_eq!(rt; outcomes.len(), if again.is_some() { 65536 } else { 65535 });

@@ -81,7 +81,7 @@ const TABLES: &[&[Row]] = &[
 struct Asked {
     stack: ContextStack,
     by_guards: bool,
-    /// A second stack, which makes guards of any position, and takes the unneeded ones.
+    /// A second stack, which makes guards of any position, and drops the unneeded ones.
     elsewhere: ContextStack,
 }
 

@@ -1,4 +1,4 @@
-//! What no clause says: rows of outside documents, printed texts, limits and odd inputs.
+//! Facts that no clause states: rows of outside documents, printed texts, limits and odd inputs.
 #![tactic(auto)]
 
 mod ids_and_flags;

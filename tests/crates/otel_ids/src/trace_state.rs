@@ -67,7 +67,7 @@ const KEYS: &[(&str, bool)] = &[
     ("", false),
 ];
 
-/// The header of the state of that pair, or the error where it isn't a key.
+/// The header of the state of that pair, or the error if the key isn't valid.
 fn header_of(alloc: Global, key: &str, is_taken: bool) -> Result<String, AllocError> {
     if is_taken {
         format!(in alloc; "{key}=1")
@@ -131,7 +131,7 @@ fn given_pairs_keep_their_order(rt: HostRuntime) -> Result<(), Fail> {
     Ok(())
 }
 
-/// The state after so many inserts of `key0=value0`, `key1=value1` and so on.
+/// The state after this number of inserts: `key0=value0`, `key1=value1` and so on.
 fn inserted(alloc: Global, count: u32) -> Result<TraceState, TraceStateError> {
     let mut state = TraceState::NONE;
     for i in 0..count {

@@ -27,7 +27,7 @@ fn in_maps(alloc: Global, levels: usize, value: AnyValue) -> Result<AnyValue, Al
     Ok(tree)
 }
 
-// The text of so many pairs of `open` and `close` within each other, around the text.
+// The text inside this number of nested pairs of `open` and `close`.
 fn within(
     alloc: Global,
     levels: usize,
@@ -46,12 +46,12 @@ fn within(
     Ok(text)
 }
 
-// The text of so many lists within each other.
+// The text of this number of nested lists.
 fn lists(alloc: Global, levels: usize, inner: &str) -> Result<String, AllocError> {
     within(alloc, levels, "{\"arrayValue\":{\"values\":[", inner, "]}}")
 }
 
-// The text of so many maps within each other.
+// The text of this number of nested maps.
 fn maps(alloc: Global, levels: usize, inner: &str) -> Result<String, AllocError> {
     let open = "{\"kvlistValue\":{\"values\":[{\"key\":\"k\",\"value\":";
     within(alloc, levels, open, inner, "}]}}")

@@ -266,7 +266,7 @@ fn a_part_that_was_taken_is_not_sent_again(rt: HostRuntime) -> Result<(), Fail> 
 #[test]
 fn the_endpoint_gives_the_target(rt: HostRuntime) -> Result<(), Fail> {
     let alloc = rt.alloc();
-    // The endpoint, whether it is the one of spans, and the target.
+    // The endpoint, whether it is for spans, and the target.
     let rows = [
         ("http://h:4318", false, "/v1/traces"),
         ("http://h:4318/", false, "/v1/traces"),

@@ -1,4 +1,4 @@
-//! Lines that are read: those of the exporter, and those that others write.
+//! Lines that are read: lines of the exporter, and lines of other programs.
 use crate::batches::{attribute, cart, root, scope, three};
 use opentelemetry::trace::{
     Event, Link, SpanContext, SpanId, SpanKind, Status, TraceFlags, TraceId, TraceState,

@@ -5,7 +5,7 @@ use otel_otlp::{ReadError, read_resource_spans, read_traces};
 use std::alloc::{AllocError, Global};
 use std::test::Fail;
 
-// The text so many times.
+// The text, repeated this number of times.
 fn repeated(alloc: Global, text: &str, times: usize) -> Result<String, AllocError> {
     let mut all = String::new(alloc);
     for _ in 0..times {

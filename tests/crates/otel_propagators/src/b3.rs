@@ -14,7 +14,7 @@ use test_support::map_of;
 /// A trace id, a span id, and the flags.
 pub type Ids = (u128, u64, u8);
 
-/// What is extracted: ids, flags, and the debug flag.
+/// The extracted ids, flags and debug flag.
 type Read = Option<(u128, u64, u8, bool)>;
 
 /// Headers: names and values.

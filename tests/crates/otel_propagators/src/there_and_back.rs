@@ -120,7 +120,7 @@ const WAYS: [Way; 3] = [Way::InTurn, Way::Composite, Way::Join];
 
 type Members = Vec<Box<dyn TextMapPropagator>>;
 
-/// Both propagators, the one of `baggage` first or last.
+/// Both propagators, with the propagator of `baggage` first or last.
 fn members(alloc: Global, baggage_first: bool) -> Result<Members, AllocError> {
     let trace: Box<dyn TextMapPropagator> = Box::new(alloc, TraceContextPropagator::new(alloc)?)?;
     let baggage: Box<dyn TextMapPropagator> = Box::new(alloc, BaggagePropagator::new(alloc)?)?;

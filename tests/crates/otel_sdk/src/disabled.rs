@@ -1,4 +1,4 @@
-//! A disabled SDK: no span starts, and what a caller sent is sent on as it was received.
+//! A disabled SDK: no span starts, and the caller's headers are sent on as they were received.
 use crate::env::config;
 use opentelemetry::logs::{Logger, LoggerProvider, Severity};
 use opentelemetry::propagation::text_map_propagator::TextMapPropagator;
@@ -79,7 +79,7 @@ fn app(rt: HostRuntime, disabled: &str, times: &Rc<Cell<u64>>) -> Result<App, Fa
     )
 }
 
-/// Each call on the current span, in a span of its own and in those of work.
+/// Each call on the current span: in an entered span, and in the span of work.
 fn work(alloc: Global, app: &mut App) -> Result<(), Fail> {
     let serve = app.enter("serve")?;
     app.set_attribute(KeyValue::new(Key::from("k"), Value::I64(1)))?;

@@ -1,4 +1,4 @@
-//! The configuration by environment variables: each variable, and what its faults give.
+//! The configuration by environment variables: each variable, and the effect of its faults.
 use opentelemetry::{StringValue, Value};
 use otel_sdk::EnvConfig;
 use otel_sdk::env::{EnvEndpoint, EnvExporter, EnvPropagator, EnvSampler};

@@ -81,7 +81,7 @@ fn a_limit_may_be_zero_or_over_128(rt: HostRuntime) -> Result<(), Fail> {
     Ok(())
 }
 
-/// Returns what is left of the value under a limit on the length.
+/// Returns the value truncated to a limit on the length.
 fn cut(rt: &impl Abort, alloc: Global, length: u32, value: AnyValue) -> AnyValue {
     let mut record = within(alloc, 1, Some(length));
     let answer = record.add_attribute(alloc, Key::from("key"), value);

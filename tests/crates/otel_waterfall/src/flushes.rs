@@ -27,7 +27,7 @@ impl Write for Counting {
     }
 }
 
-/// A disk without room.
+/// A full disk.
 #[derive(Drop)]
 struct Full;
 

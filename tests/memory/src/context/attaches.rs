@@ -1,9 +1,9 @@
-//! Attaches to stacks, and their room.
+//! Attaches to stacks, and their capacity.
 use crate::lines::Lines;
 use otel_context::{Context, ContextGuard, ContextStack};
 use std::alloc::{AllocError, Global};
 
-/// The number of attachments for which a new stack has room.
+/// The number of attachments that fit into a new stack.
 const INITIAL_ROOM: u16 = 8;
 
 /// A number of attachments for which a stack has to allocate.
@@ -140,7 +140,7 @@ fn unwound(stack: &mut ContextStack, count: u16) -> bool {
     stands(stack, 0, false)
 }
 
-/// Pushes until the stack has no room left and can't get any. The earlier attachments must remain.
+/// Pushes until the stack is full and can't grow. The earlier attachments must remain.
 fn push<R: Print>(lines: &Lines<'_, R>, stack: &mut ContextStack, suppressed: &Context) {
     let (count, last) = filled(stack, suppressed);
     lines.answer_of(last);
@@ -157,8 +157,8 @@ fn emptied(stack: &mut ContextStack, count: u16) -> bool {
     stands(stack, 0, false)
 }
 
-/// A stack keeps the room that it allocated: if it is filled, emptied and filled again, it doesn't
-/// allocate again.
+/// A stack keeps the capacity that it allocated: if it is filled, emptied and filled again, it
+/// doesn't allocate again.
 fn push_again<R: Print>(
     lines: &Lines<'_, R>,
     stack: &mut ContextStack,
@@ -223,7 +223,7 @@ fn nested(stack: &mut ContextStack, way: &Way<'_>, depth: u16) -> (Result<u16, A
     }
 }
 
-/// Attaches until the stack has no room left and can't get any.
+/// Attaches until the stack is full and can't grow.
 fn attach<R: Print>(lines: &Lines<'_, R>, stack: &mut ContextStack, way: &Way<'_>) {
     let (answer, is_due) = nested(stack, way, MANY);
     lines.answer_of(answer);

@@ -13,7 +13,7 @@ use std::collections::HashMap;
 /// The keys of a carrier's texts after each pair is set, in this order.
 const KEYS: [&str; 4] = [KEPT, "traceparent", "tracestate", "baggage"];
 
-/// The number of attachments for which a new stack has room.
+/// The number of attachments that fit into a new stack.
 const ROOM: usize = 8;
 
 /// The `traceparent` of each attach of a run, whose number, from 1, is both ids of its span.

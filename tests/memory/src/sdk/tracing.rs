@@ -19,7 +19,7 @@ use std::alloc::{AllocError, Global};
 
 pub type App = Tracing<OpenPipeline<Sampler, CountedIdGenerator, ManualClock>, Tally>;
 
-/// The number of attachments for which a new stack has room.
+/// The number of attachments that fit into a new stack.
 const ROOM: u16 = 8;
 
 pub fn play<R: Print>(rt: HostRuntime, lines: &Lines<'_, R>) {
@@ -66,7 +66,7 @@ pub fn enter(app: &mut App) -> Result<Entered, AllocError> {
     }
 }
 
-/// A value whose stack has to request more room at the next attach.
+/// A value whose stack has to grow at the next attach.
 fn crowded(rt: HostRuntime) -> Result<App, AllocError> {
     let mut app = app(rt)?;
     for _ in 0..ROOM {

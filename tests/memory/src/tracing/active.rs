@@ -36,7 +36,7 @@ enum Call {
     MarkSpanAsActive,
 }
 
-/// The scenarios, each of which starts with a stack that has to request more room at the next
+/// The scenarios, each of which starts with a stack that has to grow at the next
 /// attach.
 const CALLS: [(&str, Call); 3] = [
     ("context-with-span", Call::WithSpan),
@@ -44,7 +44,7 @@ const CALLS: [(&str, Call); 3] = [
     ("mark-span-as-active", Call::MarkSpanAsActive),
 ];
 
-/// A stack that has to request more room at the next attach. The current context has a remote span.
+/// A stack that has to grow at the next attach. The current context has a remote span.
 pub fn stack(alloc: Global) -> Result<ContextStack, AllocError> {
     let mut stack = ContextStack::new(alloc)?;
     for _ in 1..ATTACHED {

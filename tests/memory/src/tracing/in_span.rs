@@ -17,7 +17,7 @@ enum Call {
     WithBuilderAndContext,
 }
 
-/// The scenarios, each of which starts with a stack that has to request more room at the next
+/// The scenarios, each of which starts with a stack that has to grow at the next
 /// attach.
 const CALLS: [(&str, Call); 4] = [
     ("tracer-in-span", Call::InSpan),

@@ -242,7 +242,7 @@ fn the_longest_header_has_24575_bytes(rt: HostRuntime) -> Result<(), Fail> {
     Ok(())
 }
 
-/// A baggage with `k` and a value of `count` spaces, if there is room for it.
+/// A baggage with `k` and a value of `count` spaces, if it fits.
 fn spaces(alloc: Global, count: usize) -> Result<Baggage, AllocError> {
     let mut baggage = Baggage::new(alloc);
     let value = StringValue::from(" ".repeat(alloc, count)?);

@@ -27,13 +27,13 @@ fn made(alloc: Global, way: Way, key: &str, value: &str) -> Result<TraceState, T
     }
 }
 
-/// How many bytes a key or a value has, and whether it is taken.
+/// The number of bytes of a key or a value, and whether it is accepted.
 const BYTES: &[(usize, bool)] = &[(255, true), (256, true), (257, false)];
 
-/// How many bytes stand after the `@` of a key, and whether it is taken.
+/// The number of bytes after the `@` of a key, and whether the key is accepted.
 const AFTER_AT: &[(usize, bool)] = &[(12, true), (13, true), (14, false)];
 
-/// Asserts that each call takes the key, or reports it.
+/// Asserts that each call accepts the key, or reports it.
 fn assert_key(rt: &impl Abort, alloc: Global, key: &str, is_taken: bool) {
     for way in WAYS {
         let answer = made(alloc, *way, key, "1");

@@ -36,7 +36,7 @@ fn after(alloc: Global, count: usize, end: &str) -> Result<String, AllocError> {
     Ok(text)
 }
 
-/// How many times `a=1` comes, what comes after it, and the header then.
+/// The number of times that `a=1` is given, the text after it, and the resulting header.
 const COUNTED: &[(usize, &str, &str)] = &[
     (30, "a=2,b=3", "a=1,b=3"),
     (31, "b=2", "a=1,b=2"),
@@ -83,7 +83,7 @@ fn pairs_that_are_left_out_are_checked(rt: HostRuntime) -> Result<(), Fail> {
     Ok(())
 }
 
-/// How many bytes two keys share at their front, what follows in each, and whether both are read.
+/// The length of the common start of two keys, the rest of each, and whether both are read.
 const ALIKE: &[(usize, &str, &str, bool)] = &[
     (255, "a", "b", true),
     (255, "a", "a", false),

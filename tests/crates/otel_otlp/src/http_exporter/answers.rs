@@ -1,4 +1,4 @@
-//! The answers of a collector, and what an exporter makes of each.
+//! The answers of a collector, and the effect of each on an exporter.
 use crate::http_exporter::told::Reply;
 
 /// What an exporter has counted: the rejected records, those given up, and the responses that

@@ -16,7 +16,7 @@ fn folder(rt: HostRuntime) -> Result<String, Fail> {
     Ok(folder)
 }
 
-/// The contents of the files `request` and `response`, if they are there, and the answer.
+/// The contents of the files `request` and `response`, if they exist, and the answer.
 const FOLDERS: [(Option<&'static str>, Option<&'static str>, Answer); 7] = [
     (Some(""), Some(OK), Ok((200, "{}", false))),
     (

@@ -209,7 +209,7 @@ fn it_works_beside_the_headers_of_the_w3c(rt: HostRuntime) -> Result<(), Fail> {
     Ok(())
 }
 
-/// A carrier that has room for this many texts, and refuses the others.
+/// A carrier that accepts this number of texts, and refuses the others.
 #[derive(Drop)]
 struct Small {
     texts: HashMap<String, String>,
