@@ -1,7 +1,7 @@
 -- How an attribute is set in a list with unique keys and a limit, and how long texts are truncated.
-use Rattle.std.specs.Prelude.{◌≡◌, ℕ, ◌+◌, List, [], ◌∷◌, ◌++◌, length, map, Bool, true, false}
-use Rattle.std.specs.Prelude.{◌||◌, nat_lt, fold, Option, Some, None, is_some, codes, refl}
-use Rattle.std.specs.Prelude.{if◌then◌else◌, position, slice_set}
+use Rattle.std.specs.Prelude.{◌≡◌, ℕ, ◌+◌, ◌<◌, List, [], ◌∷◌, ◌++◌, length, map, take}
+use Rattle.std.specs.Prelude.{Bool, true, false, ◌||◌, nat_lt, fold, Option, Some, None, is_some}
+use Rattle.std.specs.Prelude.{if◌then◌else◌, position, slice_set, codes, refl}
 use Rattle.std.specs.List.{IsDistinct}
 use Rattle.std.specs.Option.{option_map_or}
 use Rattle.std.specs.Fmt.{take_chars}
@@ -101,6 +101,11 @@ Puts attribute old new = attributes_of new ≡ put (attributes_of old) (attribut
 -- `new` is `old` with each of the given attributes put in turn
 abbrev pub PutsAll : Vec KeyValue Global → Vec KeyValue Global → Vec KeyValue Global → Type 0
 PutsAll given old new = attributes_of new ≡ put_all (attributes_of old) (attributes_of given)
+
+-- `new` is `old` with the first of the given attributes put in turn, but not all of them
+abbrev pub PutsFirst : Vec KeyValue Global → Vec KeyValue Global → Vec KeyValue Global → Type 0
+PutsFirst given old new = (n : ℕ) × (n < length given.items)
+    × (attributes_of new ≡ put_all (attributes_of old) (take n (attributes_of given)))
 
 -- whether the attribute is kept in the list under the limit
 abbrev pub is_kept : ℕ → KeyValue → Vec KeyValue Global → Bool

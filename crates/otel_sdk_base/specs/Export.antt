@@ -1,6 +1,6 @@
 -- How a queue is exported in batches, what an exporter says about its calls, and the state of an
 -- in-memory exporter.
-use Rattle.std.specs.Prelude.{◌≡◌, ℕ, zero, suc, ◌*◌, ◌<◌, Bool, List, [], ◌∷◌, ◌++◌, take, drop}
+use Rattle.std.specs.Prelude.{◌≡◌, ℕ, zero, suc, ◌*◌, ◌-◌, ◌<◌, Bool, List, [], ◌∷◌, ◌++◌, take, drop}
 use Rattle.std.specs.Prelude.{length, refl, Result, Ok, true, if◌then◌else◌, alloc_error}
 use Rattle.std.specs.List.{flat_map}
 use Rattle.otel_sdk_base.specs.Resource.{Parts}
@@ -16,6 +16,10 @@ items_of batches = flat_map (λ batch. batch) batches
 abbrev pub batches : {X : Type 0} → ℕ → ℕ → List X → List (List X)
 batches size zero xs = []
 batches size (suc count) xs = take size xs ∷ batches size count (drop size xs)
+
+-- the last `count` items of a list, or all of a shorter one
+abbrev pub last_of : {X : Type 0} → ℕ → List X → List X
+last_of count xs = drop (length xs - count) xs
 
 -- The first batches of a queue were accepted, in order and each once. The items left in the queue
 -- come after them.
@@ -46,6 +50,10 @@ pub record Calls (E : Type 0) : Type 1 where
   pub shuts_down : E → Result (Unit {0}) OTelSdkError → E → Type 0
   -- it was told the resource of later items
   pub takes_resource : E → Parts → E → Type 0
+
+-- it refused a batch with this error
+abbrev pub refuses_with : {E : Type 0} → Calls E → OTelSdkError → E → E → Type 0
+refuses_with calls error before after = calls.refuses before error after
 
 -- any answer to any call
 abbrev pub any_calls : {E : Type 0} → Calls E

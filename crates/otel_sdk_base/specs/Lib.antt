@@ -6,3 +6,4 @@ pub mod Queue
 pub mod QueueView
 pub mod Resource
 pub mod ResourceTexts
+pub mod Writers

@@ -2,7 +2,7 @@
 use Rattle.std.specs.Prelude.{◌≡◌, ◌⊎◌, ℕ, ◌+◌, ◌-◌, ◌^◌, Bool, true, false, List, [], ◌∷◌, ◌++◌}
 use Rattle.std.specs.Prelude.{length, Result, Ok, IsErr, IsErrAnd, IsErrOf, IsTrue, OnOk, not}
 use Rattle.std.specs.Prelude.{nat_lt, min, max, if◌then◌else◌, alloc_error, refl}
-use Rattle.otel_sdk_base.specs.Export.{AreExported, AreExportedUpTo, Calls, items_of}
+use Rattle.otel_sdk_base.specs.Export.{AreExported, AreExportedUpTo, Calls, items_of, refuses_with}
 use Rattle.otel_sdk_base.specs.Resource.{Parts}
 use Rattle.otel_sdk_base.specs.declared.error.OTelSdkError.{OTelSdkError}
 use Rattle.otel_sdk_base.specs.declared.error.OTelSdkError.TheVariants.{AlreadyShutdown, Memory}
@@ -121,8 +121,7 @@ module _ {X E : Type 0} where
   abbrev pub IsExportersAnswer : (E → List (List X)) → Calls E → Result (Unit {0}) OTelSdkError
       → QueueState X E → QueueState X E → Type 0
   IsExportersAnswer accepted calls answer old new =
-      IsErrAnd answer (λ error.
-      IsFlushedUpTo accepted (λ before after. calls.refuses before error after) old new)
+      IsErrAnd answer (λ error. IsFlushedUpTo accepted (refuses_with calls error) old new)
       ⊎ ((new.queue ≡ [])
       × IsFlushedUpTo accepted (λ before after. calls.flushes before answer after) old new)
 

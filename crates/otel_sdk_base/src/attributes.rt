@@ -67,7 +67,8 @@ pub fn set(
 /// `AllocError` if out of memory. The attributes before the failure have been put, and the others
 /// are dropped.
 pub fn put_all(attributes: &mut Vec<KeyValue>, given: Vec<KeyValue>) -> Result<(), AllocError>
-    ensures { OnOk result (spec.PutsAll given attributes.old attributes.new) }
+    ensures ok { OnOk result (spec.PutsAll given attributes.old attributes.new) }
+    ensures err { OnErr result (spec.PutsFirst given attributes.old attributes.new) }
 {
     for attribute in given {
         put(attributes, attribute)?;

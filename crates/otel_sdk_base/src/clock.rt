@@ -9,11 +9,44 @@ use std::time::{SystemTime, UNIX_EPOCH};
 /// Supplies a span's start time if its builder gives none. Not in the Rust crate, where spans read
 /// the system's clock.
 ///
+/// The ghost member `reads` says which times a clock may show, by default any. Code that is generic
+/// over this trait knows nothing of it: only a reading shows it. So a contract that cites it says
+/// that the clock was read.
+///
 /// See [`SystemClock`], [`ManualClock`] and [`CountedClock`].
 pub trait Clock: Drop {
+    ghost use Rattle.std.specs.Prelude.{ℕ};
+
+    ghost reads: { Self → ℕ → Type 0 } = { λ _ _. Unit {0} };
+
     /// Returns the current time, in nanoseconds since 1970-01-01T00:00:00Z. A later call may return
     /// an earlier time.
-    fn now(&self) -> u64;
+    fn now(&self) -> u64
+        ensures { reads self.now result };
+}
+
+/// The reading of a source of time. Every [`std::time::Clock`] has it.
+///
+/// No contract says what a source answers. So the call ensures a ghost member of which code that is
+/// generic over this trait knows nothing: only the call shows it. A contract that cites it says that
+/// the source was read, and answered so.
+pub trait TimeSource: std::time::Clock {
+    ghost use Rattle.std.specs.Prelude.{Option};
+    ghost use Rattle.std.specs.declared.time.SystemTime.{SystemTime};
+
+    ghost may_answer: { Option SystemTime → Type 0 };
+
+    /// Reads the source, as [`SystemTime::now`]. Returns `None` if it can't be read.
+    fn read(&self) -> Option<SystemTime>
+        ensures { may_answer result };
+}
+
+impl<R: std::time::Clock> TimeSource for R {
+    ghost may_answer = { λ _. Unit {0} };
+
+    fn read(&self) -> Option<SystemTime> {
+        SystemTime::now(self).ok()
+    }
 }
 
 /// The system's clock.
@@ -41,12 +74,16 @@ fn nanos_of(time: SystemTime) -> u64
     }
 }
 
-impl<R: std::time::Clock + Drop> Clock for SystemClock<R> {
-    /// Returns the source's time, or 0 if the source can't be read.
+impl<R: TimeSource + Drop> Clock for SystemClock<R> {
+    ghost use Rattle.otel_sdk_base.specs.Clock.{IsShown};
+
+    ghost reads = { λ _ time. IsShown R.may_answer time };
+
+    /// Returns the source's time, at most `u64::MAX`, or 0 if the source can't be read.
     fn now(&self) -> u64 {
-        match SystemTime::now(&self.source) {
-            Ok(time) => nanos_of(time),
-            Err(_) => 0,
+        match self.source.read() {
+            Some(time) => nanos_of(time),
+            None => 0,
         }
     }
 }

@@ -1,5 +1,5 @@
-//! The parts that the trace and log SDKs share: errors, resources, clocks, and attributes with
-//! limits. `otel_sdk` re-exports them.
+//! The parts that the trace and log SDKs share: errors, resources, clocks, attributes with limits,
+//! and where telemetry is sent. `otel_sdk` re-exports them.
 #![tactic(auto)]
 
 mod accepted;
@@ -9,12 +9,15 @@ pub mod cutting;
 pub mod error;
 mod export;
 mod in_memory_exporter;
+pub mod otlp;
 mod queue;
 pub mod resource;
+mod writer_calls;
 
 pub use accepted::Accepted;
-pub use clock::{Clock, CountedClock, ManualClock, SystemClock};
+pub use clock::{Clock, CountedClock, ManualClock, SystemClock, TimeSource};
 pub use export::Exporter;
 pub use in_memory_exporter::{ExactClone, InMemoryExporter};
 pub use queue::Queue;
 pub use queue::config::{BatchConfig, BatchConfigBuilder};
+pub use writer_calls::WriterCalls;

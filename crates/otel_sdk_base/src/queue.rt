@@ -1,6 +1,7 @@
 //! The queue of items that wait for an exporter.
 ghost use Rattle.std.specs.Prelude.{◌≡◌, ◌≤◌, ◌<◌, [], not, length, IfOk, IfErr, IsTrue, OnOk};
 ghost use Rattle.std.specs.Rc.{rc_value};
+ghost use Rattle.otel_sdk_base.specs.Export.{refuses_with};
 
 mod batches;
 pub(crate) mod config;
@@ -150,8 +151,7 @@ impl<T: Drop, E: Exporter<T>> Queue<T, E> {
         ensures flushed { IsFlushed E.accepted (state self.old) (state self.new) }
         ensures ok { OnOk result ((state self.new).queue ≡ []) }
         ensures refused { IfErr result (λ error. IsFlushedUpTo E.accepted
-            (λ before after. E.calls.refuses before error after)
-            (state self.old) (state self.new)) }
+            (refuses_with E.calls error) (state self.old) (state self.new)) }
         ensures capacity { capacity self.new ≡ capacity self.old }
     {
         let size = self.config.max_export_batch_size;

@@ -1,6 +1,6 @@
 //! Exports a queue in batches.
-ghost use Rattle.std.specs.Prelude.{◌≡◌, ◌≤◌, ◌<◌, ◌-◌, ◌↔◌, IfErr, IsOk, length, drop};
-ghost use Rattle.otel_sdk_base.specs.Export.{AreExported, AreExportedUpTo};
+ghost use Rattle.std.specs.Prelude.{◌≡◌, ◌≤◌, ◌<◌, ◌↔◌, IfErr, IsOk, length};
+ghost use Rattle.otel_sdk_base.specs.Export.{AreExported, AreExportedUpTo, last_of, refuses_with};
 
 use crate::error::OTelSdkResult;
 use crate::export::Exporter;
@@ -15,12 +15,11 @@ pub(crate) fn export_batches<T, E: Exporter<T>>(
     requires { 0 < size }
     ensures within { result.0 ≤ length items.now }
     ensures exported { AreExported size items.now
-        (E.accepted exporter.old) (E.accepted exporter.new)
-        (drop (length items.now - result.0) items.now) }
+        (E.accepted exporter.old) (E.accepted exporter.new) (last_of result.0 items.now) }
     ensures outcome { IsOk result.1 ↔ (result.0 ≡ 0) }
     ensures refused { IfErr result.1 (λ error. AreExportedUpTo E.accepted
-        (λ before after. E.calls.refuses before error after) size items.now
-        (drop (length items.now - result.0) items.now) exporter.old exporter.new) }
+        (refuses_with E.calls error) size items.now (last_of result.0 items.now)
+        exporter.old exporter.new) }
 {
     let mut left = items;
     while !left.is_empty() {

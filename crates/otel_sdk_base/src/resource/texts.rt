@@ -1,5 +1,5 @@
 //! Reads a resource from the texts of two environment variables.
-ghost use Rattle.std.specs.Prelude.{◌≡◌, IfOk, OnOk, option_map, string_bytes};
+ghost use Rattle.std.specs.Prelude.{◌≡◌, IfOk, OnErr, OnOk, option_map, string_bytes};
 ghost use Rattle.otel_base.specs.View.{attribute_of};
 ghost use Rattle.otel_sdk_base.specs.ResourceTexts as spec;
 
@@ -105,13 +105,14 @@ pub fn read_attributes(
 ///
 /// # Errors
 ///
-/// `AllocError` if out of memory.
+/// `AllocError` if out of memory. The attributes are unchanged.
 pub fn set_service_name(
     alloc: Global,
     attributes: &mut Vec<KeyValue>,
     name: &str,
 ) -> Result<(), AllocError>
-    ensures { OnOk result (spec.NamesService name.now attributes.old attributes.new) }
+    ensures ok { OnOk result (spec.NamesService name.now attributes.old attributes.new) }
+    ensures err { OnErr result (attributes.new.items ≡ attributes.old.items) }
 {
     let name = cut_blanks(name);
     if name.is_empty() {

@@ -2,6 +2,7 @@
 //! and worked cases.
 #![tactic(auto)]
 
+mod clock;
 mod error;
 mod queue;
 mod resource;

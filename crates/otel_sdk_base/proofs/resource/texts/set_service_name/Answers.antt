@@ -9,8 +9,8 @@ use Rattle.otel_sdk_base.specs.Attributes.{put}
 use Rattle.otel_sdk_base.specs.Resource.{named}
 use Rattle.otel_sdk_base.proofs.resource.texts.set_service_name.Goals as goal
 
-pub returns : goal.returns
-returns c =
+pub returns-clause-ok : goal.returns-clause-ok
+returns-clause-ok c =
     let name = cut_blanks c.args.name.now in
     let xs = map attribute_of c.args.attributes.now.items in
     let written = c.in_ok-from_str.ensures.ok ∙ c.cut_blanks-name.ensures in
