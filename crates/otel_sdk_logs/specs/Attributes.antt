@@ -4,7 +4,11 @@ use Rattle.std.specs.Prelude.{◌||◌, nat_lt, fold, map, Option, None, is_some
 use Rattle.std.specs.Prelude.{if◌then◌else◌, position, slice_set, min}
 use Rattle.std.specs.Option.{option_map_or}
 use Rattle.std.specs.Str.{bytes_eq}
+use Rattle.std.specs.declared.alloc.Global.{Global}
+use Rattle.std.specs.declared.vec.Vec.{Vec}
 use Rattle.otel_base.specs.AnyValue.{Tree, boolean}
+use Rattle.otel_base.specs.View.{pairs_view}
+use Rattle.otel_base.specs.declared.any_value.AnyValue.{AnyValue}
 use Rattle.otel_sdk_logs.specs.Cuts.{cut}
 use Rattle.otel_sdk_logs.specs.declared.limits.LogRecordLimits.{LogRecordLimits}
 
@@ -20,6 +24,10 @@ pub record Held : Type 0 where
 -- these attributes, with this count
 abbrev pub held : List Attribute → ℕ → Held
 held attributes dropped = record { attributes = attributes; dropped = dropped }
+
+-- the attributes of a list in the program, with this count
+abbrev pub held_in : Vec (List ℕ × AnyValue) Global → ℕ → Held
+held_in list dropped = held (pairs_view list.items) dropped
 
 -- the place of the key, if an attribute has it
 abbrev pub place : List ℕ → List Attribute → Option ℕ

@@ -52,8 +52,8 @@ fn set(held: &mut Pairs, limit: u32, key: Key, value: AnyValue) -> bool
 // Sets the attribute, or counts it if it isn't kept.
 fn set_counted(held: &mut Pairs, limit: u32, dropped: &mut u32, key: Key, value: AnyValue)
     requires { vec_len held.old < vec_capacity held.old }
-    ensures set { spec.held (pairs_view held.new.items) dropped.new
-        ≡ spec.with_one limit (spec.held (pairs_view held.old.items) dropped.old)
+    ensures set { spec.held_in held.new dropped.new
+        ≡ spec.with_one limit (spec.held_in held.old dropped.old)
         (key, tree value) }
     ensures len { vec_len held.new ≤ vec_len held.old + 1 }
     ensures capacity { vec_capacity held.new ≡ vec_capacity held.old }
@@ -87,8 +87,8 @@ pub(crate) fn set_one(
     key: Key,
     value: AnyValue,
 ) -> Result<(), AllocError>
-    ensures ok { OnOk result (spec.held (pairs_view held.new.items) dropped.new
-        ≡ spec.with_one_within limits (spec.held (pairs_view held.old.items) dropped.old)
+    ensures ok { OnOk result (spec.held_in held.new dropped.new
+        ≡ spec.with_one_within limits (spec.held_in held.old dropped.old)
         (key, tree value)) }
     ensures err { OnErr result (held.new.items ≡ held.old.items) }
     ensures uncounted { OnErr result (dropped.new ≡ dropped.old) }
@@ -111,8 +111,8 @@ pub(crate) fn set_all(
     dropped: &mut u32,
     given: Pairs,
 ) -> Result<(), AllocError>
-    ensures ok { OnOk result (spec.held (pairs_view held.new.items) dropped.new
-        ≡ spec.with_all_within limits (spec.held (pairs_view held.old.items) dropped.old)
+    ensures ok { OnOk result (spec.held_in held.new dropped.new
+        ≡ spec.with_all_within limits (spec.held_in held.old dropped.old)
         (pairs_view given.items)) }
     ensures err { OnErr result (held.new.items ≡ held.old.items) }
     ensures uncounted { OnErr result (dropped.new ≡ dropped.old) }

@@ -51,7 +51,8 @@ pub trait RecordIntake: LogProcessor {
     fn take(&mut self, given: LogData)
         ensures taken { is_taken given }
         ensures handed_in { IsKeptOrDropped given (Self.received self.old)
-            (Self.received self.new) };
+            (Self.received self.new) }
+        ensures emitted { Self.calls.emits self.old given self.new };
 
     /// Counts a record that meets a processor at work, up to `u64::MAX`. The error is of the
     /// attempt to borrow it.
@@ -96,17 +97,20 @@ pub trait RecordIntake: LogProcessor {
     fn flush(&mut self) -> OTelSdkResult
         ensures flushed { may_flush result }
         ensures same { Self.received self.new ≡ Self.received self.old }
-        ensures closed { Self.receives self.old ≡ false → IsErrOf result AlreadyShutdown };
+        ensures closed { Self.receives self.old ≡ false → IsErrOf result AlreadyShutdown }
+        ensures called { Self.calls.flushes self.old result self.new };
 
     /// Shuts the processor down, as [`LogProcessor::shutdown`].
     fn shut_down(&mut self) -> OTelSdkResult
         ensures shut_down { may_shut_down result }
         ensures ok { OnOk result (Self.receives self.new ≡ false) }
-        ensures again { Self.receives self.old ≡ false → IsErrOf result AlreadyShutdown };
+        ensures again { Self.receives self.old ≡ false → IsErrOf result AlreadyShutdown }
+        ensures called { Self.calls.shuts_down self.old result self.new };
 
     /// Returns the current time, as [`Clock::now`].
     fn show<C: Clock>(clock: &C) -> u64
-        ensures { may_show result };
+        ensures shown { may_show result }
+        ensures read { C.reads clock.now result };
 }
 
 impl<P: LogProcessor> RecordIntake for P {

@@ -1,9 +1,9 @@
 //! The logger of the SDK.
-ghost use Rattle.std.specs.Prelude.{◌≡◌, ◌⊎◌, true, false, IfOk, IsTrue, None, option_map};
+ghost use Rattle.std.specs.Prelude.{◌≡◌, ◌⊎◌, true, false, IfOk, IsTrue, None};
 ghost use Rattle.std.specs.Option.{unwrap_or};
 ghost use Rattle.otel_context.specs.Context.{is_telemetry_suppressed, span_context};
-ghost use Rattle.otel_sdk_logs.specs.LogRecord.{LogState, IsEmitted, IsInSpan};
-ghost use Rattle.otel_sdk_logs.specs.Processor.{IsHandedOver};
+ghost use Rattle.otel_sdk_logs.specs.LogRecord.{IsEmitted, IsInSpan};
+ghost use Rattle.otel_sdk_logs.specs.Processor.{IsHandedIn, IsHandedInFrom, asked};
 
 use crate::export::LogData;
 use crate::intake::RecordIntake;
@@ -91,8 +91,7 @@ impl<P: RecordIntake, C: Clock> SdkLogger<P, C> {
     /// Hands the record to the provider's processor, or counts it. Does nothing if the logger is
     /// disabled.
     fn hand_over(&self, emitted: SdkLogRecord)
-        ensures { self.now.is_disabled ≡ false → IsHandedOver
-            (IsEmitted P.may_show emitted self.now.scope) P.is_taken P.is_counted P.is_unmade }
+        ensures { IsHandedIn self.now emitted P.may_show P.is_taken P.is_counted P.is_unmade }
     {
         if self.provider.is_disabled {
             return;
@@ -107,11 +106,8 @@ impl<P: RecordIntake, C: Clock> SdkLogger<P, C> {
     /// record without a span gets the active span of the context. Does nothing if telemetry is
     /// suppressed in the context. Not in the Rust crate.
     pub fn emit_in(&self, context: &Context, emitted: SdkLogRecord)
-        ensures { is_telemetry_suppressed context.now ≡ false
-            → self.now.is_disabled ≡ false → IsHandedOver (λ entry.
-            (made : LogState) × IsInSpan (span_context context.now) emitted made
-            × IsEmitted P.may_show made self.now.scope entry)
-            P.is_taken P.is_counted P.is_unmade }
+        ensures { IsHandedInFrom context.now self.now emitted
+            P.may_show P.is_taken P.is_counted P.is_unmade }
     {
         if !context.is_telemetry_suppressed() {
             self.hand_over(in_context(emitted, context));
@@ -129,11 +125,10 @@ impl<P: RecordIntake, C: Clock> SdkLogger<P, C> {
     ) -> bool
         ensures suppressed { IsTrue (is_telemetry_suppressed context.now) → result ≡ false }
         ensures disabled { IsTrue self.now.is_disabled → result ≡ false }
-        ensures wanted { let asked = option_map (λ n. n.now) name.entry in
-            result ≡ true → P.is_wanted level target.now asked }
-        ensures unwanted { let asked = option_map (λ n. n.now) name.entry in
-            is_telemetry_suppressed context.now ≡ false → self.now.is_disabled ≡ false
-            → result ≡ false → P.is_unwanted level target.now asked ⊎ P.is_at_work }
+        ensures wanted { result ≡ true → P.is_wanted level target.now (asked name.entry) }
+        ensures unwanted { is_telemetry_suppressed context.now ≡ false
+            → self.now.is_disabled ≡ false → result ≡ false
+            → P.is_unwanted level target.now (asked name.entry) ⊎ P.is_at_work }
     {
         !context.is_telemetry_suppressed() && self.provider.is_enabled(level, target, name)
     }
@@ -160,8 +155,7 @@ where
     /// Hands the record to the provider's processor. Sets the observed time to now, unless it is
     /// already set. Knows no context: see [`SdkLogger::emit_in`].
     fn emit(&self, emitted: SdkLogRecord)
-        ensures { self.now.is_disabled ≡ false → IsHandedOver
-            (IsEmitted P.RecordIntake.may_show emitted self.now.scope)
+        ensures { IsHandedIn self.now emitted P.RecordIntake.may_show
             P.RecordIntake.is_taken P.RecordIntake.is_counted P.RecordIntake.is_unmade }
     {
         self.hand_over(emitted);
@@ -170,11 +164,11 @@ where
     /// Returns `true` if the provider's processor is open and wants such records. Knows no context:
     /// see [`SdkLogger::event_enabled_in`].
     fn event_enabled(&self, level: Severity, target: &str, name: Option<&str>) -> bool
-        ensures wanted { let asked = option_map (λ n. n.now) name.entry in
-            result ≡ true → P.RecordIntake.is_wanted level target.now asked }
-        ensures unwanted { let asked = option_map (λ n. n.now) name.entry in
-            self.now.is_disabled ≡ false → result ≡ false
-            → P.RecordIntake.is_unwanted level target.now asked ⊎ P.RecordIntake.is_at_work }
+        ensures wanted { result ≡ true
+            → P.RecordIntake.is_wanted level target.now (asked name.entry) }
+        ensures unwanted { self.now.is_disabled ≡ false → result ≡ false
+            → P.RecordIntake.is_unwanted level target.now (asked name.entry)
+            ⊎ P.RecordIntake.is_at_work }
         ensures disabled { IsTrue self.now.is_disabled → result ≡ false }
     {
         self.provider.is_enabled(level, target, name)

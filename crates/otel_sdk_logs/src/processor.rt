@@ -18,7 +18,8 @@ use std::rc::Rc;
 /// The ghost member `received` gives the records that the processor received and keeps, in order,
 /// and how many it dropped. The ghost member `receives` says whether it is open. The ghost member
 /// `may_refuse` gives the severities, targets and event names of records that it may not want, by
-/// default none.
+/// default none. The ghost member `calls` says what each record, flush and shutdown did, by default
+/// anything: each relates the states before and after, and the record or the answer.
 ///
 /// See [`crate::BatchLogProcessor`].
 pub trait LogProcessor: Drop {
@@ -26,6 +27,7 @@ pub trait LogProcessor: Drop {
     ghost use Rattle.otel_base.specs.declared.severity.Severity.{Severity};
     ghost use Rattle.otel_sdk_base.specs.Queue.{Received};
     ghost use Rattle.otel_sdk_logs.specs.LogRecord.{LogEntry};
+    ghost use Rattle.otel_sdk_logs.specs.Processor.{LogCalls, any_log_calls};
 
     ghost received: { Self → Received LogEntry };
 
@@ -33,12 +35,15 @@ pub trait LogProcessor: Drop {
 
     ghost may_refuse: { Self → Severity → List ℕ → Option (List ℕ) → Type 0 } = { λ _ _ _ _. ⊥ };
 
+    ghost calls: { LogCalls Self } = { any_log_calls };
+
     /// Receives a record. The record is kept, or dropped and counted.
     fn on_emit(&mut self, given: LogData)
         ensures handed_in { IsKeptOrDropped given (received self.old) (received self.new) }
         ensures closed { receives self.old ≡ false
             → received self.new ≡ with_dropped (received self.old) }
-        ensures open { receives self.new ≡ receives self.old };
+        ensures open { receives self.new ≡ receives self.old }
+        ensures emitted { calls.emits self.old given self.new };
 
     /// Hands the queued records to the exporter, and flushes the exporter.
     ///
@@ -49,7 +54,8 @@ pub trait LogProcessor: Drop {
     fn force_flush(&mut self) -> OTelSdkResult
         ensures same { received self.new ≡ received self.old }
         ensures closed { receives self.old ≡ false → IsErrOf result AlreadyShutdown }
-        ensures open { receives self.new ≡ receives self.old };
+        ensures open { receives self.new ≡ receives self.old }
+        ensures flushed { calls.flushes self.old result self.new };
 
     /// Flushes the processor, then shuts down the processor and its exporter. Later records are
     /// dropped and counted.
@@ -64,7 +70,8 @@ pub trait LogProcessor: Drop {
         ensures same { receives self.old ≡ false → received self.new ≡ received self.old }
         ensures closed { receives self.old ≡ false → receives self.new ≡ false }
         ensures open { receives self.new ≡ true → received self.new ≡ received self.old }
-        ensures dropped { (received self.new).dropped ≡ (received self.old).dropped };
+        ensures dropped { (received self.new).dropped ≡ (received self.old).dropped }
+        ensures shut_down { calls.shuts_down self.old result self.new };
 
     /// Returns `true` if the processor is open. An open processor keeps records unless its queue is
     /// full.

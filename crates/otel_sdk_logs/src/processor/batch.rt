@@ -68,11 +68,13 @@ impl<E: LogExporter> LogProcessor for BatchLogProcessor<E> {
     ghost use Rattle.otel_sdk_base.specs.Queue.{IsForceFlushed, IsKeptOrDropped, IsShutDown};
     ghost use Rattle.otel_sdk_base.specs.Queue.{TellsResource, received_of, with_dropped};
     ghost use Rattle.otel_sdk_logs.specs.Processor.{after_emit};
-    ghost use Rattle.otel_sdk_logs.specs.Batch.{state};
+    ghost use Rattle.otel_sdk_logs.specs.Batch.{batch_calls, state};
 
     ghost received = { λ p. received_of E.accepted (state p) };
 
     ghost receives = { λ p. not (state p).is_shut_down };
+
+    ghost calls = { batch_calls E.accepted E.calls };
 
     /// Queues the record, or drops and counts it if the processor is closed or the queue is full.
     fn on_emit(&mut self, given: LogData)

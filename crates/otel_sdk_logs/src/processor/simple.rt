@@ -66,11 +66,13 @@ impl<E: LogExporter> SimpleLogProcessor<E> {
 impl<E: LogExporter> LogProcessor for SimpleLogProcessor<E> {
     ghost use Rattle.std.specs.Prelude.{not};
     ghost use Rattle.otel_sdk_base.specs.Queue.{received_of};
-    ghost use Rattle.otel_sdk_logs.specs.Batch.{simple_state, simple_is_open};
+    ghost use Rattle.otel_sdk_logs.specs.Batch.{simple_calls, simple_state, simple_is_open};
 
     ghost received = { λ p. received_of E.accepted (simple_state p) };
 
     ghost receives = { λ p. not (simple_state p).is_shut_down };
+
+    ghost calls = { simple_calls E.accepted E.calls };
 
     /// Queues the record, or drops and counts it if the processor is closed or the queue is full.
     /// Then flushes the processor. Records that the exporter didn't accept stay queued, in order.

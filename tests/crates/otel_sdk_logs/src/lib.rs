@@ -3,6 +3,7 @@
 
 // Depends on: test_support
 
+mod calls;
 mod exporter;
 mod limits;
 mod processor;
