@@ -1,3 +1,4 @@
 pub mod LineLemmas
 pub mod Reading
 pub mod ThereAndBack
+pub mod Written

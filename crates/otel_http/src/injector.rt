@@ -1,6 +1,7 @@
 //! HTTP headers as a carrier to which texts are written.
 ghost use Rattle.std.specs.Prelude.{◌≡◌, ◌+◌, ◌<◌, ◌^◌, IsTrue, IsErr, IfOk, OnOk, OnErr, Some};
 ghost use Rattle.std.specs.Prelude.{if◌then◌else◌, string_bytes};
+ghost use Rattle.std.specs.Fmt.{WritesOnOk};
 ghost use Rattle.http_header.specs.FieldName.{IsFieldName};
 ghost use Rattle.http_header.specs.FieldValue.{plain_value, IsVisibleAscii};
 ghost use Rattle.http_header.specs.HeaderMap.{insert, RefusesInsert};
@@ -8,6 +9,7 @@ ghost use Rattle.opentelemetry.specs.Carrier.{SetsValue, lower};
 ghost use Rattle.opentelemetry.specs.Refusal.{is_refused};
 ghost use Rattle.otel_http.specs.Headers.{Refuses, texts, text as text_of_value};
 ghost use Rattle.otel_http.specs.Injector.{carrier, state};
+ghost use Rattle.otel_http.specs.Lines.{header_line, header_lines};
 
 use crate::value::read;
 use http_header::{
@@ -137,12 +139,27 @@ impl HeaderInjector {
     }
 }
 
+/// Writes the line of a header. Fails if the value isn't visible ASCII text.
+fn write_line<W: fmt::Write>(
+    name: &HeaderName,
+    value: &HeaderValue,
+    f: &mut fmt::Formatter<W>,
+) -> fmt::Result
+    ensures { WritesOnOk W.write_str_gives f.old result (header_line (name.now, value.now)) f.new }
+{
+    let Ok(text) = value.to_str() else {
+        return Err(fmt::Error);
+    };
+    writeln!(f, "{name}: {text}")
+}
+
 impl fmt::Display for HeaderInjector {
+    ghost output = { λ i. Some (header_lines i.headers) };
+
     /// Writes a line `name: value` for each header. Fails if a value isn't visible ASCII text.
     fn fmt<W: fmt::Write>(&self, f: &mut fmt::Formatter<W>) -> fmt::Result {
         for (name, value) in &self.headers {
-            let text = value.to_str().map_err(|_| fmt::Error)?;
-            writeln!(f, "{name}: {text}")?;
+            write_line(name, value, f)?;
         }
         Ok(())
     }

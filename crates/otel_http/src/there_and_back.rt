@@ -1,13 +1,14 @@
 //! Sends a context through HTTP headers and receives it, with the W3C propagators.
-ghost use Rattle.std.specs.Prelude.{IfOk, OnOk};
+ghost use Rattle.std.specs.Prelude.{◌<◌, IfOk, IsTrue};
 ghost use Rattle.otel_context.specs.Context.{empty_context};
-ghost use Rattle.opentelemetry.specs.Carrier.{Sets};
 ghost use Rattle.opentelemetry.specs.Extraction.{Extracts};
+ghost use Rattle.opentelemetry.specs.Injection.{Injects};
+ghost use Rattle.opentelemetry.specs.Refusal.{is_refused};
 ghost use Rattle.otel_http.specs.Headers.{texts};
+ghost use Rattle.otel_http.specs.Injector.{state};
 ghost use Rattle.otel_propagators.specs.Laws.{ComesBack};
 
 use crate::{HeaderExtractor, HeaderInjector};
-use http_header::HeaderMap;
 use opentelemetry::Context;
 use opentelemetry::propagation::{PropagationError, TextMapPropagator};
 use otel_propagators::laws::{every_context, headers_there_and_back};
@@ -20,8 +21,8 @@ fn inject<P: TextMapPropagator>(
     context: &Context,
     injector: &mut HeaderInjector,
 ) -> Result<(), PropagationError>
-    ensures { OnOk result (Sets (texts injector.old.headers)
-        (P.pairs propagator.now context.now) (texts injector.new.headers)) }
+    ensures { Injects (P.pairs propagator.now context.now) (P.may_refuse propagator.now)
+        (state injector.old) (state injector.new) result }
 {
     propagator.inject_context(context, injector)
 }
@@ -44,24 +45,25 @@ fn extract<P: TextMapPropagator>(
 ///
 /// # Errors
 ///
-/// `Memory` if out of memory. `Refused` if the headers refuse a text. In both cases, the headers
-/// are dropped.
+/// `Memory` if out of memory. `Refused` if the headers refuse a text. The injector counts it. In
+/// both cases, a prefix of the pairs is set.
 pub fn there_and_back(
     alloc: Global,
     trace: &TraceContextPropagator,
     baggage: &BaggagePropagator,
     context: &Context,
-    headers: HeaderMap,
+    injector: &mut HeaderInjector,
 ) -> Result<Context, PropagationError>
-    ensures { IfOk result (λ back.
-        ComesBack context.now (texts headers) empty_context back) }
+    ensures back { IfOk result (λ back.
+        ComesBack context.now (texts injector.old.headers) empty_context back) }
+    ensures counted { IsTrue (is_refused result)
+        → (state injector.old).refusals < (state injector.new).refusals }
 {
     every_context(context);
     headers_there_and_back();
-    let mut injector = HeaderInjector::new(headers);
-    inject(trace, context, &mut injector)?;
-    inject(baggage, context, &mut injector)?;
-    let extractor = HeaderExtractor::new(alloc, &injector.into_headers())?;
+    inject(trace, context, injector)?;
+    inject(baggage, context, injector)?;
+    let extractor = HeaderExtractor::new(alloc, &injector.headers)?;
     let given = extract(trace, alloc, &Context::new(), &extractor)?;
     extract(baggage, alloc, &given, &extractor)
 }

@@ -78,3 +78,19 @@ fn blank_values_are_accepted(rt: HostRuntime) -> Result<(), Fail> {
     }
     Ok(())
 }
+
+#[test]
+fn headers_are_written_as_lines(rt: HostRuntime) -> Result<(), Fail> {
+    let alloc = rt.alloc();
+    let all = [
+        ("baggage", b"a=1".as_slice()),
+        ("x-id", b"2"),
+        ("baggage", b"b=2"),
+    ];
+    let injector = HeaderInjector::new(headers(alloc, &all)?);
+    let text = format!(in alloc; "{injector}")?;
+    assert_eq!(rt; text.as_str(), "baggage: a=1\nbaggage: b=2\nx-id: 2\n");
+    let unreadable = HeaderInjector::new(headers(alloc, &[("x-id", b"\xff")])?);
+    assert!(rt; format!(in alloc; "{unreadable}").is_err());
+    Ok(())
+}

@@ -4,8 +4,9 @@ use http_header::HeaderMap;
 use opentelemetry::Context;
 use opentelemetry::propagation::{Extractor, PropagationError, TextMapPropagator};
 use opentelemetry::trace::{SpanContext, SpanId, TraceFlags, TraceId, TraceState};
+use otel_http::there_and_back::there_and_back;
 use otel_http::{HeaderExtractor, HeaderInjector};
-use otel_propagators::TraceContextPropagator;
+use otel_propagators::{BaggagePropagator, TraceContextPropagator};
 use std::alloc::Global;
 use std::test::Fail;
 
@@ -82,5 +83,40 @@ fn a_trace_state_that_is_refused_leaves_the_parent(rt: HostRuntime) -> Result<()
     assert_eq!(rt; sent.len(), 1);
     let parent = b"00-00000000000000000000000000000001-0000000000000002-01".as_slice();
     assert!(rt; sent["traceparent"].as_bytes() == parent);
+    Ok(())
+}
+
+/// Returns a context whose span has this trace state.
+fn traced(alloc: Global, state: &str) -> Result<Context, Fail> {
+    let span = SpanContext::new(
+        TraceId::from(1),
+        SpanId::from(2),
+        TraceFlags::SAMPLED,
+        false,
+        TraceState::from_str(alloc, state)?,
+    );
+    Ok(Context::new().with_remote_span_context(alloc, span)?)
+}
+
+#[test]
+fn a_context_is_sent_and_received(rt: HostRuntime) -> Result<(), Fail> {
+    let alloc = rt.alloc();
+    let (trace, baggage) = (
+        TraceContextPropagator::new(alloc)?,
+        BaggagePropagator::new(alloc)?,
+    );
+    let mut injector = HeaderInjector::new(HeaderMap::new(alloc));
+    let sent = traced(alloc, "a=1")?;
+    let received = there_and_back(alloc, &trace, &baggage, &sent, &mut injector)?;
+    let span = received.span_context();
+    assert!(rt; span.trace_id() == TraceId::from(1));
+    assert!(rt; span.span_id() == SpanId::from(2));
+    assert!(rt; span.trace_state().get("a") == Some("1"));
+    let text = format!(in alloc; "{injector}")?;
+    let parent = "traceparent: 00-00000000000000000000000000000001-0000000000000002-01\n";
+    assert!(rt; text.contains(parent));
+    let unreadable = traced(alloc, "a=\u{e9}")?;
+    let answer = there_and_back(alloc, &trace, &baggage, &unreadable, &mut injector);
+    assert!(rt; matches!(answer, Err(PropagationError::Refused)));
     Ok(())
 }

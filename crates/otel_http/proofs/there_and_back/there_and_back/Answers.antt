@@ -1,15 +1,11 @@
-use Rattle.std.proofs.Common.{◌∙◌, ap, subst}
-use Rattle.opentelemetry.specs.Carrier.{Sets}
 use Rattle.otel_http.specs.Headers.{texts}
-use Rattle.otel_propagators.specs.TraceContext.{trace_pairs}
 use Rattle.otel_http.proofs.ThereAndBack.{back_from}
 use Rattle.otel_http.proofs.there_and_back.there_and_back.Goals as goal
 
-pub returns : goal.returns
-returns c =
+pub returns-clause-back : goal.returns-clause-back
+returns-clause-back c =
     let sent = texts c.inject.new.injector.headers in
-    back_from c.headers_there_and_back.ensures.in_turn c.args.context.now c.new-3.result c.in_ok-given.given c.extract-3.result
-    (texts c.args.headers) sent (texts c.inject-2.new.injector.headers) c.in_ok-extractor.extractor c.every_context.ensures
-    (subst (λ h. Sets (texts h) (trace_pairs c.args.context.now) sent) c.new-injector.ensures.headers c.in_ok-inject.ensures)
-    c.in_ok-inject-2.ensures (c.in_ok-extractor.ensures ∙ ap texts c.into_headers.ensures) c.new-3.ensures
+    back_from c.headers_there_and_back.ensures.in_turn c.args.context.now c.new-2.result c.in_ok-given.given c.extract-3.result
+    (texts c.args.injector.now.headers) sent (texts c.inject-2.new.injector.headers) c.in_ok-extractor.extractor c.every_context.ensures
+    c.in_ok-inject.ensures.ok c.in_ok-inject-2.ensures.ok c.in_ok-extractor.ensures c.new-2.ensures
     c.in_ok-given.ensures.ok c.extract-3.ensures.ok
