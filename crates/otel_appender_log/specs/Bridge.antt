@@ -1,5 +1,6 @@
 -- The log record that a logger gets for a record of the crate `log`.
 use Rattle.std.specs.Prelude.{◌≡◌, ◌⊎◌, ℕ, List, Bool, true, false, Option, Some, None, IfSome}
+use Rattle.std.specs.Prelude.{Result, IfOk}
 use Rattle.log.specs.declared.record.Metadata.{Metadata}
 use Rattle.log.specs.declared.record.Record.{Record}
 use Rattle.log.specs.Kv.{Pair}
@@ -8,8 +9,11 @@ use Rattle.otel_ids.specs.SpanContext.{SpanContextRecord, IsValidSpanContext}
 use Rattle.otel_base.specs.AnyValue.{Tree, text}
 use Rattle.otel_base.specs.Severity.{name}
 use Rattle.otel_base.specs.declared.severity.Severity.{Severity}
+use Rattle.otel_context.specs.Context.{is_telemetry_suppressed, span_context}
+use Rattle.opentelemetry.specs.declared.logs.logger.Logger.{Ghosts as Logging}
 use Rattle.opentelemetry.specs.declared.logs.record.LogRecord.{Ghosts}
 use Rattle.otel_appender_log.specs.declared.attributes.SourceLocation.{SourceLocation}
+use Rattle.otel_appender_log.specs.declared.bridge.BridgeSink.{BridgeSink}
 use Rattle.otel_appender_log.specs.Attributes.{Attribute}
 use Rattle.otel_appender_log.specs.Location.{IsLocated}
 use Rattle.otel_appender_log.specs.Severity.{severity_of}
@@ -40,6 +44,12 @@ pub record Source : Type 0 where
   pub pairs : Option (List Pair)
   pub location : SourceLocation
 
+-- a logger may answer that records with this level and target are enabled, or that they aren't
+abbrev pub MayEnableFor : (Severity → List ℕ → Option (List ℕ) → Bool → Type 0) → Metadata → Bool
+    → Type 0
+MayEnableFor may_enable m enabled =
+    may_enable (severity_of (metadata_level m)) (metadata_target m) None enabled
+
 module _ {D K S : Type 0} where
   -- the record of the crate `log` with this location; `output` returns the text that `{}` writes
   -- for a message, `pairs` the pairs of a source of pairs
@@ -52,12 +62,10 @@ module _ {D K S : Type 0} where
     location = location;
   }
 
-  -- a logger may answer that such records are enabled, or that they aren't
+  -- the same for the record's level and target
   abbrev pub MayEnable : (Severity → List ℕ → Option (List ℕ) → Bool → Type 0) → Record D K S
       → Bool → Type 0
-  MayEnable may_enable r enabled =
-      may_enable (severity_of (metadata_level (record_metadata r)))
-      (metadata_target (record_metadata r)) None enabled
+  MayEnable may_enable r enabled = MayEnableFor may_enable (record_metadata r) enabled
 
 -- the record with this severity, as a number and by its name, this body, target and attributes
 abbrev pub with_content : {R : Type 0} → Setters R → R → Severity → List ℕ → List ℕ
@@ -100,3 +108,37 @@ abbrev pub IsLogged : {R : Type 0} → (Bool → Type 0) → (R → Type 0) → 
     → Type 0
 IsLogged may_enable is_bridged is_emitted is_counted = may_enable false
     ⊎ (may_enable true × (((made : _) × is_bridged made × is_emitted made) ⊎ is_counted))
+
+-- a value was made, or none, and one that was made is so
+abbrev pub IfMade : {E R : Type 0} → Result (Option R) E → (R → Type 0) → Type 0
+IfMade result P = IfOk result (λ made. IfSome made P)
+
+-- Records of the crate `log`: `output` returns the text that `{}` writes for a message, `pairs` the
+-- pairs of a source of pairs. `Stamps` relates a record to the possible results of setting its
+-- span.
+module _ {R D K S : Type 0} where
+  -- a record that the logger made from a record of the crate `log` with this location, stamped with
+  -- the span context
+  abbrev pub IsBridgedFrom : (R → Type 0) → Ghosts R → (R → ℕ → ℕ → Option ℕ → R → Type 0)
+      → (D → Option (List ℕ)) → (K → Option (List Pair)) → Record D K S → SourceLocation
+      → SpanContextRecord → R → Type 0
+  IsBridgedFrom MayCreate named Stamps output pairs r location span =
+      IsBridged MayCreate named Stamps (source_of output pairs r location) span
+
+  -- the same with the logger, the location and the active span of a sink
+  abbrev pub IsBridgedBy : {L : Type 0} → (L → R → Type 0) → Ghosts R
+      → (R → ℕ → ℕ → Option ℕ → R → Type 0) → (D → Option (List ℕ)) → (K → Option (List Pair))
+      → BridgeSink L → Record D K S → R → Type 0
+  IsBridgedBy may_create named Stamps output pairs sink r =
+      IsBridgedFrom (may_create sink.bridge.now.logger) named Stamps output pairs r
+      sink.location (span_context sink.context.now)
+
+  -- the fate of a record of the crate `log` at a sink, if telemetry isn't suppressed in its context
+  abbrev pub IsLoggedBy : {L : Type 0} → Logging L R → (L → R → Type 0) → Type 0 → Ghosts R
+      → (R → ℕ → ℕ → Option ℕ → R → Type 0) → (D → Option (List ℕ)) → (K → Option (List Pair))
+      → BridgeSink L → Record D K S → Type 0
+  IsLoggedBy logging emits counts named Stamps output pairs sink r =
+      is_telemetry_suppressed sink.context.now ≡ false
+      → IsLogged (MayEnable (logging.may_enable sink.bridge.now.logger) r)
+      (IsBridgedBy logging.may_create named Stamps output pairs sink r)
+      (emits sink.bridge.now.logger) counts

@@ -1,14 +1,14 @@
 //! The sink that sends records of the crate `log` to a logger.
-ghost use Rattle.std.specs.Prelude.{◌≡◌, true, false, None, is_some};
-ghost use Rattle.std.specs.Prelude.{IfOk, IfSome, IsNone, IsOkAnd, IsTrue, OnErr};
-ghost use Rattle.log.specs.Record.{metadata_level, metadata_target};
-ghost use Rattle.otel_context.specs.Context.{is_telemetry_suppressed, span_context};
-ghost use Rattle.otel_appender_log.specs.Bridge.{IsBridged, IsLogged, MayEnable, source_of};
+ghost use Rattle.std.specs.Prelude.{◌≡◌, true, false, [], Some, is_some};
+ghost use Rattle.std.specs.Prelude.{IfOk, IsNone, IsOkAnd, IsTrue, OnErr};
+ghost use Rattle.otel_context.specs.Context.{is_telemetry_suppressed};
+ghost use Rattle.otel_appender_log.specs.Bridge.{IfMade, IsBridgedBy, IsLoggedBy};
+ghost use Rattle.otel_appender_log.specs.Bridge.{MayEnable, MayEnableFor};
 ghost use Rattle.otel_appender_log.specs.Location.{nowhere};
-ghost use Rattle.otel_appender_log.specs.Severity.{severity_of};
 
 use crate::attributes::SourceLocation;
-use crate::record::{StampedRecord, bridged_record};
+use crate::calls::{EmittingLogger, StampedRecord};
+use crate::record::bridged_record;
 use crate::severity::severity_of_level;
 use log::kv::Source;
 use log::span::Spans;
@@ -18,38 +18,6 @@ use opentelemetry::logs::Logger;
 use std::alloc::{AllocError, Global};
 use std::cell::Cell;
 use std::fmt::Display;
-
-/// A logger that a bridge emits records to. Every [`Logger`] is one.
-///
-/// No contract sees a change through `&self`. So each call ensures a ghost member of which code that
-/// is generic over this trait knows nothing: only the call shows it.
-pub trait EmittingLogger: Logger {
-    ghost is_emitted: { Self → Self.LogRecord → Type 0 };
-
-    ghost is_counted: { Type 0 };
-
-    /// Emits the record, as [`Logger::emit`].
-    fn emit_record(&self, emitted: Self::LogRecord)
-        ensures { is_emitted self.now emitted };
-
-    /// Counts a record that was dropped, up to `u64::MAX`.
-    fn count_dropped(dropped: &Cell<u64>)
-        ensures { is_counted };
-}
-
-impl<L: Logger> EmittingLogger for L {
-    ghost is_emitted = { λ _ _. Unit {0} };
-
-    ghost is_counted = { Unit {0} };
-
-    fn emit_record(&self, emitted: L::LogRecord) {
-        self.emit(emitted);
-    }
-
-    fn count_dropped(dropped: &Cell<u64>) {
-        dropped.set(dropped.get().saturating_add(1));
-    }
-}
 
 /// Sends the records of the crate `log` to a logger (the Rust crate's `OpenTelemetryLogBridge`).
 ///
@@ -146,11 +114,8 @@ where
             MayEnable (L.may_enable self.now.bridge.now.logger) «record».now (is_some made)) }
         ensures err { OnErr result
             (MayEnable (L.may_enable self.now.bridge.now.logger) «record».now true) }
-        ensures bridged { IfOk result (λ made. IfSome made (
-            IsBridged (L.may_create self.now.bridge.now.logger) L.LogRecord.LogRecord
-            L.LogRecord.StampedRecord.may_be_stamped
-            (source_of D.output K.pairs «record».now self.now.location)
-            (span_context self.now.context.now))) }
+        ensures bridged { IfMade result (IsBridgedBy L.may_create L.LogRecord.LogRecord
+            L.LogRecord.StampedRecord.stamps D.output K.pairs self.now «record».now) }
     {
         if self.context.is_telemetry_suppressed() {
             return Ok(None);
@@ -166,14 +131,15 @@ where
     L: EmittingLogger,
     L::LogRecord: StampedRecord,
 {
+    ghost target_of = { λ _. Some [] };
+
     /// Returns `true` if the logger accepts records with this severity and target. Returns `false`
     /// if telemetry is suppressed in the context.
     fn enabled(&self, metadata: &Metadata<'_>) -> bool
         ensures suppressed { IsTrue (is_telemetry_suppressed self.now.context.now)
             → result ≡ false }
         ensures asked { is_telemetry_suppressed self.now.context.now ≡ false
-            → L.Logger.may_enable self.now.bridge.now.logger
-            (severity_of (metadata_level metadata.now)) (metadata_target metadata.now) None result }
+            → MayEnableFor (L.Logger.may_enable self.now.bridge.now.logger) metadata.now result }
     {
         let severity = severity_of_level(metadata.level());
         !self.context.is_telemetry_suppressed()
@@ -186,14 +152,9 @@ where
     /// Emits the log record of [`bridged_record`], with the active span of the context. Counts it as
     /// dropped if out of memory. Does nothing if telemetry is suppressed in the context.
     fn log<D: Display, K: Source, S: Spans>(&self, record: &Record<'_, D, K, S>)
-        ensures { let logger = self.now.bridge.now.logger in
-            is_telemetry_suppressed self.now.context.now ≡ false → IsLogged
-            (MayEnable (L.Logger.may_enable logger) «record».now)
-            (IsBridged (L.Logger.may_create logger) L.LogRecord.LogRecord
-            L.LogRecord.StampedRecord.may_be_stamped
-            (source_of D.output K.pairs «record».now self.now.location)
-            (span_context self.now.context.now))
-            (L.EmittingLogger.is_emitted logger) L.EmittingLogger.is_counted }
+        ensures { IsLoggedBy L.Logger L.EmittingLogger.emits L.EmittingLogger.counts
+            L.LogRecord.LogRecord L.LogRecord.StampedRecord.stamps D.output K.pairs
+            self.now «record».now }
     {
         match self.bridged(record) {
             Ok(Some(made)) => self.bridge.logger.emit_record(made),
@@ -205,6 +166,7 @@ where
     /// Does nothing. The owner of the provider flushes it.
     fn flush(&self) {}
 
+    /// Returns the empty text: a sink has no target of its own.
     fn target(&self) -> &str {
         ""
     }

@@ -4,12 +4,14 @@
 
 mod attributes;
 mod bridge;
+mod calls;
 mod record;
 mod severity;
 mod value;
 
 pub use attributes::{SourceLocation, attributes_of};
-pub use bridge::{BridgeSink, EmittingLogger, OpenTelemetryLogBridge};
-pub use record::{StampedRecord, bridged_record};
+pub use bridge::{BridgeSink, OpenTelemetryLogBridge};
+pub use calls::{EmittingLogger, StampedRecord};
+pub use record::bridged_record;
 pub use severity::severity_of_level;
 pub use value::attribute_value;

@@ -1,41 +1,18 @@
 //! The log record that a logger gets for a record of the crate `log`.
-ghost use Rattle.std.specs.Prelude.{true, is_some, IfOk, IfSome, OnOk, OnErr, Some};
-ghost use Rattle.otel_appender_log.specs.Bridge.{IsFilled, IsStamped, IsBridged, MayEnable};
-ghost use Rattle.otel_appender_log.specs.Bridge.{setters, source_of};
+ghost use Rattle.std.specs.Prelude.{true, is_some, IfOk, OnOk, OnErr};
+ghost use Rattle.otel_appender_log.specs.Bridge.{IfMade, IsBridgedFrom, IsFilled, IsStamped};
+ghost use Rattle.otel_appender_log.specs.Bridge.{MayEnable, setters, source_of};
 
 use crate::attributes::{SourceLocation, located_attributes};
+use crate::calls::StampedRecord;
 use crate::severity::severity_of_level;
 use log::Record;
 use log::kv::Source;
 use opentelemetry::StringValue;
 use opentelemetry::logs::{AnyValue, LogRecord, Logger};
-use opentelemetry::trace::{SpanContext, SpanId, TraceFlags, TraceId};
+use opentelemetry::trace::SpanContext;
 use std::alloc::{AllocError, Global};
 use std::fmt::Display;
-
-/// A log record that a bridge sets the active span of. Every [`LogRecord`] is one.
-///
-/// A type of log records may ignore the span, so `may_be_traced` of [`LogRecord`] always allows the
-/// unchanged record. Of the ghost member `may_be_stamped`, code that is generic over this trait
-/// knows nothing: only a call of `set_span` shows it. So a contract that cites it says that the ids
-/// were set.
-pub trait StampedRecord: LogRecord {
-    ghost use Rattle.std.specs.Prelude.{ℕ, Option};
-
-    ghost may_be_stamped: { Self → ℕ → ℕ → Option ℕ → Self → Type 0 };
-
-    /// Sets the span that was active, as [`LogRecord::set_trace_context`].
-    fn set_span(&mut self, trace_id: TraceId, span_id: SpanId, trace_flags: TraceFlags)
-        ensures { may_be_stamped self.old trace_id span_id (Some trace_flags) self.new };
-}
-
-impl<R: LogRecord> StampedRecord for R {
-    ghost may_be_stamped = { R.may_be_traced };
-
-    fn set_span(&mut self, trace_id: TraceId, span_id: SpanId, trace_flags: TraceFlags) {
-        self.set_trace_context(trace_id, span_id, Some(trace_flags));
-    }
-}
 
 // Sets the severity, body, target and attributes.
 fn fill<R: LogRecord, D: Display, K: Source, S>(
@@ -60,7 +37,7 @@ fn fill<R: LogRecord, D: Display, K: Source, S>(
 
 // Sets the ids and flags of a valid span context.
 fn stamp<R: StampedRecord>(stamped: &mut R, span: &SpanContext)
-    ensures { IsStamped R.may_be_stamped span.now stamped.old stamped.new }
+    ensures { IsStamped R.stamps span.now stamped.old stamped.new }
 {
     if span.is_valid() {
         stamped.set_span(span.trace_id(), span.span_id(), span.trace_flags());
@@ -77,9 +54,8 @@ fn made_record<L: Logger, D: Display, K: Source, S>(
 ) -> Result<L::LogRecord, AllocError>
 where
     L::LogRecord: StampedRecord,
-    ensures { IfOk result (IsBridged (L.may_create logger.now) L.LogRecord.LogRecord
-        L.LogRecord.StampedRecord.may_be_stamped
-        (source_of D.output K.pairs source.now location.now) span.now) }
+    ensures { IfOk result (IsBridgedFrom (L.may_create logger.now) L.LogRecord.LogRecord
+        L.LogRecord.StampedRecord.stamps D.output K.pairs source.now location.now span.now) }
 {
     let mut made = logger.create_log_record(alloc)?;
     fill(alloc, &mut made, source, location)?;
@@ -112,10 +88,8 @@ where
     ensures asked { IfOk result (λ made.
         MayEnable (L.may_enable logger.now) source.now (is_some made)) }
     ensures err { OnErr result (MayEnable (L.may_enable logger.now) source.now true) }
-    ensures bridged { IfOk result (λ made. IfSome made (
-        IsBridged (L.may_create logger.now) L.LogRecord.LogRecord
-        L.LogRecord.StampedRecord.may_be_stamped
-        (source_of D.output K.pairs source.now location.now) span.now)) }
+    ensures bridged { IfMade result (IsBridgedFrom (L.may_create logger.now) L.LogRecord.LogRecord
+        L.LogRecord.StampedRecord.stamps D.output K.pairs source.now location.now span.now) }
 {
     let severity = severity_of_level(source.level());
     if !logger.event_enabled(severity, source.target(), None) {
