@@ -1,9 +1,11 @@
 -- Contracts' view of an exporter that draws spans. Not in the Rust crates.
-use Rattle.std.specs.Prelude.{◌≡◌, ◌⊎◌, ℕ, Bool, true, List, [], take, Option, Result, Ok, Err, ⊤}
-use Rattle.std.specs.Prelude.{IsTrue, IsErrOf}
-use Rattle.std.specs.Io.KnownBytes.{Keeps}
+use Rattle.std.specs.Prelude.{◌≡◌, ◌⊎◌, ℕ, Bool, true, false, List, [], take, codes, string_bytes}
+use Rattle.std.specs.Prelude.{Option, Result, Err, is_ok, ⊤, alloc_error}
+use Rattle.std.specs.Prelude.{IsTrue, IsErrOf, IfErr}
+use Rattle.std.specs.Io.KnownBytes.{Appends, Keeps}
 use Rattle.std.specs.declared.io.Error.{Error}
 use Rattle.otel_sdk_base.specs.Export.{Calls}
+use Rattle.otel_sdk_base.specs.Writers.{IsStuck}
 use Rattle.otel_sdk_base.specs.declared.error.OTelSdkError.{OTelSdkError}
 use Rattle.otel_sdk_base.specs.declared.error.OTelSdkError.TheVariants as error
 use Rattle.otel_sdk_span.specs.SpanData.{SpanRecord}
@@ -25,39 +27,64 @@ pub record RefusesIfShutDown {W : Type 0} (result : Result ⊤ OTelSdkError) (ol
   pub only_then : IsErrOf result error.AlreadyShutdown → IsTrue old.is_shut_down
   pub unchanged : IsTrue old.is_shut_down → new ≡ old
 
--- What the exporter says about its calls: each returns `AlreadyShutdown` only if it was shut down,
--- and a flush or a shutdown writes nothing. It ignores resources.
-abbrev pub exporter_calls : {W : Type 0} → (W → Option (List ℕ)) → Calls (Waterfall W)
-exporter_calls contents = record {
-  refuses = λ old error new. RefusesIfShutDown (Err error) old new;
-  flushes = λ old answer new. RefusesIfShutDown answer old new
-      × Keeps (contents old.output) (contents new.output)
+-- ---- the writer's answers, of which only its calls show `may_write` and `may_flush`
+
+-- the error says that the writer failed; its text is empty if memory ran out too
+abbrev pub SaysThatWriterFailed : OTelSdkError → Type 0
+SaysThatWriterFailed (error.InternalFailure message) =
+    (string_bytes message ≡ codes "the writer failed") ⊎ (string_bytes message ≡ [])
+SaysThatWriterFailed other = ⊥
+
+-- memory ran out, or a write got no further, and the error says which
+abbrev pub IsWritersError : (Result ℕ Error → Type 0) → OTelSdkError → Type 0
+IsWritersError may_write (error.Memory cause) = ⊤
+IsWritersError may_write other = IsStuck may_write × SaysThatWriterFailed other
+
+-- ---- calls
+
+-- an open exporter refused a batch: without a call of the writer if memory ran out, and otherwise
+-- because the writer failed
+pub record RefusesBatch {W : Type 0} (may_write : Result ℕ Error → Type 0) (told : OTelSdkError)
+    (old new : Waterfall W) : Type 0 where
+  pub refuses : RefusesIfShutDown (Err told) old new
+  pub failed : old.is_shut_down ≡ false → IsWritersError may_write told
+  pub memory : told ≡ error.Memory alloc_error → new ≡ old
+
+-- the writer of an open exporter was flushed, which wrote nothing; an error says that it failed
+pub record FlushesWriter {W : Type 0} (contents : W → Option (List ℕ)) (may_flush : Bool → Type 0)
+    (answer : Result ⊤ OTelSdkError) (old new : Waterfall W) : Type 0 where
+  pub refuses : RefusesIfShutDown answer old new
+  pub bytes : Keeps (contents old.output) (contents new.output)
+  pub flushed : old.is_shut_down ≡ false → may_flush (is_ok answer)
+  pub failed : old.is_shut_down ≡ false → IfErr answer SaysThatWriterFailed
+
+-- What the exporter says about its calls. It ignores resources.
+abbrev pub exporter_calls : {W : Type 0} → (W → Option (List ℕ)) → (Result ℕ Error → Type 0)
+    → (Bool → Type 0) → Calls (Waterfall W)
+exporter_calls contents may_write may_flush = record {
+  refuses = λ old told new. RefusesBatch may_write told old new;
+  flushes = λ old answer new. FlushesWriter contents may_flush answer old new
       × (new ≡ record old { output = new.output });
-  shuts_down = λ old answer new. RefusesIfShutDown answer old new
-      × Keeps (contents old.output) (contents new.output)
+  shuts_down = λ old answer new. FlushesWriter contents may_flush answer old new
       × (new ≡ record old { output = new.output; is_shut_down = true });
   takes_resource = λ old _ new. new ≡ old;
 }
 
--- ---- the writer's answers, of which only its calls show `may_write`
-
--- the answer of a write that gets no further: no byte was taken, or an error
-abbrev pub TakesNone : Result ℕ Error → Type 0
-TakesNone (Ok count) = count ≡ 0
-TakesNone (Err error) = ⊤
-
--- a write got no further
-abbrev pub IsStuck : (Result ℕ Error → Type 0) → Type 0
-IsStuck may_write = (answer : Result ℕ Error) × may_write answer × TakesNone answer
-
--- the error says that memory ran out, or that the writer failed, which it did
-abbrev pub IsWritersError : (Result ℕ Error → Type 0) → OTelSdkError → Type 0
-IsWritersError may_write (error.Memory cause) = ⊤
-IsWritersError may_write (error.InternalFailure message) = IsStuck may_write
-IsWritersError may_write other = ⊥
+-- ---- pictures
 
 -- a part of the picture of the batch, from its first byte on, or nothing
 abbrev pub IsPartOfPicture : Bool → ℕ → List SpanRecord → List ℕ → Type 0
 IsPartOfPicture ascii width batch part =
     (part ≡ [])
     ⊎ ((text : List ℕ) × IsPictureOf ascii width batch text × (n : ℕ) × (part ≡ take n text))
+
+-- the picture of the batch was added after the bytes of a writer, if these are known
+abbrev pub AddsPicture : Bool → ℕ → List SpanRecord → Option (List ℕ) → Option (List ℕ) → Type 0
+AddsPicture ascii width batch old new =
+    (text : List ℕ) × IsPictureOf ascii width batch text × Appends old new text
+
+-- the same for a part of the picture
+abbrev pub AddsPartOfPicture : Bool → ℕ → List SpanRecord → Option (List ℕ) → Option (List ℕ)
+    → Type 0
+AddsPartOfPicture ascii width batch old new =
+    (part : List ℕ) × IsPartOfPicture ascii width batch part × Appends old new part

@@ -15,6 +15,8 @@ use Rattle.otel_waterfall.specs.Duration.{duration_text}
 use Rattle.otel_waterfall.specs.Line.{name_text, outcome_text}
 use Rattle.otel_waterfall.specs.Name.{fitted, shown_name}
 use Rattle.otel_waterfall.specs.Rows.{AreDrawnOnce}
+use Rattle.otel_waterfall.specs.declared.bar.Scale.{Scale}
+use Rattle.otel_waterfall.specs.declared.columns.Style.{Style}
 use Rattle.otel_waterfall.specs.declared.rows.Row.{Row}
 use Rattle.otel_waterfall.specs.declared.rows.Row.TheVariants.{Span, Absent}
 
@@ -75,6 +77,11 @@ module _ (ascii : Bool) (width from to : ℕ) (spans : List Look) where
   rows_text follows [] = []
   rows_text follows (r ∷ more) =
       row_text (follows_at follows r) r ++ rows_text (follows_at follows r) more
+
+-- the text changed from `old` to `new` by the line of a row, below such a row
+abbrev pub AddsRow : Style → Scale → List Look → List Bool → Row → List ℕ → List ℕ → Type 0
+AddsRow style scale spans follows row old new =
+    new ≡ old ++ row_text style.is_ascii style.width scale.from scale.to spans follows row
 
 -- ---- traces
 -- the spans of a trace
@@ -143,6 +150,13 @@ pub record ArePictures (ascii : Bool) (width : ℕ) (spans : List Look) (traces 
   pub each : map (λ d. d.0) drawn ≡ traces
   pub once : All (λ d. AreDrawnOnce (map (λ s. s.trace_id == d.0) spans) d.1) drawn
   pub is : text ≡ join_by (trace_text ascii width spans) (10 ∷ []) drawn
+
+-- A text of the pictures of some traces changed from `old` to `new` by the picture of one more,
+-- unless one of the spans `before` belongs to it.
+abbrev pub AddsNewTrace : Bool → ℕ → List Look → List Look → ℕ → List ℕ → List ℕ → Type 0
+AddsNewTrace ascii width spans before trace old new =
+    (traces : List ℕ) → ArePictures ascii width spans traces old
+    → ArePictures ascii width spans (traces ++ new_trace before trace) new
 
 -- the text is the picture of the spans: each of their traces once, in the order in which they first
 -- appear

@@ -5,17 +5,17 @@ ghost use Rattle.std.specs.Prelude.{IsTrue, IsErrOf, IfErr, IfOk, IfSome, OnOk, 
 ghost use Rattle.std.specs.Io.KnownBytes.{Appends, Keeps};
 ghost use Rattle.std.specs.String.{string_bytes};
 ghost use Rattle.otel_waterfall.specs.Columns.{picture_width};
-ghost use Rattle.otel_waterfall.specs.Exporter.{IsPartOfPicture, IsStuck, IsWritersError};
-ghost use Rattle.otel_waterfall.specs.Exporter.{RefusesIfShutDown};
+ghost use Rattle.otel_sdk_base.specs.Writers.{IsStuck};
+ghost use Rattle.otel_waterfall.specs.Exporter.{AddsPicture, AddsPartOfPicture, IsWritersError};
+ghost use Rattle.otel_waterfall.specs.Exporter.{RefusesIfShutDown, SaysThatWriterFailed};
 ghost use Rattle.otel_waterfall.specs.Picture.{IsPictureOf};
 
-use crate::calls::WriterCalls;
 use crate::columns::Style;
 use crate::drawn::drawn;
 use crate::pictures::picture;
 use otel_sdk_base::error::{OTelSdkError, OTelSdkResult};
 use otel_sdk_base::resource::Resource;
-use otel_sdk_base::{Accepted, Exporter};
+use otel_sdk_base::{Accepted, Exporter, WriterCalls};
 use otel_sdk_span::SpanData;
 use std::alloc::{AllocError, Global};
 use std::io::ErrorKind;
@@ -147,6 +147,16 @@ fn picture_of(alloc: Global, style: Style, batch: &[SpanData]) -> Result<String,
     picture(alloc, style, spans.as_slice())
 }
 
+/// Returns the error that says that the writer failed. Its text is empty if out of memory.
+fn writer_failed(alloc: Global) -> OTelSdkError
+    ensures { SaysThatWriterFailed result }
+{
+    match String::from_str(alloc, "the writer failed") {
+        Ok(message) => OTelSdkError::InternalFailure(message),
+        Err(_) => OTelSdkError::InternalFailure(String::new(alloc)),
+    }
+}
+
 /// Writes the picture of a batch of spans.
 fn write_picture<W: WriterCalls>(
     alloc: Global,
@@ -154,21 +164,18 @@ fn write_picture<W: WriterCalls>(
     output: &mut W,
     batch: &[SpanData],
 ) -> OTelSdkResult
-    ensures whole { OnOk result ((text : List ℕ)
-        × IsPictureOf style.is_ascii style.width batch.now text
-        × Appends (W.contents output.old) (W.contents output.new) text) }
-    ensures cut { OnErr result ((part : List ℕ)
-        × IsPartOfPicture style.is_ascii style.width batch.now part
-        × Appends (W.contents output.old) (W.contents output.new) part) }
+    ensures whole { OnOk result (AddsPicture style.is_ascii style.width batch.now
+        (W.contents output.old) (W.contents output.new)) }
+    ensures cut { OnErr result (AddsPartOfPicture style.is_ascii style.width batch.now
+        (W.contents output.old) (W.contents output.new)) }
     ensures memory { IsErrOf result (OTelSdkError.Memory alloc_error)
         → output.new ≡ output.old }
     ensures open { IsErrOf result OTelSdkError.AlreadyShutdown → ⊥ }
     ensures failed { IfErr result (IsWritersError W.may_write) }
 {
     let text = picture_of(alloc, style, batch)?;
-    let message = String::from_str(alloc, "the writer failed")?;
     if !write_all(output, text.as_bytes()) {
-        return Err(OTelSdkError::InternalFailure(message));
+        return Err(writer_failed(alloc));
     }
     Ok(())
 }
@@ -177,17 +184,17 @@ fn write_picture<W: WriterCalls>(
 ///
 /// # Errors
 ///
-/// `InternalFailure` if the writer failed, or `Memory` if it failed and memory ran out too.
+/// `InternalFailure` if the writer failed. Its text is empty if out of memory.
 fn flush<W: WriterCalls>(alloc: Global, output: &mut W) -> OTelSdkResult
     ensures flushed { W.may_flush (is_ok result) }
+    ensures failed { IfErr result SaysThatWriterFailed }
     ensures bytes { Keeps (W.contents output.old) (W.contents output.new) }
     ensures open { IsErrOf result OTelSdkError.AlreadyShutdown → ⊥ }
 {
     if output.flush_all() {
         return Ok(());
     }
-    let message = String::from_str(alloc, "the writer failed")?;
-    Err(OTelSdkError::InternalFailure(message))
+    Err(writer_failed(alloc))
 }
 
 impl<W: WriterCalls + Drop> Exporter<SpanData> for WaterfallExporter<W> {
@@ -195,27 +202,26 @@ impl<W: WriterCalls + Drop> Exporter<SpanData> for WaterfallExporter<W> {
 
     ghost accepted = { λ e. e.accepted };
 
-    ghost calls = { exporter_calls W.contents };
+    ghost calls = { exporter_calls W.contents W.may_write W.may_flush };
 
     /// Draws the batch, and writes the picture. An empty batch is accepted, and nothing is written.
     ///
     /// # Errors
     ///
-    /// `AlreadyShutdown` after [`Exporter::shutdown`]; `Memory` if out of memory. Nothing is
-    /// written then. `InternalFailure` if the writer fails. It may have written a part of the
-    /// picture.
+    /// - `AlreadyShutdown` after [`Exporter::shutdown`], and `Memory` if out of memory. Nothing is
+    ///   written then.
+    /// - `InternalFailure` if the writer failed. It may have written a part of the picture. The
+    ///   text is empty if out of memory.
     fn export(&mut self, batch: &[SpanData]) -> OTelSdkResult
         ensures ok { OnOk result (self.new.accepted ≡ self.old.accepted ++ batch.now ∷ []) }
         ensures err { OnErr result (self.new.accepted ≡ self.old.accepted) }
         ensures refused { RefusesIfShutDown result self.old self.new }
         ensures memory { IsErrOf result (OTelSdkError.Memory alloc_error)
             → self.new ≡ self.old }
-        ensures picture { OnOk result ((text : List ℕ)
-            × IsPictureOf self.old.is_ascii self.old.width batch.now text
-            × Appends (W.contents self.old.output) (W.contents self.new.output) text) }
-        ensures cut { OnErr result ((part : List ℕ)
-            × IsPartOfPicture self.old.is_ascii self.old.width batch.now part
-            × Appends (W.contents self.old.output) (W.contents self.new.output) part) }
+        ensures picture { OnOk result (AddsPicture self.old.is_ascii self.old.width batch.now
+            (W.contents self.old.output) (W.contents self.new.output)) }
+        ensures cut { OnErr result (AddsPartOfPicture self.old.is_ascii self.old.width batch.now
+            (W.contents self.old.output) (W.contents self.new.output)) }
         ensures failed { self.old.is_shut_down ≡ false
             → IfErr result (IsWritersError W.may_write) }
         ensures nothing { batch.now ≡ [] → OnOk result
@@ -238,12 +244,12 @@ impl<W: WriterCalls + Drop> Exporter<SpanData> for WaterfallExporter<W> {
     /// # Errors
     ///
     /// - `AlreadyShutdown` after [`Exporter::shutdown`].
-    /// - `InternalFailure` if the writer failed.
-    /// - `Memory` if the writer failed and memory ran out too.
+    /// - `InternalFailure` if the writer failed. Its text is empty if out of memory.
     fn force_flush(&mut self) -> OTelSdkResult
         ensures refused { RefusesIfShutDown result self.old self.new }
         ensures bytes { Keeps (W.contents self.old.output) (W.contents self.new.output) }
         ensures flushed { self.old.is_shut_down ≡ false → W.may_flush (is_ok result) }
+        ensures failed { self.old.is_shut_down ≡ false → IfErr result SaysThatWriterFailed }
         ensures rest { self.new ≡ record self.old { output = self.new.output } }
     {
         if self.is_shut_down {
@@ -257,12 +263,12 @@ impl<W: WriterCalls + Drop> Exporter<SpanData> for WaterfallExporter<W> {
     /// # Errors
     ///
     /// - `AlreadyShutdown` on a second call.
-    /// - `InternalFailure` if the writer failed.
-    /// - `Memory` if the writer failed and memory ran out too.
+    /// - `InternalFailure` if the writer failed. Its text is empty if out of memory.
     fn shutdown(&mut self) -> OTelSdkResult
         ensures refused { RefusesIfShutDown result self.old self.new }
         ensures bytes { Keeps (W.contents self.old.output) (W.contents self.new.output) }
         ensures flushed { self.old.is_shut_down ≡ false → W.may_flush (is_ok result) }
+        ensures failed { self.old.is_shut_down ≡ false → IfErr result SaysThatWriterFailed }
         ensures down { self.new ≡ record self.old {
           output = self.new.output;
           is_shut_down = true;
@@ -271,8 +277,9 @@ impl<W: WriterCalls + Drop> Exporter<SpanData> for WaterfallExporter<W> {
         if self.is_shut_down {
             return Err(OTelSdkError::AlreadyShutdown);
         }
+        let flushed = flush(self.alloc, &mut self.output);
         self.is_shut_down = true;
-        flush(self.alloc, &mut self.output)
+        flushed
     }
 
     /// Does nothing: a picture doesn't show resources.

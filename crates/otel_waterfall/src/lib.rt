@@ -3,7 +3,6 @@
 #![tactic(auto)]
 
 mod bar;
-mod calls;
 mod columns;
 mod drawn;
 mod duration;
@@ -16,7 +15,6 @@ mod prefix;
 mod rows;
 mod span;
 
-pub use calls::WriterCalls;
 pub use duration::duration_text;
 pub use exporter::WaterfallExporter;
 pub use name::{columns_left, fit, shown_name};

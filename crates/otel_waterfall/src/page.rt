@@ -271,7 +271,7 @@ fn traces_text(alloc: Global, is_alone: bool, traces: &[PageTrace]) -> Result<St
 /// of a span opens its attributes, events and links. All texts of spans are escaped, and characters
 /// that steer a terminal are shown as `?`, except newlines and tabs.
 ///
-/// The time is in proportion to the square of the number of spans of a trace.
+/// For n spans of a trace, the time is in proportion to n log n.
 ///
 /// ```
 /// let page = html_page(alloc, traces.as_slice())?;

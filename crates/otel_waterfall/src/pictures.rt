@@ -106,9 +106,8 @@ fn push_row(
 ) -> Result<(), AllocError>
     requires { scale.cells ≡ bar_width style.width }
     ensures moved { OnOk result (follows.new.items ≡ spec.follows_at follows.old.items row) }
-    ensures text { OnOk result (string_bytes text.new ≡ string_bytes text.old
-        ++ spec.row_text style.is_ascii style.width scale.from scale.to (map look batch.now)
-        follows.new.items row) }
+    ensures text { OnOk result (spec.AddsRow style scale (map look batch.now) follows.new.items row
+        (string_bytes text.old) (string_bytes text.new)) }
 {
     match row {
         Row::Span {
@@ -201,11 +200,8 @@ fn add_trace(
     before: &[Span],
     trace: TraceId,
 ) -> Result<(), AllocError>
-    ensures { (traces : List ℕ) → OnOk result
-        (spec.ArePictures style.is_ascii style.width (map look batch.now) traces
-        (string_bytes text.old)
-        → spec.ArePictures style.is_ascii style.width (map look batch.now)
-        (traces ++ spec.new_trace (map look before.now) trace) (string_bytes text.new)) }
+    ensures { OnOk result (spec.AddsNewTrace style.is_ascii style.width (map look batch.now)
+        (map look before.now) trace (string_bytes text.old) (string_bytes text.new)) }
 {
     if appears(trace, before) {
         return Ok(());

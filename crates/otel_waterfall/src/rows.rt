@@ -5,6 +5,7 @@ ghost use Rattle.otel_waterfall.specs.Rows.{AreDrawnOnce, DrawsOn, IsDrawn};
 use crate::span::Span;
 use otel_ids::{SpanId, TraceId};
 use std::alloc::{AllocError, Global};
+use std::collections::BTreeMap;
 
 /// A row below the first line of a trace.
 #[derive(Clone, Copy, Debug)]
@@ -26,14 +27,14 @@ pub(crate) enum Row {
 }
 
 /// The parent of a span.
-#[derive(Clone, Copy, Debug, PartialEq, Eq)]
+#[derive(Clone, Copy, Debug, PartialEq, Eq, PartialOrd, Ord, Drop)]
 enum Parent {
     /// None: the span is a root.
     Root,
     /// The span at this place of the batch.
     At(usize),
-    /// A span that isn't in the batch.
-    Absent(SpanId),
+    /// A span with this id that isn't in the batch.
+    Absent(u64),
 }
 
 /// A span of the trace.
@@ -51,36 +52,64 @@ struct Waiting {
     follows: bool,
 }
 
+/// Returns the id as a number, by which ids are ordered.
+fn number_of(id: SpanId) -> u64 {
+    u64::from_be_bytes(id.to_bytes())
+}
+
+/// The spans of a trace, ordered by start and then by place, and the first place of each id.
+#[derive(Drop)]
+struct Starts {
+    starts: Vec<(u64, usize)>,
+    places: BTreeMap<u64, usize>,
+}
+
+/// Returns the spans of a trace.
+fn starts_of(alloc: Global, batch: &[Span], trace: TraceId) -> Result<Starts, AllocError> {
+    let mut starts = Vec::new(alloc);
+    let mut places = BTreeMap::new(alloc);
+    for (place, span) in batch.iter().enumerate() {
+        if span.trace_id == trace {
+            starts.push((span.start, place))?;
+            places.entry(number_of(span.span_id))?.or_insert(place);
+        }
+    }
+    starts.sort()?;
+    Ok(Starts { starts, places })
+}
+
 /// Returns the parent of a span: the first span with the parent's id.
-fn parent_of(batch: &[Span], span: &Span) -> Parent {
+fn parent_of(places: &BTreeMap<u64, usize>, span: &Span) -> Parent {
     if span.parent_span_id == SpanId::INVALID {
         return Parent::Root;
     }
-    let trace = span.trace_id;
-    let place = batch.iter().position(|other| other.trace_id == trace
-        && other.span_id == span.parent_span_id);
-    place.map_or(Parent::Absent(span.parent_span_id), Parent::At)
+    let parent = number_of(span.parent_span_id);
+    match places.get(&parent) {
+        Some(place) => Parent::At(*place),
+        None => Parent::Absent(parent),
+    }
 }
 
 /// Returns the spans of a trace, ordered by start and then by place.
 fn nodes_of(alloc: Global, batch: &[Span], trace: TraceId) -> Result<Vec<Node>, AllocError> {
-    let mut starts = Vec::new(alloc);
-    for (place, span) in batch.iter().enumerate() {
-        if span.trace_id == trace {
-            starts.push((span.start, place))?;
-        }
-    }
-    starts.sort()?;
+    let Starts { starts, places } = starts_of(alloc, batch, trace)?;
     let mut nodes = Vec::new(alloc);
     for (_, place) in starts {
         if let Some(span) = batch.get(place) {
             nodes.push(Node {
                 place,
-                parent: parent_of(batch, span),
+                parent: parent_of(&places, span),
             })?;
         }
     }
     Ok(nodes)
+}
+
+/// Returns the nodes ordered by parent, and under each parent as before.
+fn children_of(alloc: Global, nodes: &[Node]) -> Result<Vec<Node>, AllocError> {
+    let mut children = Vec::from_slice(alloc, nodes)?;
+    children.sort_by_key(|node| node.parent)?;
+    Ok(children)
 }
 
 /// The rows drawn so far, and for each place of the batch whether its span is still to be drawn.
@@ -127,17 +156,22 @@ impl Drawing {
     }
 }
 
-/// Pushes the children of a parent that are still to be drawn, the first on top.
+/// Pushes the children of a parent that are still to be drawn, the first on top. `children` has all
+/// spans of the trace, ordered by parent.
 fn push_children(
-    nodes: &[Node],
+    children: &[Node],
     drawing: &Drawing,
     waiting: &mut Vec<Waiting>,
     parent: Parent,
     depth: usize,
 ) -> Result<(), AllocError> {
+    let end = children.partition_point(|node| node.parent <= parent);
     let mut follows = false;
-    for node in nodes.iter().rev() {
-        if node.parent == parent && drawing.is_pending(node.place) {
+    for node in children[..end].iter().rev() {
+        if node.parent != parent {
+            break;
+        }
+        if drawing.is_pending(node.place) {
             waiting.push(Waiting {
                 place: node.place,
                 depth,
@@ -149,11 +183,12 @@ fn push_children(
     Ok(())
 }
 
-/// Draws a row, and the spans under `parent`, each followed by the spans under it.
+/// Draws a row, and the spans under `parent`, each followed by the spans under it. `children` has
+/// all spans of the trace, ordered by parent.
 #[tactic(auto, using(crate::proofs::Draws::draws_more, crate::proofs::Draws::stays_drawn))]
 fn draw_tree(
     alloc: Global,
-    nodes: &[Node],
+    children: &[Node],
     drawing: &mut Drawing,
     top: Row,
     parent: Parent,
@@ -163,8 +198,8 @@ fn draw_tree(
 {
     drawing.draw(top)?;
     let mut waiting = Vec::new(alloc);
-    push_children(nodes, drawing, &mut waiting, parent, 1)?;
-    for _ in 0..nodes.len() {
+    push_children(children, drawing, &mut waiting, parent, 1)?;
+    for _ in 0..children.len() {
         let Some(next) = waiting.pop() else {
             break;
         };
@@ -174,7 +209,13 @@ fn draw_tree(
             follows: next.follows,
         })?;
         let depth = next.depth.saturating_add(1);
-        push_children(nodes, drawing, &mut waiting, Parent::At(next.place), depth)?;
+        push_children(
+            children,
+            drawing,
+            &mut waiting,
+            Parent::At(next.place),
+            depth,
+        )?;
     }
     Ok(())
 }
@@ -208,7 +249,8 @@ fn spans_of(alloc: Global, batch: &[Span], trace: TraceId) -> Result<Vec<bool>, 
 
 /// Returns the rows of a trace, from the top. Each span of the trace has one row, and no other span
 /// has one. Siblings are ordered by start and then by place in the batch. Each is followed by the
-/// spans under it. Spans whose parents form a cycle come last, as if they were roots.
+/// spans under it. Spans whose parents form a cycle come last, as if they were roots. For n spans
+/// of the batch, the time is in proportion to n log n.
 ///
 /// # Errors
 ///
@@ -219,6 +261,7 @@ pub(crate) fn rows_of(alloc: Global, batch: &[Span], trace: TraceId) -> Result<V
         AreDrawnOnce (map (λ span. span.trace_id == trace) batch.now) rows.items) }
 {
     let nodes = nodes_of(alloc, batch, trace)?;
+    let children = children_of(alloc, nodes.as_slice())?;
     let mut drawing = Drawing {
         pending: spans_of(alloc, batch, trace)?,
         rows: Vec::new(alloc),
@@ -230,7 +273,7 @@ pub(crate) fn rows_of(alloc: Global, batch: &[Span], trace: TraceId) -> Result<V
         let Some((row, parent)) = top_of(*node) else {
             continue;
         };
-        draw_tree(alloc, nodes.as_slice(), &mut drawing, row, parent)?;
+        draw_tree(alloc, children.as_slice(), &mut drawing, row, parent)?;
     }
     for place in 0..batch.len() {
         if !drawing.is_pending(place) {
@@ -243,7 +286,7 @@ pub(crate) fn rows_of(alloc: Global, batch: &[Span], trace: TraceId) -> Result<V
         };
         draw_tree(
             alloc,
-            nodes.as_slice(),
+            children.as_slice(),
             &mut drawing,
             row,
             Parent::At(place),

@@ -290,6 +290,55 @@ root                                   1ns                ███████�
 }
 
 #[test]
+fn the_first_span_with_an_id_has_its_children(rt: HostRuntime) -> Result<(), Fail> {
+    let alloc = rt.alloc();
+    let batch = [
+        span(alloc, 8, (1, 0), "other", 1, 1)?,
+        span(alloc, 7, (2, 1), "child", 1, 1)?,
+        span(alloc, 7, (1, 0), "first", 2, 2)?,
+        span(alloc, 7, (1, 0), "second", 1, 1)?,
+    ];
+    let wanted = "trace 00000000000000000000000000000008 0ns 1 span
+other                  0ns =
+
+trace 00000000000000000000000000000007 1ns 3 spans
+second                 0ns =
+first                  0ns       =
+`- child               0ns =
+";
+    assert_eq!(rt;
+        drawn_in_ascii(alloc, 40, &batch)?.as_slice(),
+        wanted.as_bytes()
+    );
+    Ok(())
+}
+
+/// Spans in a chain, each of which has a leaf. The last span of the batch is the root, and each is
+/// before its parent.
+#[test]
+fn a_trace_of_many_spans(rt: HostRuntime) -> Result<(), Fail> {
+    const LENGTH: u64 = 3000;
+    let alloc = rt.alloc();
+    let mut batch = Vec::new(alloc);
+    for i in 0..LENGTH {
+        let (number, parent) = (LENGTH - i, LENGTH - i - 1);
+        batch.push(span(alloc, 7, (LENGTH + number, number), "leaf", 2, 2)?)?;
+        batch.push(span(alloc, 7, (number, parent), "link", 1, 1)?)?;
+    }
+    let text = drawn_in_ascii(alloc, 40, batch.as_slice())?;
+    let mut lines = text.as_slice().split(|byte| *byte == b'\n');
+    let first = lines.next().unwrap_or(&[]);
+    assert_eq!(rt;
+        first,
+        "trace 00000000000000000000000000000007 1ns 6000 spans".as_bytes()
+    );
+    let rest = String::from_utf8(text.clone()?)?;
+    assert_eq!(rt; rest.matches(" link ").count() as u64, LENGTH - 1);
+    assert_eq!(rt; rest.matches("leaf ").count() as u64, LENGTH);
+    Ok(())
+}
+
+#[test]
 fn traces_and_deep_branches(rt: HostRuntime) -> Result<(), Fail> {
     let alloc = rt.alloc();
     let batch = [

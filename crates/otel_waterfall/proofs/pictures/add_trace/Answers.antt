@@ -16,7 +16,7 @@ returns-then-appears c traces p =
     (subst (λ (ts : List ℕ). ArePictures ascii width spans ts old) (sym (append-nil traces)) p)
 
 pub returns : goal.returns
-returns c traces =
+returns c =
     let ascii = c.args.style.is_ascii in
     let width = c.args.style.width in
     let spans = map look c.args.batch.now in
@@ -24,7 +24,7 @@ returns c traces =
     let new = string_bytes c.push_trace.new.text in
     let anew = ap (λ (b : Bool). cond b [] (c.args.trace ∷ [])) (sym (any_look c.args.trace c.args.before.now) ∙ sym c.appears.ensures ∙ c.if-appears.false) in
     map_ok _ _ c.push_trace.result
-    (λ adds p. subst (λ (ts : List ℕ). ArePictures ascii width spans (traces ++ ts) new) (sym anew)
+    (λ adds traces p. subst (λ (ts : List ℕ). ArePictures ascii width spans (traces ++ ts) new) (sym anew)
     (pictures_more ascii width spans traces c.args.trace old new p
     (subst (λ (m : List ℕ). AddsTrace ascii width spans c.args.trace m new) c.in_ok-push_gap.ensures adds)))
     c.push_trace.ensures
