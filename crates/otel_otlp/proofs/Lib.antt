@@ -24,7 +24,9 @@ pub mod StreamText
 pub mod StreamRequest
 pub mod HttpParts
 pub mod HttpDelivery
+pub mod HeaderLists
 pub mod ReadLists
+pub mod ReadTrees
 pub mod ReadErrors
 pub mod ReadGroups
 pub mod ReadBack

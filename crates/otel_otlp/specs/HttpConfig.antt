@@ -39,12 +39,14 @@ IsOwn name =
 abbrev pub NamesHeader : List ℕ → ConfigError → Type 0
 NamesHeader name (error.Endpoint text) = ⊥
 NamesHeader name (error.Header text) = string_bytes text ≡ name
+NamesHeader name (error.HeaderList piece) = ⊥
 NamesHeader name (error.Memory failed) = ⊤
 
 -- the error names the endpoint, unless memory ran out
 abbrev pub NamesEndpoint : List ℕ → ConfigError → Type 0
 NamesEndpoint endpoint (error.Endpoint text) = string_bytes text ≡ endpoint
 NamesEndpoint endpoint (error.Header text) = ⊥
+NamesEndpoint endpoint (error.HeaderList piece) = ⊥
 NamesEndpoint endpoint (error.Memory failed) = ⊤
 
 -- ---- the target

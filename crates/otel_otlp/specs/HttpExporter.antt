@@ -93,6 +93,12 @@ module _ {C R : Type 0} where
     outbox = record s.outbox { waiting = parts };
   }
 
+  -- the batch is accepted, and its parts wait, each as `form` writes it
+  abbrev pub HandsIn : BatchForm R → List R → Sending C R → Sending C R → Type 0
+  HandsIn form batch old new =
+      (parts : List (PartOf R)) × ArePartsOf form old.resource old.max_body batch parts
+      × (new ≡ handed_in batch parts old)
+
   -- the part leaves, after an answer with this meaning
   abbrev pub Ends : PartOf R → Fate → Sending C R → Sending C R → Type 0
   Ends part (fate.Taken partial) old new = new ≡ taken part partial old
@@ -143,6 +149,12 @@ module _ {C R : Type 0} (sent : C → List Sent) (answers : C → Sent → Answe
     pub posted : IsPosted sent answers old.head part.body old.client answer client
     pub shown : shows old.pause.shown (Some answer) now
     pub means : IsFate name (now / 1000000000) answer f
+
+  -- the part that waits first was sent, as above
+  abbrev pub Asks : Sending C R → ℕ → Fate → C → Type 0
+  Asks old now f client =
+      (part : PartOf R) × (more : List (PartOf R)) × (old.outbox.waiting ≡ part ∷ more)
+      × IsAnswered part old now f client
 
   -- the part is a single item whose body is too long: it is given up, and never sent
   abbrev pub IsTooLong : PartOf R → Sending C R → Sending C R → Type 0

@@ -26,10 +26,15 @@ IsCount (string text) count = IsDecimal text count
 IsCount (array _) count = count ≡ None
 IsCount (object _) count = count ≡ None
 
--- the number of rejected items under the name, 0 if it isn't there
+-- the same; null counts as 0
+abbrev pub IsCountOrNull : Data → Option ℕ → Type 0
+IsCountOrNull null count = count ≡ Some 0
+IsCountOrNull value count = IsCount value count
+
+-- the number of rejected items under the name, 0 if it is absent or null
 abbrev pub IsRejected : List ℕ → Data → Option ℕ → Type 0
 IsRejected name partial count =
-    MatchOption (get name partial) (count ≡ Some 0) (λ value. IsCount value count)
+    MatchOption (get name partial) (count ≡ Some 0) (λ value. IsCountOrNull value count)
 
 -- its message is the member `errorMessage`
 abbrev pub HasMessage : Data → Partial → Type 0

@@ -5,6 +5,7 @@ pub mod Groups
 pub mod Exporter
 pub mod HttpClient
 pub mod HttpConfig
+pub mod HttpTexts
 pub mod HttpResponse
 pub mod HttpStatus
 pub mod Backoff
@@ -22,9 +23,12 @@ pub mod HttpFate
 pub mod HttpPause
 pub mod HttpTally
 pub mod HttpExporter
+pub mod Pipes
 pub mod ReadMembers
 pub mod ReadValues
 pub mod ReadGroups
 pub mod ReadTraces
+pub mod ReadTrees
+pub mod ReadLogs
 pub mod ReadView
 pub mod ReadBack

@@ -5,6 +5,7 @@ use Rattle.std.specs.Prelude.{◌≡◌, ℕ, ◌<◌, ◌^◌, ℤ, Bool, true,
 use Rattle.std.specs.Prelude.{length, ◌==◌}
 use Rattle.std.specs.Prelude.{if◌then◌else◌, codes, FitsSigned, refl}
 use Rattle.std.specs.Prelude.{Option, Some, None, is_some, MatchOption, option_map, option_and_then}
+use Rattle.std.specs.Bool.{MatchBool}
 use Rattle.std.specs.Int.{w64, w128, from_be_bytes}
 use Rattle.std.specs.List.{AllZip, list_all}
 use Rattle.std.specs.Option.{SomeIff}
@@ -64,9 +65,20 @@ given_text_in name d = given_text_of (member_of name d)
 abbrev pub IsWideIn : List ℕ → Data → ℕ → Type 0
 IsWideIn name d n = MatchOption (member_of name d) (n ≡ 0) (λ value. IsCount value (Some n))
 
+-- a number of 64 bits that may be absent
+abbrev pub IsGivenWideIn : List ℕ → Data → Option ℕ → Type 0
+IsGivenWideIn name d n =
+    MatchOption (member_of name d) (n ≡ None)
+    (λ value. (given : ℕ) × (n ≡ Some given) × IsCount value (Some given))
+
 -- a number of 32 bits
 abbrev pub IsNarrowIn : List ℕ → Data → ℕ → Type 0
 IsNarrowIn name d n = IsWideIn name d n × (n < 2 ^ 32)
+
+-- a number of 32 bits that may be absent
+abbrev pub IsGivenNarrowIn : List ℕ → Data → Option ℕ → Type 0
+IsGivenNarrowIn name d n =
+    MatchBool (has name d) ((given : ℕ) × (n ≡ Some given) × IsNarrowIn name d given) (n ≡ None)
 
 -- the integer of 64 bits that a text of decimal digits after an optional sign writes
 abbrev pub IsSignedDecimal : List ℕ → Option ℤ → Type 0
@@ -111,6 +123,22 @@ parent_id_of text = if length text == 0 then Some 0 else span_id_of text
 
 abbrev pub parent_id_in : Data → Option ℕ
 parent_id_in d = option_and_then parent_id_of (text_in (codes "parentSpanId") d)
+
+-- the trace id of a log record, if there is one: an empty text counts as absent
+abbrev pub given_trace_id_of : List ℕ → Option (Option ℕ)
+given_trace_id_of text =
+    if length text == 0 then Some None else option_map (λ id. Some id) (trace_id_of text)
+
+abbrev pub given_trace_id_in : Data → Option (Option ℕ)
+given_trace_id_in d = option_and_then given_trace_id_of (text_in (codes "traceId") d)
+
+-- the span id of a log record, likewise
+abbrev pub given_span_id_of : List ℕ → Option (Option ℕ)
+given_span_id_of text =
+    if length text == 0 then Some None else option_map (λ id. Some id) (span_id_of text)
+
+abbrev pub given_span_id_in : Data → Option (Option ℕ)
+given_span_id_in d = option_and_then given_span_id_of (text_in (codes "spanId") d)
 
 -- ---- trace states
 -- the text of a header

@@ -3,6 +3,7 @@
 use Rattle.std.specs.Prelude.{◌≡◌, ◌≤◌, ◌*◌, ℕ, Bool, true, false, List, [], ◌∷◌, ◌++◌, length}
 use Rattle.std.specs.Prelude.{Ok, Option, Some, None, option_map, unwrap_or, Vec, All, IsTrue}
 use Rattle.std.specs.Prelude.{map, fold, codes}
+use Rattle.std.specs.Io.KnownBytes.{Consumes}
 use Rattle.std.specs.declared.alloc.Global.{Global}
 use Rattle.httparse.specs.Grammar.{print_request}
 use Rattle.httparse.specs.Spans.{name_and_value}
@@ -31,7 +32,8 @@ use Rattle.http1.specs.Client.{after_request, after_end, with_writing, writing}
 use Rattle.http1.specs.ServerTrace.{SeenBody, no_body}
 use Rattle.http1.specs.ClientTrace.{SeenResponse, answer_view, Seen, Trace}
 use Rattle.http1_typed.specs.Parts.{fields_of, version_of}
-use Rattle.otel_otlp.specs.HttpClient.{Sent}
+use Rattle.otel_otlp.specs.HttpClient.{Sent, Received}
+use Rattle.otel_otlp.specs.declared.otlp_http.stream_client.source.Source.{Source}
 
 -- the limits of a response: 64 KiB for its head, 16 KiB for its trailers, and for its chunks'
 -- extensions
@@ -151,6 +153,29 @@ pub record Answers (p : Request.Parts) (stream : List ℕ) (answer : Answering (
   pub body : (answered.body_of answer).items ≡ last.body.bytes
   pub within : length last.body.bytes ≤ max_body_len
 
+-- `remaining` is the reader's: the bytes that it will give, if they are known
+module _ {R : Type 0} (remaining : R → Option (List ℕ)) where
+  -- the client has read bytes, and what it had unread, followed by them, begins with this answer to
+  -- the request
+  abbrev pub ReadsAnswer : {W : Type 0}
+      → Request.Parts → Streaming R W → Received → Streaming R W → Type 0
+  ReadsAnswer p old answer new =
+      (came : List ℕ) × Consumes (remaining old.reader) (remaining new.reader) came
+      × Answers p (old.unread ++ came) answer new.unread
+
+  -- the source has read these bytes, and none was used
+  abbrev pub Gains : Source R → List ℕ → Source R → Type 0
+  Gains old came new =
+      (new.unread.items ≡ old.unread.items ++ came)
+      × Consumes (remaining old.reader) (remaining new.reader) came
+
+  -- The source has read bytes. `Uses` relates what it had unread, followed by them, and what it has
+  -- unread now.
+  abbrev pub Reads : Source R → Source R → (List ℕ → List ℕ → Type 0) → Type 0
+  Reads old new Uses =
+      (came : List ℕ) × Consumes (remaining old.reader) (remaining new.reader) came
+      × Uses (old.unread.items ++ came) new.unread.items
+
 -- ---- steps
 -- the response with this body
 abbrev pub with_body : SeenResponse → SeenBody → SeenResponse
@@ -212,6 +237,11 @@ pub record FindsBody (first : Client) (stream body rest : List ℕ) : Type 0 whe
 abbrev pub StepsInBody : Client → List ℕ → Client → List ℕ → List ℕ → Bool → Type 0
 StepsInBody first stream now unread piece true = FindsBody first stream piece unread
 StepsInBody first stream now unread piece false = Gives first stream now unread piece
+
+-- a step in a body, by whose piece the body has become `longer`
+abbrev pub Grows : List ℕ → List ℕ → Client → List ℕ → Client → List ℕ → Bool → Type 0
+Grows body longer first stream now unread ended =
+    (piece : List ℕ) × (longer ≡ body ++ piece) × StepsInBody first stream now unread piece ended
 
 -- The connection `first`, which is given the stream, has read responses of status 1xx, then the
 -- answer, and `rest` follows it.

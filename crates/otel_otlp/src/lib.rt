@@ -17,9 +17,13 @@ mod written;
 
 pub use crate::otlp_http::{
     Backoff, ClockCalls, ConfigError, FileClient, HttpClient, HttpError, OtlpHttpConfig,
-    OtlpHttpExporter, OtlpHttpLogExporter, OtlpHttpSpanExporter, StreamClient,
+    OtlpHttpExporter, OtlpHttpLogExporter, OtlpHttpSpanExporter, PipeError, PipeExporter,
+    StreamClient, pipe_exporter,
 };
-pub use crate::read::{ReadError, ResourceSpans, read_resource_spans, read_traces};
+pub use crate::read::{
+    ReadError, ResourceLogs, ResourceSpans, read_logs, read_resource_logs, read_resource_spans,
+    read_traces,
+};
 pub use append_file::AppendFile;
 pub use exporter::{OtlpJsonExporter, OtlpJsonLogExporter, OtlpJsonSpanExporter};
 pub use logs::{logs_data, logs_text};

@@ -1,13 +1,14 @@
 //! Writes lines to a writer. Each line is complete, or a fragment on a line by itself.
-ghost use Rattle.std.specs.Prelude.{◌≡◌, ◌++◌, ◌∷◌, ℕ, List, [], true, false};
+ghost use Rattle.std.specs.Prelude.{◌≡◌, ◌<◌, ◌++◌, ◌∷◌, ℕ, List, [], length, true, false};
 ghost use Rattle.std.specs.Prelude.{IsTrue, IsOk, OnOk, OnErr, IfErr, IsErrOf, alloc_error, ◌↔◌};
 ghost use Rattle.std.specs.Prelude.{string_bytes};
+ghost use Rattle.otel_sdk_base.specs.Writers.{IsFlushed, IsStuck, IsWritersError};
 ghost use Rattle.otel_otlp.specs.Exporter.{Writes, Flushes, IsCutOff, IsFailure};
 
 use crate::written::write_bytes;
+use otel_sdk_base::WriterCalls;
 use otel_sdk_base::error::{OTelSdkError, OTelSdkResult};
 use std::alloc::Global;
-use std::io::{self, Write};
 
 // Returns the failure with the message, which is empty if out of memory.
 fn failure(alloc: Global, message: &str) -> OTelSdkError
@@ -20,14 +21,14 @@ fn failure(alloc: Global, message: &str) -> OTelSdkError
 }
 
 // Returns `Ok` if the writer was flushed, and otherwise that it failed.
-fn flush_result(alloc: Global, flushed: io::Result<()>) -> OTelSdkResult
-    ensures same { IsOk result ↔ IsOk flushed }
+fn flush_result(alloc: Global, flushed: bool) -> OTelSdkResult
+    ensures same { IsOk result ↔ IsTrue flushed }
     ensures failure { IfErr result IsFailure }
 {
-    match flushed {
-        Ok(()) => Ok(()),
-        Err(_) => Err(failure(alloc, "the writer wasn't flushed")),
+    if flushed {
+        return Ok(());
     }
+    Err(failure(alloc, "the writer wasn't flushed"))
 }
 
 /// A writer of lines, and whether the newline of the last line is pending.
@@ -39,10 +40,11 @@ pub struct Lines<W> {
     pub newline_is_pending: bool,
 }
 
-impl<W: Write> Lines<W> {
+impl<W: WriterCalls> Lines<W> {
     // Writes the pending newline, if there is one. Returns `true` if none is pending afterwards.
     fn write_pending_newline(&mut self) -> bool
         ensures written { IsTrue result → self.new.newline_is_pending ≡ false }
+        ensures stuck { result ≡ false → IsStuck W.may_write }
         ensures writes { Writes W.contents self.old self.new [] }
     {
         if self.newline_is_pending && write_bytes(&mut self.writer, b"\n") == 1 {
@@ -60,6 +62,7 @@ impl<W: Write> Lines<W> {
             → Writes W.contents self.old self.new line.now }
         ensures cut { result ≡ false → (text : List ℕ) → line.now ≡ text ++ 10 ∷ []
             → (cut : List ℕ) × IsCutOff text cut × Writes W.contents self.old self.new cut }
+        ensures stuck { result ≡ false → 0 < length line.now → IsStuck W.may_write }
     {
         let count = write_bytes(&mut self.writer, line.as_bytes());
         self.newline_is_pending = count > 0 && count < line.len();
@@ -82,6 +85,7 @@ impl<W: Write> Lines<W> {
         ensures memory { IsErrOf result (OTelSdkError.Memory alloc_error)
             → self.new ≡ self.old }
         ensures open { IsErrOf result OTelSdkError.AlreadyShutdown → ⊥ }
+        ensures failed { IfErr result (IsWritersError W.may_write) }
     {
         text.push('\n')?;
         if !self.write_pending_newline() || !self.write_object(text.as_str()) {
@@ -96,11 +100,12 @@ impl<W: Write> Lines<W> {
     ///
     /// `InternalFailure` if the writer failed.
     pub(crate) fn flush(&mut self, alloc: Global) -> OTelSdkResult
-        ensures { Flushes W.contents result self.old self.new }
+        ensures flushes { Flushes W.contents result self.old self.new }
+        ensures answered { IsFlushed W.may_write W.may_flush result }
     {
         if !self.write_pending_newline() {
             return Err(failure(alloc, "the writer didn't take the newline"));
         }
-        flush_result(alloc, self.writer.flush())
+        flush_result(alloc, self.writer.flush_all())
     }
 }

@@ -1,8 +1,9 @@
 //! Sends spans by OTLP over HTTP.
 //!
-//! The arguments are the numbers of the first batch and of the one past the last, and an address or
-//! a folder, whose path has a `/`. Each request has its own connection to the address, or by the
-//! pipes of the folder. Without either, requests go to standard output, and responses come from
+//! The arguments are the numbers of the first batch and of the one past the last, an address or a
+//! folder, whose path has a `/`, and, after a folder, a list of headers if the exporter is to be made
+//! from texts of environment variables. Each request has its own connection to the address, or by
+//! the pipes of the folder. Without either, requests go to standard output, and responses come from
 //! standard input, until no more requests can be sent. The number of each batch that has left the
 //! exporter is a line on standard error.
 #![tactic(auto)]
@@ -13,9 +14,10 @@ use opentelemetry::trace::{
 };
 use opentelemetry::{InstrumentationScope, StringValue};
 use otel_otlp::{
-    FileClient, HttpClient, HttpError, OtlpHttpConfig, OtlpHttpExporter, OtlpHttpSpanExporter,
-    StreamClient,
+    ClockCalls, FileClient, HttpClient, HttpError, OtlpHttpConfig, OtlpHttpExporter,
+    OtlpHttpSpanExporter, PipeError, StreamClient, pipe_exporter,
 };
+use otel_sdk_base::otlp::{EnvEndpoint, EnvOtlp};
 use otel_sdk_base::{Accepted, CountedClock, Exporter};
 use otel_sdk_span::{SpanData, SpanEvents, SpanLinks};
 use std::alloc::{AllocError, Global};
@@ -30,7 +32,7 @@ const SPANS: u64 = 25;
 /// The nanoseconds of an hour.
 const HOUR: u64 = 3_600_000_000_000;
 
-type Sender<C> = OtlpHttpSpanExporter<C, HostRuntime, CountedClock>;
+type Sender<C, K> = OtlpHttpSpanExporter<C, HostRuntime, K>;
 
 fn span(alloc: Global, number: u64) -> Result<SpanData, AllocError> {
     let (trace_id, span_id) = (TraceId::from(1), SpanId::from(number));
@@ -105,7 +107,7 @@ impl HttpClient for Dial {
 }
 
 // Creates the exporter. Its clock moves on by an hour at each reading, so it never waits.
-fn exporter<C: HttpClient>(rt: HostRuntime, client: C) -> io::Result<Sender<C>> {
+fn exporter<C: HttpClient>(rt: HostRuntime, client: C) -> io::Result<Sender<C, CountedClock>> {
     let alloc = rt.alloc();
     let Ok(config) = OtlpHttpConfig::new(alloc) else {
         return Err(ErrorKind::OutOfMemory.into());
@@ -117,9 +119,9 @@ fn exporter<C: HttpClient>(rt: HostRuntime, client: C) -> io::Result<Sender<C>> 
 }
 
 // Sends the batches, until no more requests can be sent.
-fn send<C: HttpClient>(
+fn send<C: HttpClient, K: ClockCalls>(
     rt: HostRuntime,
-    exporter: &mut Sender<C>,
+    exporter: &mut Sender<C, K>,
     bounds: (u64, u64),
     is_open: fn(&C) -> bool,
 ) -> io::Result<()> {
@@ -138,10 +140,27 @@ fn send<C: HttpClient>(
     Ok(())
 }
 
+// Sends the batches through the pipes of the folder, with these headers.
+fn send_by_pipes(rt: HostRuntime, folder: &str, list: &str, bounds: (u64, u64)) -> io::Result<()> {
+    let headers = StringValue::from(String::from_str(rt.alloc(), list)?);
+    let otlp = EnvOtlp {
+        endpoint: EnvEndpoint::Base(StringValue::from("http://localhost:4318")),
+        headers,
+    };
+    match pipe_exporter(rt.alloc(), rt, folder, &otlp) {
+        Ok(mut exporter) => send(rt, &mut exporter, bounds, |_| true),
+        Err(PipeError::Keys(error)) => Err(error),
+        Err(PipeError::Config(_)) => Err(ErrorKind::InvalidInput.into()),
+    }
+}
+
 fn main(rt: HostRuntime) -> io::Result<()> {
     let words: Vec<String> = std::env::args(&rt)?.collect(rt.alloc())?;
     let bounds = bounds(words.as_slice())?;
     let keys = RandomState::new(&rt)?;
+    if let (Some(folder), Some(list)) = (words.get(3), words.get(4)) {
+        return send_by_pipes(rt, folder.as_str(), list.as_str(), bounds);
+    }
     match words.get(3) {
         Some(folder) if folder.as_str().contains('/') => {
             let client = FileClient::new(rt.alloc(), keys, rt, folder.as_str())?;

@@ -1,11 +1,14 @@
 //! How a collector is reached.
-ghost use Rattle.std.specs.Prelude.{◌≡◌, [], codes, IfOk, IfErr, IsErr, IsTrue, ◌↔◌, true, false};
-ghost use Rattle.std.specs.Prelude.{string_bytes, if◌then◌else◌, alloc_error};
+ghost use Rattle.std.specs.Prelude.{◌≡◌, [], codes, IfOk, OnOk, IfErr, IsErr, IsTrue, ◌↔◌};
+ghost use Rattle.std.specs.Prelude.{true, false, string_bytes, if◌then◌else◌, alloc_error};
 ghost use Rattle.http_header.specs.HeaderMap.{insert};
+ghost use Rattle.http_header.specs.FieldName.{IsFieldName};
 ghost use Rattle.http_header.specs.FieldValue.{plain_value, IsFieldValue};
 ghost use Rattle.http_header.specs.Token.{lowercase};
 ghost use Rattle.otel_otlp.specs.HttpConfig as spec;
 ghost use Rattle.otel_otlp.specs.declared.otlp_http.config.ConfigError.TheVariants.{Memory};
+
+mod texts;
 
 use http::header::{HeaderMapError, HeaderNameError, HeaderValueError};
 use http::request::Parts;
@@ -25,6 +28,9 @@ pub enum ConfigError {
     /// isn't one of a header.
     #[error("header not allowed: {0}")]
     Header(String),
+    /// The piece of this number, counted from 0, of a list of headers isn't `NAME=VALUE`.
+    #[error("piece {0} of the list of headers isn't NAME=VALUE")]
+    HeaderList(usize),
     /// Out of memory. Not in the Rust crate, which aborts.
     #[error("no memory")]
     Memory(AllocError),
@@ -164,6 +170,7 @@ fn is_own(name: &HeaderName) -> bool
 fn header(alloc: Global, name: &str, value: &str) -> Result<(HeaderName, HeaderValue), ConfigError>
     ensures ok { IfOk result (λ h. (h.0 ≡ lowercase name.now) × (h.1 ≡ plain_value value.now)) }
     ensures own { spec.IsOwn (lowercase name.now) → IsErr result }
+    ensures name { ¬ (IsFieldName name.now) → IsErr result }
     ensures value { ¬ (IsFieldValue value.now) → IsErr result }
     ensures err { IfErr result (spec.NamesHeader name.now) }
 {
@@ -182,6 +189,28 @@ fn header(alloc: Global, name: &str, value: &str) -> Result<(HeaderName, HeaderV
     }
 }
 
+/// Sets the header, in place of an earlier one of that name.
+fn put_header(
+    alloc: Global,
+    headers: &mut HeaderMap,
+    name: &str,
+    value: &str,
+) -> Result<(), ConfigError>
+    ensures ok { OnOk result (headers.new
+        ≡ insert headers.old (lowercase name.now) (plain_value value.now)) }
+    ensures own { spec.IsOwn (lowercase name.now) → IsErr result }
+    ensures name { ¬ (IsFieldName name.now) → IsErr result }
+    ensures value { ¬ (IsFieldValue value.now) → IsErr result }
+    ensures err { IfErr result (spec.NamesHeader name.now) }
+{
+    let (key, field) = header(alloc, name, value)?;
+    match headers.insert(key, field) {
+        Ok(_) => Ok(()),
+        Err(HeaderMapError::MaxSizeReached) => Err(not_allowed(alloc, name)),
+        Err(HeaderMapError::OutOfMemory) => Err(ConfigError::Memory(AllocError)),
+    }
+}
+
 impl OtlpHttpConfig {
     /// Returns the configuration for a collector on the same machine: `http://localhost:4318`, the
     /// exporter's `User-Agent`, and bodies of at most 4 MiB.
@@ -190,7 +219,8 @@ impl OtlpHttpConfig {
     ///
     /// `Memory` if out of memory.
     pub fn new(alloc: Global) -> Result<OtlpHttpConfig, ConfigError>
-        ensures { IfOk result (λ config. config ≡ spec.local) }
+        ensures ok { IfOk result (λ config. config ≡ spec.local) }
+        ensures err { IfErr result (λ error. error ≡ Memory alloc_error) }
     {
         let mut headers = HeaderMap::new(alloc);
         let agent = HeaderValue::from_static("OTel-OTLP-Exporter-Rattle/0.1.0");
@@ -249,15 +279,12 @@ impl OtlpHttpConfig {
           headers = insert self.headers (lowercase name.now) (plain_value value.now);
         }) }
         ensures own { spec.IsOwn (lowercase name.now) → IsErr result }
+        ensures name { ¬ (IsFieldName name.now) → IsErr result }
         ensures value { ¬ (IsFieldValue value.now) → IsErr result }
         ensures err { IfErr result (spec.NamesHeader name.now) }
     {
-        let (key, field) = header(alloc, name, value)?;
-        match self.headers.insert(key, field) {
-            Ok(_) => Ok(self),
-            Err(HeaderMapError::MaxSizeReached) => Err(not_allowed(alloc, name)),
-            Err(HeaderMapError::OutOfMemory) => Err(ConfigError::Memory(AllocError)),
-        }
+        put_header(alloc, &mut self.headers, name, value)?;
+        Ok(self)
     }
 
     /// Sets the greatest length of a body in bytes. A longer batch is halved, and an item that is

@@ -5,10 +5,9 @@ ghost use Rattle.std.specs.Option.{option_copied};
 ghost use Rattle.std.specs.Rc.{rc_value};
 ghost use Rattle.otel_otlp.specs.HttpExporter.{IsNew, IsAccounted, Accepts, Refuses, Flushes};
 ghost use Rattle.otel_otlp.specs.HttpExporter.{Leaves, Stays, Delivers, Tries, ShutsDown};
-ghost use Rattle.otel_otlp.specs.HttpExporter.{taken, given_up, handed_in, at};
-ghost use Rattle.otel_otlp.specs.HttpExporter.{IsAnswered, Ends, IsKept};
+ghost use Rattle.otel_otlp.specs.HttpExporter.{taken, given_up, at, HandsIn, Asks, Ends, IsKept};
 ghost use Rattle.otel_otlp.specs.HttpConfig.{NamesEndpoint};
-ghost use Rattle.otel_otlp.specs.HttpPart.{PartOf, ArePartsOf};
+ghost use Rattle.otel_otlp.specs.HttpPart.{PartOf};
 ghost use Rattle.otel_sdk_base.specs.Resource as resources;
 
 use crate::otlp_http::client::HttpClient;
@@ -220,10 +219,8 @@ impl<C: HttpClient, R: Signal, S: RandomSource + Drop, K: ClockCalls> OtlpHttpEx
     // Sends the part that waits first. Returns the moment of the answer, and its meaning.
     fn ask(&mut self) -> (u64, Fate)
         requires { ¬ (self.old.outbox.waiting ≡ []) }
-        ensures sent { (part : PartOf R) × (more : List (PartOf R))
-            × (self.old.outbox.waiting ≡ part ∷ more)
-            × IsAnswered C.sent C.answers K.shows R.rejected_member part self.old
-            result.0 result.1 self.new.client }
+        ensures sent { Asks C.sent C.answers K.shows R.rejected_member
+            self.old result.0 result.1 self.new.client }
         ensures rest { self.new ≡ at result.0 (record self.old { client = self.new.client }) }
     {
         let answer = self.link.post(self.alloc, self.outbox.first().body());
@@ -299,9 +296,7 @@ impl<C: HttpClient, R: Signal, S: RandomSource + Drop, K: ClockCalls> OtlpHttpEx
 
     // Accepts the batch, whose parts now wait.
     fn accept(&mut self, batch: &[R]) -> OTelSdkResult
-        ensures ok { OnOk result ((parts : List (PartOf R))
-            × ArePartsOf R.form self.old.resource self.old.max_body batch.now parts
-            × (self.new ≡ handed_in batch.now parts self.old)) }
+        ensures ok { OnOk result (HandsIn R.form batch.now self.old self.new) }
         ensures err { IfErr result (λ error.
             (error ≡ OTelSdkError.Memory alloc_error) × (self.new ≡ self.old)) }
     {

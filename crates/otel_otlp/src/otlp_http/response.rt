@@ -17,17 +17,18 @@ pub struct Partial {
     pub message: Option<String>,
 }
 
-/// Returns the number, which may be written as a text of decimal digits.
+/// Returns the number, which may be written as a text of decimal digits; null counts as 0.
 fn count_of(value: &Value) -> Option<u64>
-    ensures { spec.IsCount (view value.now) result }
+    ensures { spec.IsCountOrNull (view value.now) result }
 {
     match value {
+        Value::Null => Some(0),
         Value::String(text) => text.as_str().parse::<u64>().ok(),
         _ => value.as_u64(),
     }
 }
 
-/// Returns the number of rejected items, 0 if the member isn't there, and `None` if it is no
+/// Returns the number of rejected items, 0 if the member is absent or null, and `None` if it is no
 /// number.
 fn rejected_of(partial: &Value, name: &str) -> Option<u64>
     ensures { spec.IsRejected name.now (view partial.now) result }

@@ -1,12 +1,13 @@
 //! A client over a reader and a writer, which together carry one connection.
-ghost use Rattle.std.specs.Prelude.{◌≡◌, ℕ, List, [], ◌∷◌, ◌++◌, take, false};
+ghost use Rattle.std.specs.Prelude.{◌≡◌, ℕ, [], ◌∷◌, ◌++◌, take, false};
 ghost use Rattle.std.specs.Prelude.{IsTrue, IsErr, IfOk, OnOk, OnErr};
-ghost use Rattle.std.specs.Io.KnownBytes.{Appends, Consumes};
+ghost use Rattle.std.specs.Io.KnownBytes.{Appends};
 ghost use Rattle.http.specs.Request.{head_of, body_of};
 ghost use Rattle.http1.specs.Client.{reading};
 ghost use Rattle.http1.specs.Framing.{method_kind};
 ghost use Rattle.http1.specs.declared.conn.Reading.TheVariants as Reading;
-ghost use Rattle.otel_otlp.specs.StreamClient.{initial, request_text, asking, IsRequest, Answers};
+ghost use Rattle.otel_otlp.specs.StreamClient.{initial, request_text, asking, IsRequest};
+ghost use Rattle.otel_otlp.specs.StreamClient.{IsWritable, ReadsAnswer};
 
 mod request;
 mod source;
@@ -126,8 +127,8 @@ fn write<W: Write>(
         (take count (request_text (head_of request.now) (body_of request.now).items)) }
     ensures whole { OnOk result (Appends (W.contents writer.old) (W.contents writer.new)
         (request_text (head_of request.now) (body_of request.now).items)) }
-    ensures message { OnOk result (IsRequest (head_of request.now) (body_of request.now).items
-        (request_text (head_of request.now) (body_of request.now).items)) }
+    ensures written { OnOk result
+        (IsWritable (head_of request.now) (body_of request.now).items) }
     ensures asking { IfOk result (λ connection. connection
         ≡ asking (head_of request.now) (body_of request.now).items) }
     ensures waits { IfOk result (λ connection. reading connection ≡ Reading.Head) }
@@ -167,9 +168,8 @@ impl<R: Read + Drop, W: Write + Drop> HttpClient for StreamClient<R, W> {
         ensures message { OnOk result
             (IsRequest (head_of request.now) (body_of request.now).items
             (request_text (head_of request.now) (body_of request.now).items)) }
-        ensures answer { IfOk result (λ answer. (came : List ℕ)
-            × Consumes (R.remaining self.old.reader) (R.remaining self.new.reader) came
-            × Answers (head_of request.now) (self.old.unread ++ came) answer self.new.unread) }
+        ensures answer { IfOk result (λ answer.
+            ReadsAnswer R.remaining (head_of request.now) self.old answer self.new) }
         ensures closed { OnErr result (self.new.is_open ≡ false) }
         ensures quiet { IsTrue self.new.is_open → self.new.unread ≡ [] }
         ensures refused { self.old.is_open ≡ false → IsErr result

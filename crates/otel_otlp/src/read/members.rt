@@ -1,6 +1,6 @@
 //! Reads the members of an object: texts, numbers, ids and lists.
 ghost use Rattle.std.specs.Prelude.{◌≡◌, List, None, Some, IfOk, IfErr, OnOk, map, option_map};
-ghost use Rattle.std.specs.Prelude.{string_bytes, ℕ};
+ghost use Rattle.std.specs.Prelude.{string_bytes, ℕ, Option};
 ghost use Rattle.serde_json.specs.View.{view};
 ghost use Rattle.otel_ids.specs.TraceState.{Pair};
 ghost use Rattle.otel_otlp.specs.HttpResponse.{IsCount};
@@ -107,6 +107,25 @@ pub(crate) fn wide(alloc: Global, object: &Value, name: &str) -> Result<u64, Rea
     }
 }
 
+/// Returns the number of 64 bits of the member, if it isn't absent.
+pub(crate) fn given_wide(
+    alloc: Global,
+    object: &Value,
+    name: &str,
+) -> Result<Option<u64>, ReadError>
+    ensures ok { IfOk result (spec.IsGivenWideIn name.now (view object.now)) }
+    ensures err { IfErr result (λ e. IsRefusal e
+        → (n : Option ℕ) → ¬ spec.IsGivenWideIn name.now (view object.now) n) }
+{
+    let Some(value) = member(object, name) else {
+        return Ok(None);
+    };
+    match wide_of(value) {
+        Some(number) => Ok(Some(number)),
+        None => Err(unexpected(alloc, name, "a number of 64 bits")),
+    }
+}
+
 /// Returns the number of 32 bits of the member, 0 if it is absent.
 pub(crate) fn narrow(alloc: Global, object: &Value, name: &str) -> Result<u32, ReadError>
     ensures ok { IfOk result (spec.IsNarrowIn name.now (view object.now)) }
@@ -118,6 +137,22 @@ pub(crate) fn narrow(alloc: Global, object: &Value, name: &str) -> Result<u32, R
         return Err(unexpected(alloc, name, "a number of 32 bits"));
     }
     Ok(number as u32)
+}
+
+/// Returns the number of 32 bits of the member, if it isn't absent.
+pub(crate) fn given_narrow(
+    alloc: Global,
+    object: &Value,
+    name: &str,
+) -> Result<Option<u32>, ReadError>
+    ensures ok { IfOk result (spec.IsGivenNarrowIn name.now (view object.now)) }
+    ensures err { IfErr result (λ e. IsRefusal e
+        → (n : Option ℕ) → ¬ spec.IsGivenNarrowIn name.now (view object.now) n) }
+{
+    if member(object, name).is_none() {
+        return Ok(None);
+    }
+    Ok(Some(narrow(alloc, object, name)?))
 }
 
 /// Reads 32 hexadecimal digits of either case.
@@ -189,6 +224,62 @@ pub(crate) fn parent_id(alloc: Global, object: &Value) -> Result<SpanId, ReadErr
     match value.as_str().and_then(parent_id_of) {
         Some(id) => Ok(id),
         None => Err(unexpected(alloc, "parentSpanId", "16 hexadecimal digits")),
+    }
+}
+
+/// Reads a trace id, which may be empty.
+fn given_trace_id_of(text: &str) -> Option<Option<TraceId>>
+    ensures { result ≡ spec.given_trace_id_of text.now }
+{
+    if text.is_empty() {
+        return Some(None);
+    }
+    match trace_id_of(text) {
+        Some(id) => Some(Some(id)),
+        None => None,
+    }
+}
+
+/// Reads a span id, which may be empty.
+fn given_span_id_of(text: &str) -> Option<Option<SpanId>>
+    ensures { result ≡ spec.given_span_id_of text.now }
+{
+    if text.is_empty() {
+        return Some(None);
+    }
+    match span_id_of(text) {
+        Some(id) => Some(Some(id)),
+        None => None,
+    }
+}
+
+/// Returns the trace id of the object, unless it is absent or empty.
+pub(crate) fn given_trace_id(alloc: Global, object: &Value) -> Result<Option<TraceId>, ReadError>
+    ensures ok { IfOk result (λ id. spec.given_trace_id_in (view object.now) ≡ Some id) }
+    ensures err { IfErr result (λ e. IsRefusal e
+        → spec.given_trace_id_in (view object.now) ≡ None) }
+{
+    let Some(value) = member(object, "traceId") else {
+        return Ok(None);
+    };
+    match value.as_str().and_then(given_trace_id_of) {
+        Some(id) => Ok(id),
+        None => Err(unexpected(alloc, "traceId", "32 hexadecimal digits")),
+    }
+}
+
+/// Returns the span id of the object, unless it is absent or empty.
+pub(crate) fn given_span_id(alloc: Global, object: &Value) -> Result<Option<SpanId>, ReadError>
+    ensures ok { IfOk result (λ id. spec.given_span_id_in (view object.now) ≡ Some id) }
+    ensures err { IfErr result (λ e. IsRefusal e
+        → spec.given_span_id_in (view object.now) ≡ None) }
+{
+    let Some(value) = member(object, "spanId") else {
+        return Ok(None);
+    };
+    match value.as_str().and_then(given_span_id_of) {
+        Some(id) => Ok(id),
+        None => Err(unexpected(alloc, "spanId", "16 hexadecimal digits")),
     }
 }
 

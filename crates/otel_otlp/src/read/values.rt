@@ -130,7 +130,7 @@ impl Message for StringValue {
 }
 
 /// Returns `true` if the value has the member.
-fn has(value: &Json, name: &str) -> bool
+pub(crate) fn has(value: &Json, name: &str) -> bool
     ensures { result ≡ members.has name.now (view value.now) }
 {
     match member(value, name) {

@@ -52,6 +52,31 @@ fn spans(alloc: Global, first: u64, end: u64) -> Result<Vec<SpanData>, Fail> {
     Ok(batch)
 }
 
+// The client of an exporter with this configuration, which has sent one span.
+fn sent_by(alloc: Global, config: OtlpHttpConfig) -> Result<Told, Fail> {
+    let moment = Cell::new(NOW);
+    let clock = Shown { moment: &moment };
+    let mut exporter: Spans = OtlpHttpExporter::new(
+        alloc,
+        told(alloc, &[])?,
+        config,
+        Middle,
+        clock,
+    )?;
+    exporter.export(&spans(alloc, 1, 2)?)?;
+    Ok(exporter.into_client())
+}
+
+/// The target of a request of this configuration.
+pub fn target_sent(alloc: Global, config: OtlpHttpConfig) -> Result<String, Fail> {
+    Ok(sent_by(alloc, config)?.targets.remove(0))
+}
+
+/// The headers of a request of this configuration.
+pub fn headers_sent(alloc: Global, config: OtlpHttpConfig) -> Result<String, Fail> {
+    Ok(sent_by(alloc, config)?.headers.remove(0))
+}
+
 // The length of the body of one span.
 fn length_of_one(alloc: Global) -> Result<usize, Fail> {
     let moment = Cell::new(NOW);
@@ -276,7 +301,6 @@ fn the_endpoint_gives_the_target(rt: HostRuntime) -> Result<(), Fail> {
         ("http://h", true, "/"),
     ];
     for (endpoint, is_of_signal, target) in rows {
-        let moment = Cell::new(NOW);
         let text = String::from_str(alloc, endpoint)?;
         let config = OtlpHttpConfig::new(alloc)?;
         let config = if is_of_signal {
@@ -284,16 +308,7 @@ fn the_endpoint_gives_the_target(rt: HostRuntime) -> Result<(), Fail> {
         } else {
             config.with_endpoint(text)
         };
-        let clock = Shown { moment: &moment };
-        let mut exporter: Spans = OtlpHttpExporter::new(
-            alloc,
-            told(alloc, &[])?,
-            config,
-            Middle,
-            clock,
-        )?;
-        exporter.export(&spans(alloc, 1, 2)?)?;
-        assert_eq!(rt; exporter.client().targets[0].as_str(), target, "{endpoint}");
+        assert_eq!(rt; target_sent(alloc, config)?.as_str(), target, "{endpoint}");
     }
     Ok(())
 }
@@ -328,30 +343,6 @@ fn an_endpoint_without_a_host_is_refused(rt: HostRuntime) -> Result<(), Fail> {
         };
         assert!(rt; named, "{endpoint}");
     }
-    Ok(())
-}
-
-#[test]
-fn a_header_that_is_set_again_is_sent_once(rt: HostRuntime) -> Result<(), Fail> {
-    let alloc = rt.alloc();
-    let moment = Cell::new(NOW);
-    let config = OtlpHttpConfig::new(alloc)?
-        .with_header(alloc, "x-tenant", "a")?
-        .with_header(alloc, "X-Tenant", "b")?
-        .with_header(alloc, "user-agent", "mine")?;
-    let clock = Shown { moment: &moment };
-    let mut exporter: Spans = OtlpHttpExporter::new(
-        alloc,
-        told(alloc, &[])?,
-        config,
-        Middle,
-        clock,
-    )?;
-    exporter.export(&spans(alloc, 1, 2)?)?;
-    assert_eq!(rt;
-        exporter.client().headers[0].as_str(),
-        "user-agent=mine,x-tenant=b,content-type=application/json,"
-    );
     Ok(())
 }
 

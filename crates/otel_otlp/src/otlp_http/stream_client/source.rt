@@ -1,12 +1,11 @@
 //! Reads a response.
 ghost use Rattle.std.specs.Prelude.{◌≡◌, ℕ, List, ◌++◌, ◌≤◌, length, drop, IfOk, OnOk};
-ghost use Rattle.std.specs.Io.KnownBytes.{Consumes};
 ghost use Rattle.httparse.specs.Spans.{IsResponseWithin};
 ghost use Rattle.http1.specs.Client.{reading};
 ghost use Rattle.http1.specs.declared.conn.Reading.TheVariants as Reading;
 ghost use Rattle.http1_typed.specs.Parts.{IsResponseParts};
-ghost use Rattle.otel_otlp.specs.StreamClient.{StepsToHead, FindsHead, StepsInBody, FindsBody};
-ghost use Rattle.otel_otlp.specs.StreamClient.{Replies, max_body_len};
+ghost use Rattle.otel_otlp.specs.StreamClient.{Gains, Reads, StepsToHead, FindsHead, Grows};
+ghost use Rattle.otel_otlp.specs.StreamClient.{FindsBody, Replies, max_body_len};
 
 use crate::otlp_http::client::HttpError;
 use crate::otlp_http::stream_client::MAX_BODY_LEN;
@@ -78,8 +77,7 @@ impl<R: Read> Source<R> {
     // of the stream.
     fn fill(&mut self) -> Result<usize, HttpError>
         ensures { IfOk result (λ count. (came : List ℕ) × (length came ≡ count)
-            × (self.new.unread.items ≡ self.old.unread.items ++ came)
-            × Consumes (R.remaining self.old.reader) (R.remaining self.new.reader) came) }
+            × Gains R.remaining self.old came self.new) }
     {
         self.unread.reserve(READ_SIZE).map_err(HttpError::Memory)?;
         for _ in 0..u64::MAX {
@@ -96,9 +94,7 @@ impl<R: Read> Source<R> {
 
     // Reads more of a head.
     fn fill_head(&mut self) -> Result<(), HttpError>
-        ensures { OnOk result ((came : List ℕ)
-            × (self.new.unread.items ≡ self.old.unread.items ++ came)
-            × Consumes (R.remaining self.old.reader) (R.remaining self.new.reader) came) }
+        ensures { OnOk result ((came : List ℕ) × Gains R.remaining self.old came self.new) }
     {
         if self.fill()? > 0 {
             return Ok(());
@@ -116,10 +112,8 @@ impl<R: Read> Source<R> {
         spans: &mut [HeaderSpan],
     ) -> Result<Option<Parts>, HttpError>
         requires { reading connection.old ≡ Reading.Head }
-        ensures steps { IfOk result (λ found. (came : List ℕ)
-            × Consumes (R.remaining self.old.reader) (R.remaining self.new.reader) came
-            × StepsToHead connection.old (self.old.unread.items ++ came) connection.new
-            self.new.unread.items found) }
+        ensures steps { IfOk result (λ found. Reads R.remaining self.old self.new
+            (λ given left. StepsToHead connection.old given connection.new left found)) }
     {
         let Ok(read) = connection.read(self.unread.as_slice(), spans) else {
             return Err(HttpError::Malformed);
@@ -150,10 +144,8 @@ impl<R: Read> Source<R> {
     /// - `Memory` if out of memory.
     pub(crate) fn read_head(&mut self, connection: &mut Client) -> Result<Parts, HttpError>
         requires { reading connection.old ≡ Reading.Head }
-        ensures { IfOk result (λ parts. (came : List ℕ)
-            × Consumes (R.remaining self.old.reader) (R.remaining self.new.reader) came
-            × FindsHead connection.old (self.old.unread.items ++ came) connection.new
-            self.new.unread.items parts) }
+        ensures { IfOk result (λ parts. Reads R.remaining self.old self.new
+            (λ given left. FindsHead connection.old given connection.new left parts)) }
     {
         let mut spans = [EMPTY_HEADER_SPAN; MAX_HEADERS];
         for _ in 0..u64::MAX {
@@ -173,11 +165,8 @@ impl<R: Read> Source<R> {
     ) -> Result<bool, HttpError>
         requires { length body.old.items ≤ max_body_len }
         ensures within { OnOk result (length body.new.items ≤ max_body_len) }
-        ensures steps { IfOk result (λ ended. (came : List ℕ) × (piece : List ℕ)
-            × Consumes (R.remaining self.old.reader) (R.remaining self.new.reader) came
-            × (body.new.items ≡ body.old.items ++ piece)
-            × StepsInBody connection.old (self.old.unread.items ++ came) connection.new
-            self.new.unread.items piece ended) }
+        ensures steps { IfOk result (λ ended. Reads R.remaining self.old self.new (λ given left.
+            Grows body.old.items body.new.items connection.old given connection.new left ended)) }
     {
         let Ok(read) = connection.read(self.unread.as_slice(), spans) else {
             return Err(HttpError::Malformed);
@@ -215,10 +204,8 @@ impl<R: Read> Source<R> {
     /// - `Memory` if out of memory.
     pub(crate) fn read_body(&mut self, connection: &mut Client) -> Result<Vec<u8>, HttpError>
         ensures within { IfOk result (λ body. length body.items ≤ max_body_len) }
-        ensures body { IfOk result (λ body. (came : List ℕ)
-            × Consumes (R.remaining self.old.reader) (R.remaining self.new.reader) came
-            × FindsBody connection.old (self.old.unread.items ++ came) body.items
-            self.new.unread.items) }
+        ensures body { IfOk result (λ body. Reads R.remaining self.old self.new
+            (λ given left. FindsBody connection.old given body.items left)) }
     {
         let mut body = Vec::new(self.alloc);
         let mut spans = [EMPTY_HEADER_SPAN; MAX_HEADERS];
@@ -240,10 +227,8 @@ impl<R: Read> Source<R> {
         connection: &mut Client,
     ) -> Result<Response<Vec<u8>>, HttpError>
         requires { reading connection.old ≡ Reading.Head }
-        ensures { IfOk result (λ answer. (came : List ℕ)
-            × Consumes (R.remaining self.old.reader) (R.remaining self.new.reader) came
-            × Replies connection.old (self.old.unread.items ++ came) answer
-            self.new.unread.items) }
+        ensures { IfOk result (λ answer. Reads R.remaining self.old self.new
+            (λ given left. Replies connection.old given answer left)) }
     {
         let parts = self.read_head(connection)?;
         let body = self.read_body(connection)?;

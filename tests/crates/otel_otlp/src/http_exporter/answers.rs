@@ -10,7 +10,7 @@ pub type Row = (Reply, Counts, Option<&'static str>);
 
 const NONE: Counts = (0, 0, 0, None);
 
-pub const ANSWERS: [Row; 32] = [
+pub const ANSWERS: [Row; 34] = [
     (Reply::Response(200, None, "{}"), NONE, None),
     (Reply::Response(202, None, ""), NONE, None),
     (Reply::Response(204, None, ""), NONE, None),
@@ -54,6 +54,20 @@ pub const ANSWERS: [Row; 32] = [
     ),
     (
         Reply::Response(200, None, "{\"partialSuccess\":{\"rejectedLogRecords\":2}}"),
+        NONE,
+        None,
+    ),
+    (
+        Reply::Response(
+            200,
+            None,
+            "{\"partialSuccess\":{\"rejectedSpans\":null,\"errorMessage\":null}}",
+        ),
+        NONE,
+        None,
+    ),
+    (
+        Reply::Response(200, None, "{\"partialSuccess\":null}"),
         NONE,
         None,
     ),

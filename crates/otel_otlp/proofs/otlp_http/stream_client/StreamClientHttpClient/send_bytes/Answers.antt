@@ -2,8 +2,12 @@ use Rattle.std.proofs.Common.{◌≡◌, ◌++◌, subst}
 use Rattle.http.specs.Request.{head_of, body_of}
 use Rattle.http1.specs.Framing.{method_kind}
 use Rattle.otel_otlp.specs.StreamClient.{Replies}
+use Rattle.otel_otlp.proofs.StreamRequest.{is_request}
 use Rattle.otel_otlp.proofs.StreamText.{answers_from}
 use Rattle.otel_otlp.proofs.otlp_http.stream_client.StreamClientHttpClient.send_bytes.Goals as goal
+
+pub returns-clause-message : goal.returns-clause-message
+returns-clause-message g c = is_request _ _ c.in_ok-connection.ensures.written
 
 pub returns-clause-answer : goal.returns-clause-answer
 returns-clause-answer g c =

@@ -13,10 +13,12 @@ returns-in_ok-add_piece-in-Data-clause-steps g c =
     let found = subst (λ (xs : List ℕ). ClientReads c.args.connection.now xs c.read.new.headers c.read.new.self c.in-Ok.read) c.as_slice.ensures c.in-Ok.ensures.ok in
     let s = c.in-Data.piece in (
       [],
-      span_bytes input s,
       Consumes-nil _,
-      c.in_ok-add_piece-in-Data.ensures.added ∙ ap (λ (xs : List ℕ). c.args.body.now.items ++ xs) (c.of.ensures ∙ ap (λ (xs : List ℕ). span_bytes xs s) c.as_slice-in-Data.ensures),
-      rw c.advance.ensures.items (gives_data _ _ input _ c.in-Ok.read found s c.in-Data.is),
+      (
+        span_bytes input s,
+        c.in_ok-add_piece-in-Data.ensures.added ∙ ap (λ (xs : List ℕ). c.args.body.now.items ++ xs) (c.of.ensures ∙ ap (λ (xs : List ℕ). span_bytes xs s) c.as_slice-in-Data.ensures),
+        rw c.advance.ensures.items (gives_data _ _ input _ c.in-Ok.read found s c.in-Data.is),
+      ),
     )
 
 pub returns-in-End-clause-steps : goal.returns-in-End-clause-steps
@@ -24,34 +26,40 @@ returns-in-End-clause-steps g c =
     let input = c.args.self.now.unread.items in
     let found = subst (λ (xs : List ℕ). ClientReads c.args.connection.now xs c.read.new.headers c.read.new.self c.in-Ok.read) c.as_slice.ensures c.in-Ok.ensures.ok in (
       [],
-      [],
       Consumes-nil _,
-      sym (append-nil _),
-      rw c.advance-in-End.ensures.items (finds_end _ _ input _ c.in-Ok.read found c.in-End.field-0 c.in-End.is),
+      (
+        [],
+        sym (append-nil _),
+        rw c.advance-in-End.ensures.items (finds_end _ _ input _ c.in-Ok.read found c.in-End.field-0 c.in-End.is),
+      ),
     )
 
 pub returns-then-branch-gt0-clause-steps : goal.returns-then-branch-gt0-clause-steps
 returns-then-branch-gt0-clause-steps g c =
     let input = c.args.self.now.unread.items in
     let found = subst (λ (xs : List ℕ). ClientReads c.args.connection.now xs c.read.new.headers c.read.new.self c.in-Ok.read) c.as_slice.ensures c.in-Ok.ensures.ok in
-    let (came, counted, more, consumed) = c.in_ok-fill-in-NeedMore.ensures in (
+    let (came, counted, gained) = c.in_ok-fill-in-NeedMore.ensures in (
       came,
-      [],
-      consumed,
-      sym (append-nil _),
-      rw (more, c.advance-in-NeedMore.ensures.items) (gives_more _ _ input _ c.in-Ok.read found c.in-NeedMore.is came),
+      gained.1,
+      (
+        [],
+        sym (append-nil _),
+        rw (gained.0, c.advance-in-NeedMore.ensures.items) (gives_more _ _ input _ c.in-Ok.read found c.in-NeedMore.is came),
+      ),
     )
 
 pub returns-in-Ok-End-clause-steps : goal.returns-in-Ok-End-clause-steps
 returns-in-Ok-End-clause-steps g c =
     let input = c.args.self.now.unread.items in
     let found = subst (λ (xs : List ℕ). ClientReads c.args.connection.now xs c.read.new.headers c.read.new.self c.in-Ok.read) c.as_slice.ensures c.in-Ok.ensures.ok in
-    let (came, counted, more, consumed) = c.in_ok-fill-in-NeedMore.ensures in
+    let (came, counted, gained) = c.in_ok-fill-in-NeedMore.ensures in
     let none : came ≡ [] = nil_from_length came (omega (arith, counted, c.if-branch-gt0.false)) in
     let closed = until_close (reading c.read.new.self) c.read.new.self c.in-Ok-End.field-0-0 (sym c.read_eof.ensures.answer ∙ search rules) in (
       [],
-      [],
-      subst (λ (xs : List ℕ). Consumes (g.R.Read.remaining c.args.self.now.reader) (g.R.Read.remaining c.fill.new.self.reader) xs) none consumed,
-      sym (append-nil _),
-      rw (more, none, c.advance-in-NeedMore.ensures.items) (finds_close _ _ input _ c.in-Ok.read found c.in-NeedMore.is closed),
+      subst (λ (xs : List ℕ). Consumes (g.R.Read.remaining c.args.self.now.reader) (g.R.Read.remaining c.fill.new.self.reader) xs) none gained.1,
+      (
+        [],
+        sym (append-nil _),
+        rw (gained.0, none, c.advance-in-NeedMore.ensures.items) (finds_close _ _ input _ c.in-Ok.read found c.in-NeedMore.is closed),
+      ),
     )

@@ -40,11 +40,11 @@ pub returns-in_ok-fill_head-in-NeedMore : goal.returns-in_ok-fill_head-in-NeedMo
 returns-in_ok-fill_head-in-NeedMore g c =
     let input = c.args.self.now.unread.items in
     let found = subst (λ (xs : List ℕ). ClientReads c.args.connection.now xs c.read.new.headers c.read.new.self c.in-Ok.read) c.as_slice.ensures c.in-Ok.ensures.ok in
-    let (came, more, consumed) = c.in_ok-fill_head-in-NeedMore.ensures in
+    let (came, gained) = c.in_ok-fill_head-in-NeedMore.ensures in
     record {
       steps = (
         came,
-        consumed,
-        rw more (waits _ _ input _ c.in-Ok.read c.requires found c.in-NeedMore.is came),
+        gained.1,
+        rw gained.0 (waits _ _ input _ c.in-Ok.read c.requires found c.in-NeedMore.is came),
       );
     }

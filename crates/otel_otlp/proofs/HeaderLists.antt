@@ -1,0 +1,50 @@
+-- One turn of the loop over the pieces of a list of headers.
+use Rattle.std.proofs.Common.{◌≡◌, Bool, true, false, ℕ, ◌+◌, ◌<◌, ◌≤◌, List, length, take, get_or, fold, map, Option, Some, None, sym, ap, ◌∙◌, subst, Bor, Iter}
+use Rattle.std.specs.Prelude.{All, option_map}
+use Rattle.std.specs.Slice.Iter.{iter_rest, iter_steps}
+use Rattle.std.proofs.lemmas.List.{take_all, nil_from_length}
+use Rattle.std.proofs.lemmas.List.Elements.{All-more}
+use Rattle.http_header.specs.FieldValue.{FieldValue}
+use Rattle.http_header.specs.HeaderMap.{Entries}
+use Rattle.otel_base.specs.KeyValue.{Attribute}
+use Rattle.otel_base.specs.View.{attribute_of}
+use Rattle.otel_base.specs.declared.key_value.KeyValue.{KeyValue}
+use Rattle.otel_base.proofs.shared.Steps.{fold-take_more}
+use Rattle.otel_sdk_base.specs.ResourceTexts.{pieces}
+use Rattle.otel_otlp.specs.HttpTexts.{first, read, with_piece, IsRefused, NamesRead, NamesPiece}
+use Rattle.otel_otlp.specs.declared.otlp_http.config.ConfigError.{ConfigError}
+use Rattle.otel_otlp.specs.declared.otlp_http.config.ConfigError.TheVariants as error
+
+-- the headers of the first pieces are set, and none of these is refused
+pub record IsSet (ps : List (List ℕ)) (n : ℕ) (old now : Entries FieldValue) : Type 0 where
+  pub headers : now ≡ fold with_piece old (take n ps)
+  pub allowed : All (λ piece. ¬ IsRefused piece) (take n ps)
+
+false_not_true : ◌≡◌ {A = Bool} false true → ⊥
+false_not_true e = cc
+
+module _ (ps : List (List ℕ)) (n : ℕ) (piece : List ℕ) (turn : (n < length ps) × (piece ≡ get_or ps n piece)) where
+  -- one more piece is set
+  pub one_more : (k : ℕ) (old now next : Entries FieldValue) → k ≡ n + 1 → next ≡ with_piece now piece → (IsRefused piece → ◌≡◌ {A = Bool} false true) → IsSet ps n old now → IsSet ps k old next
+  one_more k old now next e step fine is = subst (λ m. IsSet ps m old next) (sym e) (record {
+    headers = step ∙ ap (λ m. with_piece m piece) is.headers ∙ sym (fold-take_more with_piece old ps n piece turn.0 turn.1);
+    allowed = All-more (λ p. ¬ IsRefused p) ps n piece turn.0 is.allowed (subst (λ p. ¬ IsRefused p) turn.1 (λ r. false_not_true (fine r)));
+  })
+
+-- each piece is set
+pub all_set : (ps : List (List ℕ)) (n : ℕ) (old now : Entries FieldValue) → length ps ≤ n → IsSet ps n old now → (now ≡ fold with_piece old ps) × All (λ piece. ¬ IsRefused piece) ps
+all_set ps n old now end is =
+    (is.headers ∙ ap (fold with_piece old) (take_all n ps end), subst (All (λ piece. ¬ IsRefused piece)) (take_all n ps end) is.allowed)
+
+-- the error of a piece names a piece of the list
+pub named : (list : List ℕ) (n : ℕ) (piece : List ℕ) → (n < length (pieces list)) × (piece ≡ get_or (pieces list) n piece)
+    → (e : ConfigError) → NamesRead (read piece) e → NamesPiece list e
+named list n piece turn (error.Endpoint text) is = absurd is
+named list n piece turn (error.Header text) is = (n, piece, turn.0, sym turn.1, is)
+named list n piece turn (error.HeaderList number) is = absurd is
+named list n piece turn (error.Memory failed) is = tt
+
+-- the next item of an iterator over the attributes is the first one
+pub first_is : (r : Option (Bor KeyValue)) (s t : Iter KeyValue) (all : List Attribute) → iter_steps s r t → map attribute_of (iter_rest s) ≡ all → option_map (λ (a : Bor KeyValue). attribute_of a.now) r ≡ first all
+first_is None s t all h e = sym (ap first (sym e ∙ ap (map attribute_of) (nil_from_length (iter_rest s) h.0)))
+first_is (Some x) s t all h e = ap first (ap (map attribute_of) (sym h) ∙ e)

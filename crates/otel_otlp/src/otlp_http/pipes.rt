@@ -1,0 +1,92 @@
+//! An exporter over the named pipes of a folder.
+ghost use Rattle.std.specs.Prelude.{◌≡◌, codes, IfOk, OnOk, IfErr};
+ghost use Rattle.otel_otlp.specs.FileClient.{initial};
+ghost use Rattle.otel_otlp.specs.HttpExporter.{IsNew, IsAccounted};
+ghost use Rattle.otel_otlp.specs.HttpTexts.{AreHeaders, of_env};
+ghost use Rattle.otel_otlp.specs.Pipes.{NamesFault};
+ghost use Rattle.otel_otlp.specs.declared.otlp_http.pipes.PipeError.TheVariants as Pipe;
+ghost use Rattle.otel_otlp.specs.declared.otlp_http.config.ConfigError.TheVariants.{Memory};
+
+use crate::otlp_http::config::{ConfigError, OtlpHttpConfig};
+use crate::otlp_http::exporter::OtlpHttpSpanExporter;
+use crate::otlp_http::file_client::FileClient;
+use otel_sdk_base::SystemClock;
+use otel_sdk_base::otlp::EnvOtlp;
+use std::alloc::{AllocError, Global};
+use std::fs::Files;
+use std::hash::RandomState;
+use std::io;
+use std::random::RandomSource;
+use std::time::Clock;
+use thiserror::Error;
+
+/// Sends each batch of spans through the named pipes of a folder, by the runtime `R`.
+pub type PipeExporter<R> = OtlpHttpSpanExporter<FileClient<R>, R, SystemClock<R>>;
+
+/// The reason why an exporter over named pipes wasn't made.
+#[derive(Debug, Drop, Error)]
+pub enum PipeError {
+    /// The endpoint or the list of headers was refused.
+    #[error("{0}")]
+    Config(ConfigError),
+    /// The runtime gave no random keys.
+    #[error("no random keys: {0}")]
+    Keys(io::Error),
+}
+
+impl From<ConfigError> for PipeError {
+    ghost from_gives = { λ error converted. converted ≡ Pipe.Config error };
+
+    fn from(error: ConfigError) -> PipeError {
+        PipeError::Config(error)
+    }
+}
+
+impl From<io::Error> for PipeError {
+    ghost from_gives = { λ error converted. converted ≡ Pipe.Keys error };
+
+    fn from(error: io::Error) -> PipeError {
+        PipeError::Keys(error)
+    }
+}
+
+impl From<AllocError> for PipeError {
+    ghost from_gives = { λ error converted. converted ≡ Pipe.Config (Memory error) };
+
+    fn from(error: AllocError) -> PipeError {
+        PipeError::Config(ConfigError::Memory(error))
+    }
+}
+
+/// Returns an exporter of spans over a [`FileClient`] of the folder, with the endpoint and the
+/// headers that the environment gives. The runtime opens the files, draws the factors of the waits,
+/// and has the clock.
+///
+/// ```
+/// let mut exporter = pipe_exporter(alloc, rt, folder.as_str(), &env.otlp_traces)?;
+/// ```
+///
+/// No pipe is opened here: each request opens both, so that it also goes on after a connection was
+/// cut. Until the crate's script joins the pipes to a collector, a request waits.
+///
+/// # Errors
+///
+/// - `Config` with the refusal of [`OtlpHttpConfig::from_env`] or of
+///   [`OtlpHttpExporter::new`](crate::OtlpHttpExporter::new), or if out of memory.
+/// - `Keys` if the runtime gives no random keys.
+pub fn pipe_exporter<R: Files + RandomSource + Clock + Copy + Drop>(
+    alloc: Global,
+    rt: R,
+    folder: &str,
+    otlp: &EnvOtlp,
+) -> Result<PipeExporter<R>, PipeError>
+    ensures new { IfOk result
+        (IsNew (initial folder.now) (of_env otlp.now) (codes "/v1/traces")) }
+    ensures accounted { IfOk result IsAccounted }
+    ensures headers { OnOk result (AreHeaders otlp.now.headers) }
+    ensures err { IfErr result (NamesFault otlp.now) }
+{
+    let config = OtlpHttpConfig::from_env(alloc, otlp)?;
+    let client = FileClient::new(alloc, RandomState::new(&rt)?, rt, folder)?;
+    Ok(OtlpHttpSpanExporter::new(alloc, client, config, rt, SystemClock::new(rt))?)
+}
