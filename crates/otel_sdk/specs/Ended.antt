@@ -5,6 +5,7 @@ use Rattle.std.specs.Prelude.{map, fold, Option, Some, None, if◌then◌else◌
 use Rattle.std.specs.List.{filter_map, AllByRecursion, IsDistinct}
 use Rattle.otel_context.specs.Spans as table
 use Rattle.otel_context.specs.Spans.{SpansState}
+use Rattle.otel_sdk.specs.LiveState.{LiveState}
 use Rattle.otel_sdk.specs.Processor.{ProcessorState, after_end, is_sampled}
 use Rattle.otel_sdk.specs.SpanEnd.{is_running}
 use Rattle.otel_sdk_base.specs.Export.{Calls}
@@ -114,6 +115,13 @@ module _ {E : Type 0} where
       → (old new : Collecting E) → Type 0
   LosesNothing accepted numbers left old new = (earlier ends : List SpanRecord)
       → NothingLost accepted earlier ends old numbers → NothingLost accepted earlier ends new left
+
+  -- the same of the spans of a program, of which some were handed in
+  abbrev pub LosesNoLive : (E → List (List SpanRecord)) → LiveState → ProcessorState E
+      → LiveState → ProcessorState E → Type 0
+  LosesNoLive accepted live processor after after_processor =
+      LosesNothing accepted live.ended after.ended (of processor live.spans)
+      (of after_processor after.spans)
 
   -- The first batches of the queue were accepted, and the table is unchanged.
   pub record OnlyFlushes (accepted : E → List (List SpanRecord)) (old new : Collecting E)

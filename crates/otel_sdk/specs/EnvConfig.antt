@@ -18,7 +18,7 @@ use Rattle.otel_sdk.specs.Tracer.{ProviderParts, with_resource, with_sampler}
 use Rattle.otel_sdk.specs.TracingBuilder.{BuilderParts}
 use Rattle.otel_sdk.specs.declared.env.EnvConfig.{EnvConfig}
 use Rattle.otel_sdk.specs.declared.env.export.EnvExporter.{EnvExporter}
-use Rattle.otel_sdk.specs.declared.env.export.EnvOtlp.{EnvOtlp}
+use Rattle.otel_sdk_base.specs.declared.otlp.EnvOtlp.{EnvOtlp}
 use Rattle.otel_sdk.specs.declared.env.groups.Choices.{Choices}
 use Rattle.otel_sdk.specs.declared.env.groups.Limits.{Limits}
 use Rattle.otel_sdk.specs.declared.env.groups.Outlets.{Outlets}

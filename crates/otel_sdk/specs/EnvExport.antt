@@ -7,11 +7,11 @@ use Rattle.std.specs.Str.{bytes_eq}
 use Rattle.otel_sdk_base.specs.ResourceTexts.{fault}
 use Rattle.otel_sdk.specs.EnvHeaders.{headers_in}
 use Rattle.otel_sdk.specs.EnvTexts.{Variables, is_unset, text_of, warned, warning, number_or, number_warnings}
-use Rattle.otel_sdk.specs.declared.env.export.EnvEndpoint.{EnvEndpoint}
-use Rattle.otel_sdk.specs.declared.env.export.EnvEndpoint.TheVariants.{Base, Exact}
+use Rattle.otel_sdk_base.specs.declared.otlp.EnvEndpoint.{EnvEndpoint}
+use Rattle.otel_sdk_base.specs.declared.otlp.EnvEndpoint.TheVariants.{Base, Exact}
 use Rattle.otel_sdk.specs.declared.env.export.EnvExporter.{EnvExporter}
 use Rattle.otel_sdk.specs.declared.env.export.EnvExporter.TheVariants as to
-use Rattle.otel_sdk.specs.declared.env.export.EnvOtlp.{EnvOtlp}
+use Rattle.otel_sdk_base.specs.declared.otlp.EnvOtlp.{EnvOtlp}
 use Rattle.otel_sdk.specs.declared.env.warning.EnvWarning.{EnvWarning}
 use Rattle.otel_sdk.specs.declared.env.warning.Instead.TheVariants.{Nothing, False, Otlp, HttpJson}
 

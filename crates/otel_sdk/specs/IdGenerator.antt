@@ -2,6 +2,7 @@
 use Rattle.std.specs.Prelude.{◌≡◌, ◌≢◌, ◌⊎◌, ◌<◌, ◌^◌, ◌+◌, ◌-◌, ℕ, zero, suc, List, length}
 use Rattle.std.specs.Prelude.{Option, Some, None, Result, Ok, Err, MatchOption}
 use Rattle.std.specs.Int.{Width, byte_len, from_be_bytes}
+use Rattle.otel_sdk_base.specs.Queue.{one_more}
 use Rattle.otel_sdk.specs.declared.trace.id_generator.IdError.{IdError}
 use Rattle.otel_sdk.specs.declared.trace.id_generator.IdError.TheVariants.{Zero, Source}
 
@@ -41,7 +42,6 @@ CountsUp may_have is_given (Ok id) =
     (count : ℕ) × may_have count × is_given id × (id ≡ count + 1) × (id < 2 ^ 64)
 CountsUp may_have is_given (Err error) = may_have (2 ^ 64 - 1) × (error ≡ Zero)
 
--- the result is a counted id: a number above 0 with 64 bits, unless the numbers are used up
-abbrev pub IsCountedId : Result ℕ IdError → Type 0
-IsCountedId (Ok id) = (id ≢ 0) × (id < 2 ^ 64)
-IsCountedId (Err error) = error ≡ Zero
+-- one more than the count that a counter had was given to it, up to the greatest `u64`
+abbrev pub CountsOne : (ℕ → Type 0) → (ℕ → Type 0) → Type 0
+CountsOne may_have is_given = (count : ℕ) × may_have count × is_given (one_more count)

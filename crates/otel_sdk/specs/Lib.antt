@@ -9,6 +9,7 @@ pub mod EnvSampler
 pub mod EnvTexts
 pub mod IdGenerator
 pub mod Journal
+pub mod LastExport
 pub mod LiveState
 pub mod ParentBased
 pub mod Parents

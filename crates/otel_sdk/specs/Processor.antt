@@ -1,5 +1,5 @@
 -- The effect of a span's end on a processor.
-use Rattle.std.specs.Prelude.{◌≡◌, Bool, Err, List, MatchBool, MatchOption, Option, if◌then◌else◌}
+use Rattle.std.specs.Prelude.{◌≡◌, Bool, Err, List, MatchBool, MatchOption, Option, if◌then◌else◌, not}
 use Rattle.otel_ids.specs.TraceFlags as flags
 use Rattle.otel_sdk_base.specs.Export.{Calls}
 use Rattle.otel_sdk_base.specs.Queue.{IsFlushed, IsKeptOrDropped, QueueState, Received, after_add}
@@ -24,6 +24,10 @@ IsHandedInOrReturned span old new returned =
 -- the state of a span processor with a queue
 abbrev pub ProcessorState : Type 0 → Type 0
 ProcessorState E = QueueState SpanRecord E
+
+-- whether the processor is open
+abbrev pub is_open : {E : Type 0} → ProcessorState E → Bool
+is_open p = not p.is_shut_down
 
 -- The processor after the end of a span. A sampled span is queued last, or dropped and counted if
 -- the queue is full. Any other span is dropped (OpenTelemetry trace SDK, "Batching processor").

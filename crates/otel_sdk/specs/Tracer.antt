@@ -2,6 +2,9 @@
 use Rattle.std.specs.Prelude.{◌≡◌, ◌≢◌, ◌⊎◌, ℕ, ◌+◌, ◌/◌, ◌%◌, ◌==◌, List, [], ◌++◌, Bool, true, false}
 use Rattle.std.specs.Prelude.{Option, Some, None, Result, Ok, Err, if◌then◌else◌, refl}
 use Rattle.std.specs.Option.{option_map_or, unwrap_or}
+use Rattle.std.specs.Rc.{rc_value}
+use Rattle.std.specs.declared.alloc.Global.{Global}
+use Rattle.std.specs.declared.rc.Rc.{Rc}
 use Rattle.otel_base.specs.InstrumentationScope.{Scope}
 use Rattle.otel_base.specs.KeyValue.{Attribute}
 use Rattle.otel_context.specs.Context.{ContextRecord, span_context, is_telemetry_suppressed}
@@ -19,6 +22,7 @@ use Rattle.otel_sdk_span.specs.declared.limits.SpanLimits.{SpanLimits}
 use Rattle.otel_sdk.specs.declared.trace.id_generator.IdError.{IdError}
 use Rattle.otel_sdk.specs.declared.trace.sampler.SamplingDecision.{SamplingDecision}
 use Rattle.otel_sdk.specs.declared.trace.sampler.SamplingDecision.TheVariants.{Drop, RecordOnly, RecordAndSample}
+use Rattle.otel_sdk.specs.declared.trace.tracer.config.TracerConfig.{TracerConfig}
 
 -- ---- parents, ids and flags
 
@@ -151,6 +155,15 @@ pub record TracerState (S G : Type 0) : Type 0 where
   pub limits : SpanLimits
   pub scope : Scope
 
+-- the tracer of this scope that starts spans with a `TracerConfig`
+abbrev pub of_config : {S G C : Type 0} → TracerConfig S G C → Rc Scope Global → TracerState S G
+of_config config scope = record {
+  sampler = config.sampler;
+  id_generator = config.id_generator;
+  limits = config.limits;
+  scope = rc_value scope;
+}
+
 -- the start time: the builder's or, if it has none, one that the clock showed
 abbrev pub IsStartTime : (ℕ → Type 0) → Option ℕ → ℕ → Type 0
 IsStartTime may_show None start = may_show start
@@ -182,6 +195,12 @@ abbrev pub IsStarted : {S G : Type 0} → (S → Asked → Answer) → (G → Bo
 IsStarted answer random may_show t builder context trace_id span_id span =
     StartsWith (answer t.sampler) (random t.id_generator) may_show t.limits t.scope builder context
     trace_id span_id span
+
+-- the tracer's span with this span context and these attributes from the sampler records
+abbrev pub IsRecorded : {S G : Type 0} → (ℕ → Type 0) → TracerState S G → BuilderRecord
+    → Option SpanContextRecord → SpanContextRecord → List Attribute → SpanState → Type 0
+IsRecorded may_show t builder parent context sampled span =
+    Records may_show t.limits t.scope builder parent context sampled span
 
 -- The relations `may_trace`, `may_span` and `may_show` are what the generator gave for trace ids and
 -- for span ids and the times that the clock showed, and `is_counted` says that a failure was
@@ -266,6 +285,14 @@ module _ {S G : Type 0} where
     limits = provider.limits;
     scope = scope;
   }
+
+  -- One of the tracer's spans that start unless telemetry is suppressed.
+  abbrev pub TracerStarts : (S → Asked → Answer) → (G → Bool) → (G → Result ℕ IdError → Type 0)
+      → (G → Result ℕ IdError → Type 0) → (ℕ → Type 0) → Type 0 → TracerState S G
+      → BuilderRecord → ContextRecord → SpanState → Type 0
+  TracerStarts answer random may_trace may_span may_show is_counted t builder context span =
+      Starts (answer t.sampler) (random t.id_generator) (may_trace t.id_generator)
+      (may_span t.id_generator) may_show is_counted t.limits t.scope builder context span
 
   -- the provider with these parts
   abbrev pub provider_of : ProviderParts S G → ProviderState S G

@@ -13,7 +13,9 @@ mod tracer;
 mod tracing;
 
 pub use change::SpanChange;
-pub use id_generator::{ByteSource, CountedIdGenerator, IdError, IdGenerator, RandomIdGenerator};
+pub use id_generator::{
+    ByteSource, CountCell, CountedIdGenerator, CountedIds, IdError, IdGenerator, RandomIdGenerator,
+};
 pub use in_memory_exporter::{FinishedSpans, InMemorySpanExporter};
 pub use live::{Entered, LiveSpans};
 pub use otel_sdk_base::{
@@ -30,4 +32,4 @@ pub use sampler::parent_based::ParentBased;
 pub use sampler::{Sampler, SamplingDecision, SamplingResult, ShouldSample, laws};
 pub use tracer::calls::TracerCalls;
 pub use tracer::{OpenPipeline, Pipeline, SdkTracer, TracerPipeline};
-pub use tracing::{Attached, NotEntered, SpanWork, Tracing, TracingBuilder};
+pub use tracing::{Attached, NotEntered, SpanWork, Tracing, TracingBuilder, Unfinished, finish};

@@ -7,6 +7,7 @@ use super::headers::listed_headers;
 use super::texts::{number_or, text_of};
 use super::warning::{EnvWarning, Instead, warn};
 use opentelemetry::StringValue;
+use otel_sdk_base::otlp::{EnvEndpoint, EnvOtlp};
 use otel_sdk_base::resource::Resource;
 use std::alloc::{AllocError, Global};
 
@@ -19,24 +20,6 @@ pub enum EnvExporter {
     Console,
     /// `none`: nowhere.
     Nothing,
-}
-
-/// The address of a collector.
-#[derive(Debug, Drop)]
-pub enum EnvEndpoint {
-    /// The address of all signals, to whose path `/v1/traces` or `/v1/logs` is joined.
-    Base(StringValue),
-    /// The address of one signal, which is taken as it is.
-    Exact(StringValue),
-}
-
-/// Where a signal is sent by OTLP, as the variables say it.
-#[derive(Debug, Drop)]
-pub struct EnvOtlp {
-    /// The address of the collector.
-    pub endpoint: EnvEndpoint,
-    /// The headers to add, a list `NAME=VALUE,..` whose names are tokens (RFC 9110, section 5.6.2).
-    pub headers: StringValue,
 }
 
 /// Returns a copy of the text.

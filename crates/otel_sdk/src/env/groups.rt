@@ -7,13 +7,14 @@ ghost use Rattle.otel_sdk.specs.EnvPropagators.{propagators};
 ghost use Rattle.otel_sdk.specs.EnvSampler.{sampler};
 ghost use Rattle.otel_sdk.specs.EnvTexts.{variables_of};
 
-use super::export::{EnvExporter, EnvOtlp};
+use super::export::EnvExporter;
 use super::limits::EnvBatches;
 use super::propagators::EnvPropagator;
 use super::sampler::EnvSampler;
 use super::warning::EnvWarning;
 use super::{export, headers, limits, propagators, sampler};
 use opentelemetry::StringValue;
+use otel_sdk_base::otlp::EnvOtlp;
 use otel_sdk_logs::LogRecordLimits;
 use otel_sdk_span::SpanLimits;
 use std::alloc::{AllocError, Global};

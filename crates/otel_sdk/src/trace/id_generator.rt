@@ -1,9 +1,10 @@
 //! Generators of trace ids and span ids.
 ghost use Rattle.std.specs.Prelude.{◌≡◌, ◌≢◌, IfOk, true, false, nat_eq};
 
-mod count;
+pub(crate) mod count;
 mod draws;
 
+pub use crate::trace::id_generator::count::CountCell;
 use crate::trace::id_generator::count::count_up;
 pub use crate::trace::id_generator::draws::ByteSource;
 use crate::trace::id_generator::draws::{SpanDraws, TraceDraws, first_valid};
@@ -26,8 +27,9 @@ pub enum IdError {
 /// Makes the ids of spans and traces (the Rust crate's `IdGenerator`). An id is never 0.
 ///
 /// Implementors define the ghost function `random`, whether the trace ids are random, and two ghost
-/// relations: the results that `new_trace_id` (`may_trace`) and `new_span_id` (`may_span`) may have.
-/// Code that is generic over a generator knows nothing of these two: only a call shows a result.
+/// relations: the results that `new_trace_id` (`may_trace`) and `new_span_id` (`may_span`) may
+/// have. Code that is generic over a generator knows nothing of these two: only a call shows a
+/// result.
 ///
 /// See [`RandomIdGenerator`] and [`CountedIdGenerator`].
 pub trait IdGenerator: Drop {
@@ -108,31 +110,36 @@ where
 
 /// Counts ids up from 1, trace ids and span ids separately. Use it in tests. Not public in the Rust
 /// crate.
+pub type CountedIdGenerator = CountedIds<Cell<u64>, Cell<u64>>;
+
+/// Counts trace ids up in one counter, and span ids in another. Not in the Rust crate.
+///
+/// See [`CountedIdGenerator`].
 #[derive(Drop)]
-pub struct CountedIdGenerator {
-    traces: Cell<u64>,
-    spans: Cell<u64>,
+pub struct CountedIds<T, S> {
+    traces: T,
+    spans: S,
 }
 
-impl CountedIdGenerator {
+impl CountedIds<Cell<u64>, Cell<u64>> {
     /// Returns a generator whose first ids are 1.
     pub fn new() -> CountedIdGenerator {
-        CountedIdGenerator {
+        CountedIds {
             traces: Cell::new(0),
             spans: Cell::new(0),
         }
     }
 }
 
-impl IdGenerator for CountedIdGenerator {
+impl<T: CountCell + Drop, S: CountCell + Drop> IdGenerator for CountedIds<T, S> {
     ghost use Rattle.std.specs.Prelude.{false};
-    ghost use Rattle.otel_sdk.specs.IdGenerator.{IsCountedId};
+    ghost use Rattle.otel_sdk.specs.IdGenerator.{CountsUp};
 
     ghost random = { λ _. false };
 
-    ghost may_trace = { λ _. IsCountedId };
+    ghost may_trace = { λ _. CountsUp T.may_have T.is_given };
 
-    ghost may_span = { λ _. IsCountedId };
+    ghost may_span = { λ _. CountsUp S.may_have S.is_given };
 
     /// Returns 1, then 2, and so on.
     ///

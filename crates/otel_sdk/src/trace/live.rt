@@ -10,7 +10,7 @@ ghost use Rattle.otel_sdk.specs.SpanChange.{change_of};
 ghost use Rattle.otel_sdk.specs.LiveState.{no_spans, with_started, with_changed, with_ended};
 ghost use Rattle.otel_sdk_base.specs.Queue.{cause};
 ghost use Rattle.otel_sdk_base.specs.declared.error.OTelSdkError.TheVariants.{AlreadyShutdown};
-ghost use Rattle.otel_sdk.specs.Ended.{of, AreCollected, AreHandedOn, EndsWith, LosesNothing};
+ghost use Rattle.otel_sdk.specs.Ended.{of, AreCollected, AreHandedOn, EndsWith, LosesNoLive};
 ghost use Rattle.otel_sdk.specs.Ended.{OpenStay};
 ghost use Rattle.otel_sdk.specs.Tracing.{SameSpans, context_with, next_entered};
 
@@ -242,8 +242,8 @@ impl LiveSpans {
     ) -> OTelSdkResult
         ensures collected { AreCollected self.old.ended self.new.ended
             (of processor.old self.old.spans) (of processor.new self.new.spans) }
-        ensures nothing_lost { LosesNothing E.accepted self.old.ended self.new.ended
-            (of processor.old self.old.spans) (of processor.new self.new.spans) }
+        ensures nothing_lost { LosesNoLive E.accepted
+            self.old processor.old self.new processor.new }
         ensures open_stay { OpenStay self.old.spans self.new.spans }
         ensures ok { OnOk result (self.new.ended ≡ []) }
         ensures open { OnOk result (processor.old.is_shut_down ≡ false) }
@@ -268,8 +268,8 @@ impl LiveSpans {
     ) -> OTelSdkResult
         ensures handed_on { AreHandedOn E.accepted self.old.ended self.new.ended
             (of processor.old self.old.spans) (of processor.new self.new.spans) }
-        ensures nothing_lost { LosesNothing E.accepted self.old.ended self.new.ended
-            (of processor.old self.old.spans) (of processor.new self.new.spans) }
+        ensures nothing_lost { LosesNoLive E.accepted
+            self.old processor.old self.new processor.new }
         ensures open_stay { OpenStay self.old.spans self.new.spans }
         ensures ok { OnOk result (self.new.ended ≡ []) }
         ensures exported { OnOk result (processor.new.queue ≡ []) }

@@ -1,6 +1,9 @@
 //! Processors of spans, which pass ended spans to an exporter.
-ghost use Rattle.std.specs.Prelude.{◌≡◌, IfErr, OnOk};
+ghost use Rattle.std.specs.Prelude.{◌≡◌, [], true, false, IfErr, IsErrOf, IsSome, OnOk, Some};
+ghost use Rattle.std.specs.Prelude.{alloc_error};
 ghost use Rattle.otel_sdk.specs.Processor.{IsHandedIn, IsHandedInOrReturned};
+ghost use Rattle.otel_sdk_base.specs.declared.error.OTelSdkError.TheVariants.{AlreadyShutdown};
+ghost use Rattle.otel_sdk_base.specs.declared.error.OTelSdkError.TheVariants.{Memory};
 
 pub(crate) mod batch;
 pub(crate) mod simple;
@@ -35,15 +38,21 @@ impl From<EndRefused> for OTelSdkError {
 /// Receives ended spans, and passes the sampled ones to an exporter (the Rust crate's
 /// `SpanProcessor`). There are no threads: spans are exported only during calls.
 ///
-/// Implementors define the ghost function `received`: the sampled spans that the processor received
-/// and keeps, in order, and the number of spans that it dropped.
+/// Implementors define three ghost functions: the sampled spans that the processor received and
+/// keeps, in order, with the number of spans that it dropped (`received`); the last ones of these,
+/// which its exporter hasn't accepted (`queued`); and whether it is open (`receives`).
 ///
 /// See [`crate::trace::BatchSpanProcessor`] and [`crate::trace::SimpleSpanProcessor`].
 pub trait SpanProcessor: Drop {
+    ghost use Rattle.std.specs.Prelude.{Bool, List};
     ghost use Rattle.otel_sdk_base.specs.Queue.{Received};
     ghost use Rattle.otel_sdk_span.specs.SpanData.{SpanRecord};
 
     ghost received: { Self → Received SpanRecord };
+
+    ghost queued: { Self → List SpanRecord };
+
+    ghost receives: { Self → Bool };
 
     /// Receives a span that has ended. Drops it if it isn't sampled.
     ///
@@ -56,7 +65,12 @@ pub trait SpanProcessor: Drop {
     fn on_end(&mut self, span: SpanData) -> Result<(), EndRefused>
         ensures ok { OnOk result (IsHandedIn span (received self.old) (received self.new)) }
         ensures err { IfErr result (λ refused. IsHandedInOrReturned span
-            (received self.old) (received self.new) refused.span) };
+            (received self.old) (received self.new) refused.span) }
+        ensures closed { receives self.old ≡ false
+            → IsErrOf result (record { span = Some span; error = AlreadyShutdown }) }
+        ensures memory { receives self.old ≡ true → IfErr result (λ refused.
+            IsSome refused.span → refused.error ≡ Memory alloc_error) }
+        ensures stays { receives self.new ≡ receives self.old };
 
     /// Passes the queued spans to the exporter, and flushes it.
     ///
@@ -65,7 +79,10 @@ pub trait SpanProcessor: Drop {
     /// `AlreadyShutdown` after [`SpanProcessor::shutdown`], or the exporter's error. The spans that
     /// it didn't accept stay queued, in order.
     fn force_flush(&mut self) -> OTelSdkResult
-        ensures { received self.new ≡ received self.old };
+        ensures same { received self.new ≡ received self.old }
+        ensures exported { OnOk result (queued self.new ≡ []) }
+        ensures closed { receives self.old ≡ false → IsErrOf result AlreadyShutdown }
+        ensures stays { receives self.new ≡ receives self.old };
 
     /// Flushes the processor, and shuts it and its exporter down. From then on, each call returns
     /// `AlreadyShutdown`.
@@ -74,10 +91,19 @@ pub trait SpanProcessor: Drop {
     ///
     /// `AlreadyShutdown` after an earlier call, or the exporter's error. If the flush failed, the
     /// processor stays open for another attempt.
-    fn shutdown(&mut self) -> OTelSdkResult;
+    fn shutdown(&mut self) -> OTelSdkResult
+        ensures ok { OnOk result (receives self.new ≡ false) }
+        ensures exported { OnOk result (queued self.new ≡ []) }
+        ensures again { receives self.old ≡ false → IsErrOf result AlreadyShutdown }
+        ensures same { receives self.old ≡ false → received self.new ≡ received self.old }
+        ensures closed { receives self.old ≡ false → receives self.new ≡ false }
+        ensures open { receives self.new ≡ true → received self.new ≡ received self.old }
+        ensures dropped { (received self.new).dropped ≡ (received self.old).dropped };
 
     /// Tells the exporter the resource of the following spans. Does nothing by default.
     fn set_resource(&mut self, _resource: Rc<Resource>)
-        ensures { received self.new ≡ received self.old }
+        ensures same { received self.new ≡ received self.old }
+        ensures waiting { queued self.new ≡ queued self.old }
+        ensures stays { receives self.new ≡ receives self.old }
     {}
 }

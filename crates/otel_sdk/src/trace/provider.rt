@@ -349,12 +349,11 @@ impl<S: ShouldSample, G: IdGenerator, C: Clock> TracerProviderBuilder<S, G, C> {
         self,
         alloc: Global,
     ) -> Result<(Resource, TracerConfig<S, G, C>), AllocError>
-        ensures { IfOk result (λ parts. spec.provider_of self ≡ record {
-          sampler = parts.1.sampler;
-          id_generator = parts.1.id_generator;
-          limits = parts.1.limits;
-          resource = parts.0;
-        }) }
+        ensures resource { IfOk result (λ parts.
+            parts.0 ≡ unwrap_or self.resource with_defaults) }
+        ensures sampler { IfOk result (λ parts. parts.1.sampler ≡ self.sampler) }
+        ensures id_generator { IfOk result (λ parts. parts.1.id_generator ≡ self.id_generator) }
+        ensures limits { IfOk result (λ parts. parts.1.limits ≡ self.limits) }
     {
         let TracerProviderBuilder {
             resource,

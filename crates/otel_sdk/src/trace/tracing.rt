@@ -18,6 +18,7 @@ mod env;
 mod errors;
 mod export;
 mod journal;
+mod last_export;
 mod moments;
 mod work;
 
@@ -25,6 +26,7 @@ use crate::trace::live::Entered;
 use crate::trace::tracer::{Pipeline, SdkTracer};
 pub use builder::TracingBuilder;
 use journal::Journal;
+pub use last_export::{Unfinished, finish};
 use moments::Moments;
 use opentelemetry::context::ContextStack;
 use opentelemetry::trace::{SpanBuilder, SpanCause};
@@ -114,9 +116,9 @@ pub struct Attached {
 /// A span starts under the current context, is the current one while it is entered, and ends when
 /// it is exited. Nothing is exported until [`Tracing::flush`] or [`Tracing::shutdown`].
 ///
-/// A disabled `Tracing`, as `OTEL_SDK_DISABLED` asks for, starts no spans, generates no ids, doesn't
-/// read its clock and takes no memory. Contexts are attached, received and sent as ever, so what a
-/// caller sent is sent on as it was received.
+/// A disabled `Tracing`, as `OTEL_SDK_DISABLED` asks for, starts no spans, generates no ids,
+/// doesn't read its clock and takes no memory. Contexts are attached, received and sent as ever, so
+/// a caller's headers are sent on as received.
 ///
 /// ```
 /// let serve = tracing.enter("serve")?;
@@ -360,8 +362,8 @@ impl<P: Pipeline, E: SpanExporter> Tracing<P, E> {
         self.journal.open_spans()
     }
 
-    /// Returns the number of spans that have ended since the last flush. A service exports them once
-    /// they fill a batch.
+    /// Returns the number of spans that have ended since the last flush. A service exports them
+    /// once they fill a batch.
     pub fn ended_spans(&self) -> usize
         ensures { result ≡ length self.now.spans.ended }
     {
@@ -382,6 +384,13 @@ impl<P: Pipeline, E: SpanExporter> Tracing<P, E> {
         ensures { result ≡ self.now.processor.dropped }
     {
         self.journal.processor().dropped_spans()
+    }
+
+    /// Returns `true` if the exporter was shut down.
+    fn is_shut_down(&self) -> bool
+        ensures { result ≡ self.now.processor.is_shut_down }
+    {
+        self.journal.processor().is_shut_down()
     }
 
     /// Returns the exporter.

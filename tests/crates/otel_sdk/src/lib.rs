@@ -11,6 +11,7 @@ mod env;
 mod errors;
 mod exporter;
 mod id_generator;
+mod last_export;
 mod processor;
 mod propagator;
 mod ratio;

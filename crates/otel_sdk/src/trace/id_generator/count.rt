@@ -1,15 +1,15 @@
 //! Counting in a cell.
 ghost use Rattle.std.specs.Prelude.{◌≡◌};
-ghost use Rattle.otel_sdk.specs.IdGenerator.{CountsUp};
+ghost use Rattle.otel_sdk.specs.IdGenerator.{CountsOne, CountsUp};
 
 use crate::trace::id_generator::IdError;
 use std::cell::Cell;
 
-/// A count in a cell.
+/// A count in a cell. Every [`Cell<u64>`](Cell) is one.
 ///
 /// No contract sees what a cell holds. So a call ensures a ghost relation of which code that is
 /// generic over this trait knows nothing: only the call shows what the cell held, or holds.
-pub(crate) trait Counter {
+pub trait CountCell {
     ghost use Rattle.std.specs.Prelude.{ℕ};
 
     ghost may_have: { ℕ → Type 0 };
@@ -25,7 +25,7 @@ pub(crate) trait Counter {
         ensures { is_given count };
 }
 
-impl Counter for Cell<u64> {
+impl CountCell for Cell<u64> {
     ghost may_have = { λ _. Unit {0} };
 
     ghost is_given = { λ _. Unit {0} };
@@ -44,7 +44,7 @@ impl Counter for Cell<u64> {
 /// # Errors
 ///
 /// `Zero` if the numbers are used up. The count stays.
-pub(crate) fn count_up<K: Counter>(counter: &K) -> Result<u64, IdError>
+pub(crate) fn count_up<K: CountCell>(counter: &K) -> Result<u64, IdError>
     ensures { CountsUp K.may_have K.is_given result }
 {
     let Some(next) = counter.count().checked_add(1) else {
@@ -52,4 +52,11 @@ pub(crate) fn count_up<K: Counter>(counter: &K) -> Result<u64, IdError>
     };
     counter.set_count(next);
     Ok(next)
+}
+
+/// Increments the count, up to `u64::MAX`.
+pub(crate) fn count_one<K: CountCell>(counter: &K)
+    ensures { CountsOne K.may_have K.is_given }
+{
+    counter.set_count(counter.count().saturating_add(1));
 }

@@ -12,8 +12,8 @@ const MAX_DRAWS: u32 = 8;
 
 /// A source of random bytes. Every [`RandomSource`] is one.
 ///
-/// No contract says which bytes a source draws. So a call ensures a ghost relation of which code that
-/// is generic over this trait knows nothing: only the call shows that bytes were drawn.
+/// No contract says which bytes a source draws. So a call ensures a ghost relation of which code
+/// that is generic over this trait knows nothing: only the call shows that bytes were drawn.
 pub trait ByteSource {
     ghost use Rattle.std.specs.Prelude.{ℕ, List, Option};
 

@@ -1,11 +1,14 @@
 //! A processor that exports spans in batches.
-ghost use Rattle.std.specs.Prelude.{◌≡◌, false, length, Some, IfErr, OnOk, OnErr};
+ghost use Rattle.std.specs.Prelude.{◌≡◌, [], true, false, length, Some, IfErr, IsErrOf, IsSome};
+ghost use Rattle.std.specs.Prelude.{OnOk, OnErr, alloc_error};
 ghost use Rattle.std.specs.Rc.{rc_value};
 ghost use Rattle.otel_sdk.specs.Processor as spec;
-ghost use Rattle.otel_sdk.specs.Processor.{IsHandedIn};
+ghost use Rattle.otel_sdk.specs.Processor.{IsHandedIn, is_open};
 ghost use Rattle.otel_sdk_base.specs.Queue as queue_spec;
 ghost use Rattle.otel_sdk_base.specs.Queue.{IsForceFlushed, IsShutDown, TellsResource};
 ghost use Rattle.otel_sdk_base.specs.Queue.{received_of};
+ghost use Rattle.otel_sdk_base.specs.declared.error.OTelSdkError.TheVariants.{AlreadyShutdown};
+ghost use Rattle.otel_sdk_base.specs.declared.error.OTelSdkError.TheVariants.{Memory};
 
 mod ended;
 mod reserved;
@@ -83,9 +86,14 @@ impl<E: SpanExporter> BatchSpanProcessor<E> {
 }
 
 impl<E: SpanExporter> SpanProcessor for BatchSpanProcessor<E> {
+    ghost use Rattle.otel_sdk.specs.Processor.{is_open};
     ghost use Rattle.otel_sdk_base.specs.Queue.{received_of};
 
     ghost received = { received_of E.accepted };
+
+    ghost queued = { λ p. p.queue };
+
+    ghost receives = { is_open };
 
     /// Queues a sampled span, or drops and counts it if the queue is full. Drops a span that isn't
     /// sampled.
@@ -102,6 +110,11 @@ impl<E: SpanExporter> SpanProcessor for BatchSpanProcessor<E> {
             refused ≡ record { span = Some span; error = queue_spec.cause self.old }) }
         ensures handed_in { OnOk result
             (IsHandedIn span (received_of E.accepted self.old) (received_of E.accepted self.new)) }
+        ensures closed { is_open self.old ≡ false
+            → IsErrOf result (record { span = Some span; error = AlreadyShutdown }) }
+        ensures memory { is_open self.old ≡ true → IfErr result (λ refused.
+            IsSome refused.span → refused.error ≡ Memory alloc_error) }
+        ensures stays { is_open self.new ≡ is_open self.old }
     {
         let is_sampled = span.span_context.is_sampled();
         if let Err(error) = reserved::reserve(&mut self.queue, is_sampled) {
@@ -129,7 +142,9 @@ impl<E: SpanExporter> SpanProcessor for BatchSpanProcessor<E> {
     }
 
     fn shutdown(&mut self) -> OTelSdkResult
-        ensures { IsShutDown E.accepted E.calls result self.old self.new }
+        ensures shut_down { IsShutDown E.accepted E.calls result self.old self.new }
+        ensures open { is_open self.new ≡ true
+            → received_of E.accepted self.new ≡ received_of E.accepted self.old }
     {
         self.queue.shutdown()
     }

@@ -1,11 +1,15 @@
 //! A processor that exports each span when it ends.
-ghost use Rattle.std.specs.Prelude.{◌≡◌, [], false, length, IfErr, Ok, OnOk};
+ghost use Rattle.std.specs.Prelude.{◌≡◌, [], true, false, length, Some, IfErr, IsErrOf, IsSome, Ok};
+ghost use Rattle.std.specs.Prelude.{OnOk, alloc_error};
 ghost use Rattle.std.specs.Rc.{rc_value};
 ghost use Rattle.otel_sdk.specs.Processor as spec;
 ghost use Rattle.otel_sdk.specs.Processor.{IsHandedIn, IsHandedInOrReturned, IsFlushedOrReturned};
+ghost use Rattle.otel_sdk.specs.Processor.{is_open};
 ghost use Rattle.otel_sdk_base.specs.Queue as queue_spec;
 ghost use Rattle.otel_sdk_base.specs.Queue.{IsExportersAnswer, IsFlushed, IsForceFlushed};
 ghost use Rattle.otel_sdk_base.specs.Queue.{IsShutDown, TellsResource, received_of};
+ghost use Rattle.otel_sdk_base.specs.declared.error.OTelSdkError.TheVariants.{AlreadyShutdown};
+ghost use Rattle.otel_sdk_base.specs.declared.error.OTelSdkError.TheVariants.{Memory};
 
 mod ended;
 
@@ -82,9 +86,14 @@ impl<E: SpanExporter> SimpleSpanProcessor<E> {
 }
 
 impl<E: SpanExporter> SpanProcessor for SimpleSpanProcessor<E> {
+    ghost use Rattle.otel_sdk.specs.Processor.{is_open};
     ghost use Rattle.otel_sdk_base.specs.Queue.{received_of};
 
     ghost received = { received_of E.accepted };
+
+    ghost queued = { λ p. p.queue };
+
+    ghost receives = { is_open };
 
     /// Queues the span if it is sampled, and drops it otherwise. Then flushes the processor.
     ///
@@ -106,6 +115,11 @@ impl<E: SpanExporter> SpanProcessor for SimpleSpanProcessor<E> {
             (IsHandedIn span (received_of E.accepted self.old) (received_of E.accepted self.new)) }
         ensures not_exported { IfErr result (λ refused. IsHandedInOrReturned span
             (received_of E.accepted self.old) (received_of E.accepted self.new) refused.span) }
+        ensures closed { is_open self.old ≡ false
+            → IsErrOf result (record { span = Some span; error = AlreadyShutdown }) }
+        ensures memory { is_open self.old ≡ true → IfErr result (λ refused.
+            IsSome refused.span → refused.error ≡ Memory alloc_error) }
+        ensures stays { is_open self.new ≡ is_open self.old }
     {
         self.inner.on_end(span)?;
         match self.inner.force_flush() {
@@ -121,7 +135,9 @@ impl<E: SpanExporter> SpanProcessor for SimpleSpanProcessor<E> {
     }
 
     fn shutdown(&mut self) -> OTelSdkResult
-        ensures { IsShutDown E.accepted E.calls result self.old self.new }
+        ensures shut_down { IsShutDown E.accepted E.calls result self.old self.new }
+        ensures open { is_open self.new ≡ true
+            → received_of E.accepted self.new ≡ received_of E.accepted self.old }
     {
         self.inner.shutdown()
     }

@@ -1,12 +1,13 @@
 //! The calls of tracers whose results no contract sees.
+use crate::trace::id_generator::count::count_one;
 use otel_sdk_base::Clock;
 use std::cell::Cell;
 
 /// The calls of tracers on their clock and on their provider's cells. Every [`Clock`] has them.
 ///
 /// No contract sees what a clock shows or what a cell holds. So each call ensures a ghost member of
-/// which code that is generic over this trait knows nothing: only the call shows it. A contract that
-/// cites it says that the call was made.
+/// which code that is generic over this trait knows nothing: only the call shows it. A contract
+/// that cites it says that the call was made.
 pub trait TracerCalls: Clock {
     ghost use Rattle.std.specs.Prelude.{ℕ, Bool};
 
@@ -61,7 +62,7 @@ impl<C: Clock> TracerCalls for C {
     }
 
     fn count_failed(failed: &Cell<u64>) {
-        failed.set(failed.get().saturating_add(1));
+        count_one(failed);
     }
 
     fn close(flag: &Cell<bool>) {

@@ -1,8 +1,8 @@
 //! The start of a span: its ids, the sampler's answer, and its data.
 ghost use Rattle.std.specs.Prelude.{◌≡◌, IfOk, option_copied};
-ghost use Rattle.std.specs.Rc.{rc_value};
 ghost use Rattle.opentelemetry.specs.View.{builder_of};
 ghost use Rattle.otel_sdk.specs.Tracer as spec;
+ghost use Rattle.otel_sdk.specs.Tracer.{of_config};
 ghost use Rattle.otel_sdk_base.specs.Attributes.{attributes_of};
 
 use crate::trace::start::{Ids, ask, given_data, new_ids, parent_of, records, span_context_of};
@@ -65,9 +65,9 @@ impl<S: ShouldSample, G: IdGenerator, C: TracerCalls> TracerConfig<S, G, C> {
         span_context: SpanContext,
         sampled: Vec<KeyValue>,
     ) -> Result<SdkSpan, AllocError>
-        ensures { IfOk result (λ span. spec.Records C.may_show self.now.limits
-            (rc_value scope.now) (builder_of builder) (option_copied parent.entry) span_context
-            (attributes_of sampled) span) }
+        ensures { IfOk result (spec.IsRecorded C.may_show (of_config self.now scope.now)
+            (builder_of builder) (option_copied parent.entry) span_context
+            (attributes_of sampled)) }
     {
         let start_time = self.start_time(builder.start_time);
         let scope = scope.clone()?;
@@ -96,9 +96,9 @@ impl<S: ShouldSample, G: IdGenerator, C: TracerCalls> TracerConfig<S, G, C> {
         parent_context: &Context,
         ids: Ids,
     ) -> Result<SdkSpan, AllocError>
-        ensures { IfOk result (λ span. spec.StartsWith (S.answer self.now.sampler)
-            (G.random self.now.id_generator) C.may_show self.now.limits (rc_value scope.now)
-            (builder_of builder) parent_context.now ids.trace_id ids.span_id span) }
+        ensures { IfOk result (spec.IsStarted S.answer G.random C.may_show
+            (of_config self.now scope.now) (builder_of builder) parent_context.now
+            ids.trace_id ids.span_id) }
     {
         let parent = parent_of(parent_context);
         let answer = ask(alloc, &self.sampler, &builder, parent_context, ids.trace_id)?;
@@ -136,10 +136,9 @@ impl<S: ShouldSample, G: IdGenerator, C: TracerCalls> TracerConfig<S, G, C> {
         builder: SpanBuilder,
         parent: &Context,
     ) -> Result<SdkSpan, AllocError>
-        ensures { IfOk result (λ span. spec.Starts (S.answer self.now.sampler)
-            (G.random self.now.id_generator) (G.may_trace self.now.id_generator)
-            (G.may_span self.now.id_generator) C.may_show C.is_counted self.now.limits
-            (rc_value scope.now) (builder_of builder) parent.now span) }
+        ensures { IfOk result (spec.TracerStarts S.answer G.random G.may_trace G.may_span
+            C.may_show C.is_counted (of_config self.now scope.now)
+            (builder_of builder) parent.now) }
     {
         match new_ids(&self.id_generator, parent_of(parent)) {
             Ok(ids) => self.start_with_ids(alloc, scope, builder, parent, ids),

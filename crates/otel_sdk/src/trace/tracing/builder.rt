@@ -3,7 +3,7 @@ ghost use Rattle.std.specs.Prelude.{◌≡◌, ◌||◌, IfOk, None, false, true
 ghost use Rattle.opentelemetry.specs.Scope.{scope_of_name};
 ghost use Rattle.otel_sdk.specs.ParentBased.{after_parent};
 ghost use Rattle.otel_sdk.specs.Tracer.{with_id_generator, with_resource, with_sampler};
-ghost use Rattle.otel_sdk.specs.TracingBuilder.{IsBuilt};
+ghost use Rattle.otel_sdk.specs.TracingBuilder.{IsBuilt, with_provider};
 ghost use Rattle.otel_sdk_base.specs.Queue.{default_limits as default_batches};
 ghost use Rattle.otel_sdk_span.specs.SpanLimits.{default_limits};
 
@@ -101,12 +101,7 @@ impl<S: ShouldSample, G: IdGenerator, C: Clock, E: Drop> TracingBuilder<S, G, C,
 
     /// Sets the sampler, which decides which spans record.
     pub fn with_sampler<T: ShouldSample>(self, sampler: T) -> TracingBuilder<T, G, C, E>
-        ensures { result ≡ record {
-          provider = with_sampler sampler self.provider;
-          exporter = self.exporter;
-          config = self.config;
-          is_disabled = self.is_disabled;
-        } }
+        ensures { result ≡ with_provider (with_sampler sampler self.provider) self }
     {
         TracingBuilder {
             provider: self.provider.with_sampler(sampler),
@@ -118,12 +113,7 @@ impl<S: ShouldSample, G: IdGenerator, C: Clock, E: Drop> TracingBuilder<S, G, C,
 
     /// Sets the generator of ids.
     pub fn with_id_generator<T: IdGenerator>(self, id_generator: T) -> TracingBuilder<S, T, C, E>
-        ensures { result ≡ record {
-          provider = with_id_generator id_generator self.provider;
-          exporter = self.exporter;
-          config = self.config;
-          is_disabled = self.is_disabled;
-        } }
+        ensures { result ≡ with_provider (with_id_generator id_generator self.provider) self }
     {
         TracingBuilder {
             provider: self.provider.with_id_generator(id_generator),
@@ -145,15 +135,11 @@ impl<S: ShouldSample, G: IdGenerator, C: Clock, E: Drop> TracingBuilder<S, G, C,
         }
     }
 
-    /// Counts ids up from 1, and lets each reading of the clock be `step` nanoseconds later than the
-    /// one before, so that every run gives the same spans. Use it in tests and examples.
+    /// Counts ids up from 1, and lets each reading of the clock be `step` nanoseconds later than
+    /// the one before, so that every run gives the same spans. Use it in tests and examples.
     pub fn counted(self, step: u64) -> TracingBuilder<S, CountedIdGenerator, CountedClock, E>
-        ensures { result ≡ record {
-          provider = with_id_generator result.provider.id_generator self.provider;
-          exporter = self.exporter;
-          config = self.config;
-          is_disabled = self.is_disabled;
-        } }
+        ensures { result ≡ with_provider
+            (with_id_generator result.provider.id_generator self.provider) self }
     {
         self.with_id_generator(CountedIdGenerator::new())
             .with_clock(CountedClock::new(step))
@@ -166,7 +152,7 @@ impl<S: ShouldSample, G: IdGenerator, C: Clock, E: Drop> TracingBuilder<S, G, C,
     /// `AllocError` if out of memory. The parts are dropped.
     pub fn with_resource(self, resource: Resource) -> Result<Self, AllocError>
         ensures { IfOk result (λ b. b
-            ≡ record self { provider = with_resource resource self.provider }) }
+            ≡ with_provider (with_resource resource self.provider) self) }
     {
         let TracingBuilder {
             provider,
@@ -201,8 +187,8 @@ impl<S: ShouldSample, G: IdGenerator, C: Clock, E: Drop> TracingBuilder<S, G, C,
         TracingBuilder { config, ..self }
     }
 
-    /// Disables the `Tracing`: it starts no spans, generates no ids and takes no memory. Contexts are
-    /// attached, received and sent as ever.
+    /// Disables the `Tracing`: it starts no spans, generates no ids and takes no memory. Contexts
+    /// are attached, received and sent as ever.
     pub fn disabled(self) -> Self
         ensures { result ≡ record self { is_disabled = true } }
     {
@@ -233,7 +219,7 @@ impl<S: ShouldSample, G: IdGenerator, C: Clock, E: SpanExporter> TracingBuilder<
         alloc: Global,
         name: &'static str,
     ) -> Result<Tracing<OpenPipeline<S, G, C>, E>, AllocError>
-        ensures { IfOk result (IsBuilt E.accepted self (scope_of_name name.now)) }
+        ensures { IfOk result (IsBuilt E.accepted E.calls self (scope_of_name name.now)) }
     {
         let TracingBuilder {
             provider,

@@ -32,8 +32,8 @@ impl Moments {
         }
     }
 
-    /// Returns the moment that the clock of the tracer gives, in nanoseconds since 1970, or 0 if the
-    /// `Tracing` is disabled.
+    /// Returns the moment that the clock of the tracer gives, in nanoseconds since 1970, or 0 if
+    /// the `Tracing` is disabled.
     pub fn read<P: Pipeline>(&mut self, is_disabled: bool, tracer: &SdkTracer<P>) -> u64
         ensures listed { self.new ≡ after_reading is_disabled result self.old }
         ensures shown { is_disabled ≡ false → P.may_show tracer.now result }

@@ -83,10 +83,10 @@ pub returns-in-Ok-shutdown : goal.returns-in-Ok-shutdown
 returns-in-Ok-shutdown g c = rw c.in-Shutdown.is (applies-shutdown g.E.Exporter.accepted g.E.Exporter.calls
     (g.P.Pipeline.may_start c.args.tracer.now)
     c.args.live.now c.args.stack.now.live c.args.processor.now c.shutdown.new.self c.shutdown.result (_)
-    c.in-Ok-shutdown.is c.shutdown.ensures.0 c.shutdown.ensures.1 c.shutdown.ensures.2)
+    c.in-Ok-shutdown.is c.shutdown.ensures.shut_down.0 c.shutdown.ensures.shut_down.1 c.shutdown.ensures.shut_down.2)
 
 pub returns-in-Err-shutdown : goal.returns-in-Err-shutdown
 returns-in-Err-shutdown g c = rw c.in-Shutdown.is (applies-shutdown_part g.E.Exporter.accepted g.E.Exporter.calls
     (g.P.Pipeline.may_start c.args.tracer.now)
     c.args.live.now c.args.stack.now.live c.args.processor.now c.shutdown.new.self c.shutdown.result
-    c.in-Err-shutdown.error c.in-Err-shutdown.is c.shutdown.ensures.0 c.shutdown.ensures.1 c.shutdown.ensures.2)
+    c.in-Err-shutdown.error c.in-Err-shutdown.is c.shutdown.ensures.shut_down.0 c.shutdown.ensures.shut_down.1 c.shutdown.ensures.shut_down.2)

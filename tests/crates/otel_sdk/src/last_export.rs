@@ -1,0 +1,215 @@
+//! The last export: how often it is tried, and when.
+use otel_sdk::EnvConfig;
+use otel_sdk::env::EnvBatches;
+use otel_sdk::error::{OTelSdkError, OTelSdkResult};
+use otel_sdk::resource::Resource;
+use otel_sdk::trace::{
+    BatchConfigBuilder, Clock, CountedClock, CountedIdGenerator, Exporter, ManualClock,
+    OpenPipeline, ParentBased, Sampler, SpanData, SystemClock, Tracing, Unfinished, finish,
+};
+use std::alloc::Global;
+use std::cell::Cell;
+use std::rc::Rc;
+use std::test::Fail;
+
+/// A millisecond in nanoseconds.
+const MILLI: u64 = 1_000_000;
+
+/// An exporter that fails at the first flushes.
+#[derive(Drop)]
+struct Busy {
+    alloc: Global,
+    failures: u32,
+    is_stuck: bool,
+    flushes: u32,
+    shutdowns: u32,
+    spans: usize,
+}
+
+impl Busy {
+    fn new(alloc: Global, failures: u32) -> Busy {
+        Busy {
+            alloc,
+            failures,
+            is_stuck: false,
+            flushes: 0,
+            shutdowns: 0,
+            spans: 0,
+        }
+    }
+}
+
+impl Exporter<SpanData> for Busy {
+    ghost use Rattle.otel_sdk_base.specs.Export.{any_calls};
+    ghost use Rattle.std.specs.Prelude.{[]};
+
+    ghost accepted = { λ _. [] };
+
+    ghost calls = { any_calls };
+
+    fn export(&mut self, batch: &[SpanData]) -> OTelSdkResult {
+        self.spans = self.spans.saturating_add(batch.len());
+        Ok(())
+    }
+
+    fn force_flush(&mut self) -> OTelSdkResult {
+        self.flushes = self.flushes.saturating_add(1);
+        if self.flushes <= self.failures {
+            return Err(OTelSdkError::InternalFailure(String::new(self.alloc)));
+        }
+        Ok(())
+    }
+
+    fn shutdown(&mut self) -> OTelSdkResult {
+        self.shutdowns = self.shutdowns.saturating_add(1);
+        if self.is_stuck {
+            return Err(OTelSdkError::InternalFailure(String::new(self.alloc)));
+        }
+        Ok(())
+    }
+
+    fn set_resource(&mut self, resource: Rc<Resource>) {
+        drop(resource);
+    }
+}
+
+type App = Tracing<OpenPipeline<ParentBased<Sampler>, CountedIdGenerator, CountedClock>, Busy>;
+
+/// Two spans that are open, in a queue for two.
+fn app(rt: HostRuntime, exporter: Busy) -> Result<App, Fail> {
+    let config = BatchConfigBuilder::default().with_max_queue_size(2).build();
+    let builder = Tracing::builder(rt).counted(1).with_batch_config(config);
+    let mut app = builder.with_exporter(exporter).build(rt.alloc(), "cart")?;
+    app.enter("serve")?;
+    app.enter("price")?;
+    Ok(app)
+}
+
+/// An export may take this many milliseconds.
+fn within(millis: u32) -> EnvBatches {
+    EnvBatches {
+        max_queue_size: 2,
+        max_export_batch_size: 2,
+        schedule_delay_millis: 5000,
+        export_timeout_millis: millis,
+    }
+}
+
+/// The failures before a flush succeeds, the milliseconds that are allowed, the tries, the
+/// milliseconds that they take, and whether all goes well.
+const TRIES: &[(u32, u32, u32, u64, bool)] = &[
+    (0, 30_000, 1, 0, true),
+    (1, 30_000, 2, 100, true),
+    (3, 30_000, 4, 300, true),
+    (10, 1000, 11, 1000, true),
+    (11, 1000, 11, 1000, false),
+    (99, 250, 4, 250, false),
+    (99, 100, 2, 100, false),
+    (99, 0, 1, 0, false),
+];
+
+#[test]
+fn a_failed_export_is_tried_again_every_100_milliseconds(rt: HostRuntime) -> Result<(), Fail> {
+    for (failures, millis, tries, took, is_well) in TRIES {
+        let mut app = app(rt, Busy::new(rt.alloc(), *failures))?;
+        let clock = CountedClock::new(10 * MILLI);
+        let answer = finish(&mut app, &clock, &within(*millis));
+        assert_eq!(rt; answer.is_ok(), *is_well, "{failures} {millis}");
+        assert_eq!(rt; matches!(answer, Err(Unfinished::Refused(_))), !*is_well);
+        assert_eq!(rt; app.exporter().flushes, *tries, "{failures} {millis}");
+        assert_eq!(rt; app.exporter().shutdowns, u32::from(*is_well));
+        assert_eq!(rt; clock.now(), (*took + 10) * MILLI, "{failures} {millis}");
+        assert_eq!(rt; (app.exporter().spans, app.open_spans()), (2, 0));
+    }
+    Ok(())
+}
+
+#[test]
+fn a_clock_that_has_stopped_allows_no_other_try(rt: HostRuntime) -> Result<(), Fail> {
+    let mut app = app(rt, Busy::new(rt.alloc(), 99))?;
+    let answer = finish(&mut app, &ManualClock::new(7), &within(30_000));
+    assert!(rt; matches!(answer, Err(Unfinished::Refused(_))));
+    assert_eq!(rt; app.exporter().flushes, 1);
+    Ok(())
+}
+
+/// A clock that is set back by a minute once, after its first reading.
+#[derive(Drop)]
+struct SetBack {
+    clock: CountedClock,
+    is_set: Cell<bool>,
+}
+
+impl Clock for SetBack {
+    fn now(&self) -> u64 {
+        let now = self.clock.now();
+        if self.is_set.get() {
+            return now;
+        }
+        self.is_set.set(true);
+        now.saturating_add(60_000 * MILLI)
+    }
+}
+
+#[test]
+fn a_clock_that_is_set_back_allows_no_more_time(rt: HostRuntime) -> Result<(), Fail> {
+    let mut app = app(rt, Busy::new(rt.alloc(), 99))?;
+    let clock = SetBack {
+        clock: CountedClock::new(10 * MILLI),
+        is_set: Cell::new(false),
+    };
+    assert!(rt; finish(&mut app, &clock, &within(1000)).is_err());
+    assert_eq!(rt; app.exporter().flushes, 11);
+    assert_eq!(rt; clock.now(), 1020 * MILLI);
+    Ok(())
+}
+
+#[test]
+fn after_a_shutdown_nothing_is_tried_again(rt: HostRuntime) -> Result<(), Fail> {
+    let mut stuck = Busy::new(rt.alloc(), 0);
+    stuck.is_stuck = true;
+    let mut app = app(rt, stuck)?;
+    for _ in 0..2 {
+        let answer = finish(&mut app, &CountedClock::new(MILLI), &within(1000));
+        assert!(rt; matches!(answer, Err(Unfinished::Refused(_))));
+        assert_eq!(rt; (app.exporter().flushes, app.exporter().shutdowns), (1, 1));
+    }
+    Ok(())
+}
+
+#[test]
+fn dropped_spans_are_no_success(rt: HostRuntime) -> Result<(), Fail> {
+    let mut app = app(rt, Busy::new(rt.alloc(), 0))?;
+    app.enter("third")?;
+    let Err(error) = finish(&mut app, &CountedClock::new(1), &within(0)) else {
+        assert!(rt; false, "no error");
+        return Ok(());
+    };
+    assert!(rt; matches!(error, Unfinished::Dropped(1)));
+    assert_eq!(rt;
+        error.to_string(rt.alloc())?.as_str(),
+        "1 spans are lost: the queue was full"
+    );
+    assert_eq!(rt; (app.exporter().spans, app.exporter().shutdowns), (2, 1));
+    let why = OTelSdkError::InternalFailure(String::from_str(rt.alloc(), "full")?);
+    assert_eq!(rt;
+        Unfinished::Refused(why).to_string(rt.alloc())?.as_str(),
+        "some spans are lost: Operation failed: full"
+    );
+    Ok(())
+}
+
+#[test]
+fn the_environment_says_how_long_a_program_tries(rt: HostRuntime) -> Result<(), Fail> {
+    let config = EnvConfig::from_vars(rt.alloc(), &[])?;
+    let builder = Tracing::builder(rt).with_exporter(Busy::new(rt.alloc(), 1));
+    let builder = builder.with_env(rt.alloc(), &config)?;
+    let mut tracing = builder.build(rt.alloc(), "cart")?;
+    tracing.enter("serve")?;
+    finish(&mut tracing, &SystemClock::new(rt), &config.span_batches)?;
+    assert_eq!(rt;
+        (tracing.exporter().spans, tracing.exporter().flushes),
+        (1, 2)
+    );
+    Ok(())
+}
