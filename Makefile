@@ -5,7 +5,7 @@
 #   make prove                      proves and builds the programs, and runs them
 #   make example                    runs a service: prints the headers that it sends on for examples/service and for no headers,
 #                                   a picture of its traces, its log lines, and its spans as lines of JSON
-#   make example-collector          runs the service and a collector, sends the spans there by curl, and prints what arrived
+#   make example-collector          runs the service beside a collector, to which it sends its spans, and prints what arrived
 #   make view                       lists the traces of that service's spans, draws the first, and writes a page of all
 #   make example-c                  runs a C program with the static library of crates/otel_c, which is proved first
 #   make install PREFIX=P           installs this library with its header under P: libraries, pkg-config's file and a manual page
@@ -65,7 +65,7 @@ example:
 		&& "$$program" --headers "$$spans" < examples/service > /dev/null && echo "the spans as lines of JSON: $$spans" >&2
 
 example-collector:
-	@program=$$(tests/tools/programs.py path otel_service) && tests/tools/otlp_http --for "$$program" --headers --fixed < examples/service
+	@program=$$(tests/tools/programs.py path otel_service) && tests/tools/otlp_http --for "$$program" --headers --fixed --otlp < examples/service
 
 view:
 	@service=$$(tests/tools/programs.py path otel_service) && program=$$(tests/tools/programs.py path otel_view) \

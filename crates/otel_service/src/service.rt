@@ -1,8 +1,7 @@
 //! The service, and its work on a request.
 
-use anyhow::{Context, Error, Result, bail, ensure};
+use anyhow::{Error, Result, bail, ensure};
 use bytes::{BufMut, Bytes};
-use clap::ArgMatches;
 use http::{HeaderMap, Request, StatusCode};
 use http_server::{Config, Connection, Reason, Response, State};
 use opentelemetry::logs::{Logger, LoggerProvider};
@@ -13,37 +12,30 @@ use otel_http::{HeaderExtractor, HeaderInjector, add_header_line};
 use otel_otlp::OtlpJsonLogExporter;
 use otel_sdk::env::{ConfiguredPropagator, EnvConfig, WithEnv};
 use otel_sdk::logs::{SdkLoggerProvider, SimpleLogProcessor, SimpleLogger};
-use otel_sdk::trace::{Pipeline, SpanExporter, Tracing};
+use otel_sdk::trace::{Pipeline, SpanExporter, SystemClock, Tracing, finish};
 use std::alloc::AllocError;
-use std::hash::RandomState;
 use std::io::{self, Read, Stderr, Write};
 
 /// The name of the service.
 pub const NAME: &str = "otel_service";
 
-/// The number of spans that are exported together.
-const BATCH: usize = 512;
-
-/// A logger that writes its records to standard error, as lines of JSON.
-type LineLogger = SimpleLogger<OtlpJsonLogExporter<Stderr>, HostRuntime>;
-
 /// How the program was called.
-#[derive(Drop)]
+#[derive(Clone, Copy)]
 pub struct Call<'a> {
     /// The runtime.
     pub rt: HostRuntime,
     /// The configuration from the environment.
-    pub env: EnvConfig,
-    /// The arguments.
-    pub matches: ArgMatches<'a>,
+    pub env: &'a EnvConfig,
+    /// Whether a request is lines of headers.
+    pub is_lines: bool,
 }
 
-/// Makes the logger.
-fn logger(call: &Call<'_>) -> Result<LineLogger> {
+/// Makes a logger that writes its records to standard error, as lines of JSON.
+fn logger(call: Call<'_>) -> Result<SimpleLogger<OtlpJsonLogExporter<Stderr>, HostRuntime>> {
     let alloc = call.rt.alloc();
     let lines = SimpleLogProcessor::new(alloc, OtlpJsonLogExporter::new(alloc, call.rt.stderr())?)?;
     let loggers = SdkLoggerProvider::builder(call.rt).with_log_processor(lines);
-    let loggers = loggers.with_env(alloc, &call.env)?.build(alloc)?;
+    let loggers = loggers.with_env(alloc, call.env)?.build(alloc)?;
     Ok(loggers.logger(alloc, NAME.into())?)
 }
 
@@ -67,7 +59,7 @@ pub struct Service<P, E: SpanExporter, L> {
 /// # Errors
 ///
 /// The reason why the input isn't read, an answer isn't written, or spans are lost.
-pub fn serve<P: Pipeline, E: SpanExporter>(call: &Call<'_>, tracing: Tracing<P, E>) -> Result<()> {
+pub fn serve<P: Pipeline, E: SpanExporter>(call: Call<'_>, tracing: Tracing<P, E>) -> Result<()> {
     let propagator = call.env.propagator(call.rt.alloc())?;
     let log = OpenTelemetryLogBridge::new(call.rt.alloc(), logger(call)?);
     let mut service = Service {
@@ -77,17 +69,24 @@ pub fn serve<P: Pipeline, E: SpanExporter>(call: &Call<'_>, tracing: Tracing<P, 
         log,
         is_told: false,
     };
-    let answered = service.answer_input(call);
-    service.finish().and(answered)
+    service.run(call)
 }
 
 impl<P: Pipeline, E: SpanExporter, L: Logger> Service<P, E, L> {
+    /// Answers the requests, and exports the last spans.
+    fn run(&mut self, call: Call<'_>) -> Result<()> {
+        let answered = self.answer_input(call);
+        let clock = SystemClock::new(call.rt);
+        finish(&mut self.tracing, &clock, &call.env.span_batches)?;
+        answered
+    }
+
     /// Answers the requests of standard input, until it ends or a request is refused.
-    fn answer_input(&mut self, call: &Call<'_>) -> Result<()> {
-        if call.matches.get_flag("headers") {
+    fn answer_input(&mut self, call: Call<'_>) -> Result<()> {
+        if call.is_lines {
             return self.answer_lines(call.rt.stdin(), &mut call.rt.stdout());
         }
-        let keys = RandomState::new(&call.rt)?;
+        let keys = std::hash::RandomState::new(&call.rt)?;
         let mut peer = Connection::new(call.rt.alloc(), keys, Config::default());
         self.answer_peer(call.rt, &mut peer)
     }
@@ -134,9 +133,7 @@ impl<P: Pipeline, E: SpanExporter, L: Logger> Service<P, E, L> {
         let lines = self.work(path).inspect_err(|error| drop(self.show(error)));
         drop(span.map(|span| self.tracing.exit(span)));
         self.tracing.detach(caller);
-        if self.tracing.ended_spans() >= BATCH {
-            self.export();
-        }
+        self.export();
         lines
     }
 
@@ -148,20 +145,13 @@ impl<P: Pipeline, E: SpanExporter, L: Logger> Service<P, E, L> {
         Ok(self.tracing.set_status(Status::error(text.into()))?)
     }
 
-    /// Exports the spans. The first failure is told on standard error.
+    /// Exports a full batch: 512 spans. The first failure is told on standard error.
     fn export(&mut self) {
-        if let (Err(error), false) = (self.tracing.flush(), self.is_told) {
+        let is_full = self.tracing.ended_spans() >= 512;
+        if is_full && let (Err(error), false) = (self.tracing.flush(), self.is_told) {
             self.is_told = true;
             drop(eprintln!(self.rt; "{error}; the spans wait for another try"));
         }
-    }
-
-    /// Exports the last spans.
-    fn finish(&mut self) -> Result<()> {
-        self.tracing.shutdown().context("some spans are lost")?;
-        let dropped = self.tracing.dropped_spans();
-        ensure!(dropped == 0, "{dropped} spans are lost: the queue was full");
-        Ok(())
     }
 
     /// Does the work of a request in two spans. Returns the headers that are sent on, as lines.
@@ -172,8 +162,7 @@ impl<P: Pipeline, E: SpanExporter, L: Logger> Service<P, E, L> {
         let price = self.tracing.enter("price")?;
         self.tracing.exit(price);
         ensure!(path == "/cart", "no price for {path}");
-        let text = format!(in self.rt.alloc(); "served {path}")?;
-        log::info!(self.log.sink(self.tracing.context()); target: NAME, "{text}");
+        log::info!(self.log.sink(self.tracing.context()); target: NAME, "served /cart");
         let mut sent = HeaderInjector::new(HeaderMap::new(self.rt.alloc()));
         self.tracing.send(&self.propagator, &mut sent)?;
         Ok(sent.to_string(self.rt.alloc())?)
