@@ -1,5 +1,6 @@
 pub mod Chosen
 pub mod Color
+pub mod Logs
 pub mod Progress
 pub mod Skipped
 pub mod Summary

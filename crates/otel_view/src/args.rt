@@ -22,7 +22,7 @@ enum Kind {
 }
 
 /// The arguments: the name, the kind and the help of each.
-const ARGUMENTS: [(&str, Kind, &str); 7] = [
+const ARGUMENTS: [(&str, Kind, &str); 8] = [
     (
         "FILE",
         Kind::Required,
@@ -54,6 +54,11 @@ const ARGUMENTS: [(&str, Kind, &str); 7] = [
         Kind::Value("PAGE"),
         "Writes a page of HTML to this file instead",
     ),
+    (
+        "logs",
+        Kind::Value("FILE"),
+        "Shows the log records of this file with the spans of ID",
+    ),
 ];
 
 /// The arguments, as they were given.
@@ -73,6 +78,8 @@ pub struct Options<'a> {
     pub limit: usize,
     /// The file that a page of HTML is written to.
     pub html: Option<&'a str>,
+    /// The file with the log records of the trace.
+    pub logs: Option<&'a str>,
 }
 
 /// Returns the argument of this name and kind.
@@ -136,6 +143,7 @@ impl<'a> Options<'a> {
             slower,
             limit,
             html: matches.get_str("html"),
+            logs: matches.get_str("logs"),
         })
     }
 }

@@ -2,6 +2,7 @@
 
 use crate::clock::Clock;
 use crate::color::{Colors, Paint};
+use crate::logs::Line;
 use anyhow::Result;
 use opentelemetry::KeyValue;
 use opentelemetry::trace::{Event, Link, SpanKind, Status};
@@ -162,6 +163,40 @@ fn push_links(alloc: Global, text: &mut String, span: &SpanData) -> Result<(), A
     push_dropped(alloc, text, "  ", span.links.dropped_count, "links")
 }
 
+/// Appends the time of a log record after the start of the trace, unless it isn't known.
+fn push_time(alloc: Global, text: &mut String, start: u64, time: u64) -> Result<(), AllocError> {
+    if time == 0 {
+        return text.push_str("  log");
+    }
+    let after = duration_text(alloc, start, time)?;
+    let after = after.as_str();
+    text.push_str(format!(in alloc; "  log at {after}")?.as_str())
+}
+
+/// Appends a log record: its time, its severity and its body.
+fn push_log(alloc: Global, text: &mut String, start: u64, line: &Line) -> Result<(), AllocError> {
+    push_time(alloc, text, start, line.time)?;
+    if !line.severity.as_str().is_empty() {
+        text.push(' ')?;
+        push_shown(alloc, text, line.severity.as_str())?;
+    }
+    text.push_str(": ")?;
+    push_lines(alloc, text, "  ", line.body.as_str())
+}
+
+/// Appends the log records of a span, at their times after the start of the trace.
+fn push_logs(
+    alloc: Global,
+    text: &mut String,
+    start: u64,
+    lines: &[Line],
+) -> Result<(), AllocError> {
+    for line in lines {
+        push_log(alloc, text, start, line)?;
+    }
+    Ok(())
+}
+
 /// Appends the status, the attributes, the events and the links of a span.
 fn push_parts(
     alloc: Global,
@@ -210,18 +245,25 @@ impl Details {
         text.push('\n')
     }
 
-    /// Returns the details of a span of this service.
+    /// Returns the details of a span of this service, with its log records.
     ///
     /// # Errors
     ///
     /// Out of memory, or a moment that no clock shows.
-    pub fn text(&self, alloc: Global, service: &str, span: &SpanData) -> Result<String> {
+    pub fn text(
+        &self,
+        alloc: Global,
+        service: &str,
+        span: &SpanData,
+        logs: &[Line],
+    ) -> Result<String> {
         let facts = self.facts(alloc, span)?;
         let mut text = String::from_str(alloc, "\n")?;
         self.push_name(alloc, &mut text, span.name.as_str())?;
         text.push_str(facts.as_str())?;
         push_lines(alloc, &mut text, "  ", service)?;
         push_parts(alloc, &mut text, self.colors, self.start, span)?;
+        push_logs(alloc, &mut text, self.start, logs)?;
         Ok(text)
     }
 }

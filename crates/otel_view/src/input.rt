@@ -5,8 +5,9 @@ ghost use Rattle.otel_view.specs.Skipped as spec;
 use crate::progress::{Count, Progress};
 use anyhow::Result;
 use opentelemetry::StringValue;
-use otel_otlp::{ReadError, ResourceSpans, read_resource_spans};
+use otel_otlp::{ReadError, ResourceLogs, ResourceSpans, read_resource_logs, read_resource_spans};
 use otel_sdk_base::resource::Resource;
+use otel_sdk_logs::SdkLogRecord;
 use otel_sdk_span::SpanData;
 use std::alloc::{AllocError, Global};
 use std::io::{self, BufRead, BufReader, Read};
@@ -69,16 +70,32 @@ fn is_blank(line: &[u8]) -> bool
     line.iter().all(|byte| byte.is_ascii_whitespace())
 }
 
-/// Reads a line of spans. A line without resources isn't one.
-fn spans_of(alloc: Global, line: &[u8]) -> Result<Vec<ResourceSpans>, ReadError> {
-    let Ok(text) = str::from_utf8(line) else {
-        return Err(ReadError::Json);
-    };
-    let groups = read_resource_spans(alloc, text)?;
+/// Returns the text of the line.
+fn text_of(line: &[u8]) -> Result<&str, ReadError> {
+    match str::from_utf8(line) {
+        Ok(text) => Ok(text),
+        Err(_) => Err(ReadError::Json),
+    }
+}
+
+/// Returns the groups of the line. A line without groups isn't one of their signal.
+fn not_empty<G: Drop>(groups: Vec<G>) -> Result<Vec<G>, ReadError> {
     if groups.is_empty() {
         return Err(ReadError::Json);
     }
     Ok(groups)
+}
+
+/// Reads a line of spans.
+fn spans_of(alloc: Global, line: &[u8]) -> Result<Vec<ResourceSpans>, ReadError> {
+    let text = text_of(line)?;
+    not_empty(read_resource_spans(alloc, text)?)
+}
+
+/// Reads a line of log records.
+fn records_of(alloc: Global, line: &[u8]) -> Result<Vec<ResourceLogs>, ReadError> {
+    let text = text_of(line)?;
+    not_empty(read_resource_logs(alloc, text)?)
 }
 
 /// What takes the spans of lines.
@@ -89,6 +106,30 @@ pub trait SpanTaker {
     ///
     /// `AllocError` if out of memory.
     fn take(&mut self, service: &StringValue, span: SpanData) -> Result<(), AllocError>;
+}
+
+/// What takes the log records of lines.
+pub trait RecordTaker {
+    /// Takes a record.
+    ///
+    /// # Errors
+    ///
+    /// `AllocError` if out of memory.
+    fn take(&mut self, alloc: Global, record: SdkLogRecord) -> Result<(), AllocError>;
+}
+
+/// Passes on the log records of a line, in their order.
+fn pass_records<T: RecordTaker>(
+    alloc: Global,
+    taker: &mut T,
+    groups: Vec<ResourceLogs>,
+) -> Result<(), AllocError> {
+    for group in groups {
+        for entry in group.records {
+            taker.take(alloc, entry.record)?;
+        }
+    }
+    Ok(())
 }
 
 /// Returns the name of the service that the resource describes.
@@ -163,15 +204,18 @@ impl<R: Read + Drop> Lines<R> {
         Ok(true)
     }
 
-    /// Returns the spans of the line that was read, or `None` if it has none. A line without spans
-    /// is counted unless it is blank.
-    fn spans(&mut self) -> Result<Option<Vec<ResourceSpans>>, AllocError>
+    /// Returns the groups that were read of the line, or `None` if it has none. A line without
+    /// groups is counted unless it is blank.
+    fn kept<G: Drop>(
+        &mut self,
+        read: Result<Vec<G>, ReadError>,
+    ) -> Result<Option<Vec<G>>, AllocError>
         ensures none { IfOk result (λ groups. IfNone groups (spec.SkipsLine
             self.old.count.lines self.old.line.items self.old.skipped self.new.skipped)) }
         ensures some { IfOk result (λ groups. IfSome groups (λ _.
             self.new.skipped ≡ self.old.skipped)) }
     {
-        match spans_of(self.alloc, self.line.as_slice()) {
+        match read {
             Ok(groups) => Ok(Some(groups)),
             Err(ReadError::Memory(error)) => Err(error),
             Err(_) => {
@@ -197,8 +241,21 @@ impl<R: Read + Drop> Lines<R> {
         if !self.read_line()? {
             return Ok(false);
         }
-        if let Some(groups) = self.spans()? {
+        let read = spans_of(self.alloc, self.line.as_slice());
+        if let Some(groups) = self.kept(read)? {
             pass_groups(self.alloc, taker, groups)?;
+        }
+        Ok(true)
+    }
+
+    /// Reads the next line, and passes its log records on. Returns `false` at the end.
+    fn pass_log_line<T: RecordTaker>(&mut self, taker: &mut T) -> Result<bool> {
+        if !self.read_line()? {
+            return Ok(false);
+        }
+        let read = records_of(self.alloc, self.line.as_slice());
+        if let Some(groups) = self.kept(read)? {
+            pass_records(self.alloc, taker, groups)?;
         }
         Ok(true)
     }
@@ -211,6 +268,20 @@ impl<R: Read + Drop> Lines<R> {
     pub fn pass_all<T: SpanTaker>(&mut self, taker: &mut T) -> Result<()> {
         for _ in 0..u64::MAX {
             if !self.pass_line(taker)? {
+                break;
+            }
+        }
+        Ok(())
+    }
+
+    /// Passes on the log records of all lines, in their order.
+    ///
+    /// # Errors
+    ///
+    /// The reader's error, or out of memory.
+    pub fn pass_all_records<T: RecordTaker>(&mut self, taker: &mut T) -> Result<()> {
+        for _ in 0..u64::MAX {
+            if !self.pass_log_line(taker)? {
                 break;
             }
         }

@@ -8,11 +8,13 @@ mod color;
 mod details;
 mod input;
 mod list;
+mod logs;
 mod page;
 mod picture;
 mod progress;
 mod summary;
 mod trace;
+mod tree;
 mod view;
 
 use anyhow::Result;

@@ -7,6 +7,7 @@ use crate::color::Colors;
 use crate::details::Details;
 use crate::input::{Lines, Skipped};
 use crate::list::{Columns, heading, line};
+use crate::logs::{Logs, add_all_events};
 use crate::page::{choose, page_trace, write_page};
 use crate::picture::write_picture;
 use crate::summary::{Counting, Filter, Summary, Traces};
@@ -41,9 +42,9 @@ fn write_list(rt: HostRuntime, records: &[Summary]) -> Result<()> {
     Ok(())
 }
 
-/// Tells of the lines that weren't read.
-fn tell(rt: HostRuntime, skipped: &Skipped) -> Result<()> {
-    let text = skipped.text(rt.alloc(), "spans")?;
+/// Tells of the lines that weren't read, since they have none of the things.
+fn tell(rt: HostRuntime, skipped: &Skipped, things: &str) -> Result<()> {
+    let text = skipped.text(rt.alloc(), things)?;
     rt.stderr().write_all(text.as_bytes())?;
     Ok(())
 }
@@ -72,7 +73,7 @@ fn list<R: Read + Drop>(rt: HostRuntime, options: &Options<'_>, reader: R) -> Re
     let mut lines = Lines::new(rt, reader)?;
     let records = newest(rt.alloc(), options, &mut lines)?;
     write_list(rt, records.as_slice())?;
-    tell(rt, lines.skipped())
+    tell(rt, lines.skipped(), "spans")
 }
 
 /// Reads the file a second time, and writes the page of the chosen traces.
@@ -96,21 +97,30 @@ fn list_page<R: Read + Drop>(
     }
     let mut lines = Lines::new(rt, reader)?;
     let records = newest(rt.alloc(), options, &mut lines)?;
-    tell(rt, lines.skipped())?;
+    tell(rt, lines.skipped(), "spans")?;
     let chosen = choose(rt, records.as_slice())?;
     write_chosen(rt, options.file, path, chosen)
 }
 
 /// Returns the details of the span at this place, or an empty text if there is none.
-fn details(alloc: Global, shown: &Details, found: &Found, place: usize) -> Result<String> {
+fn details(
+    alloc: Global,
+    shown: &Details,
+    found: &Found,
+    logs: &Logs,
+    place: usize,
+) -> Result<String> {
     match (found.spans.get(place), found.services.get(place)) {
-        (Some(span), Some(service)) => shown.text(alloc, service.as_str(), span),
+        (Some(span), Some(service)) => {
+            let lines = logs.of(span.span_context.span_id());
+            shown.text(alloc, service.as_str(), span, lines)
+        }
         _ => Ok(String::new(alloc)),
     }
 }
 
-/// Writes the details of the spans, ordered by start.
-fn write_details(rt: HostRuntime, found: &Found) -> Result<()> {
+/// Writes the details of the spans with their log records, ordered by start.
+fn write_details(rt: HostRuntime, found: &Found, logs: &Logs) -> Result<()> {
     let places = found.places(rt.alloc())?;
     let shown = Details {
         clock: Clock::new(rt),
@@ -119,7 +129,7 @@ fn write_details(rt: HostRuntime, found: &Found) -> Result<()> {
     };
     let mut output = BufWriter::new(rt.alloc(), rt.stdout())?;
     for (_, place) in places {
-        let text = details(rt.alloc(), &shown, found, place)?;
+        let text = details(rt.alloc(), &shown, found, logs, place)?;
         output.write_all(text.as_bytes())?;
     }
     output.flush()?;
@@ -135,41 +145,69 @@ fn check_ids(digits: &str, ids: &[TraceId]) -> Result<()> {
     }
 }
 
+/// Reads the log records of the trace from the file of this path.
+fn read_logs(rt: HostRuntime, path: &str, logs: &mut Logs) -> Result<()> {
+    let mut lines = Lines::new(rt, File::open(&rt, path)?)?;
+    lines.pass_all_records(logs)?;
+    tell(rt, lines.skipped(), "log records")?;
+    rt.stderr().write_all(logs.text(rt.alloc())?.as_bytes())?;
+    Ok(())
+}
+
+/// Returns the log records of the trace, none if no file was given.
+fn logs_of(rt: HostRuntime, path: Option<&str>, found: &Found) -> Result<Logs> {
+    let trace = found.ids.first().copied().unwrap_or(TraceId::INVALID);
+    let mut logs = Logs::new(rt.alloc(), trace, found.spans.as_slice())?;
+    if let Some(path) = path {
+        read_logs(rt, path, &mut logs)?;
+    }
+    Ok(logs)
+}
+
+/// Writes the page of the trace, with the log records among the events of their spans.
+fn write_found_page(rt: HostRuntime, path: &str, found: Found, logs: &Logs) -> Result<()> {
+    let mut found = found;
+    add_all_events(rt.alloc(), &mut found.spans, logs)?;
+    let trace = page_trace(rt, found)?;
+    write_page(rt, path, &[trace])
+}
+
 /// Writes the picture of the trace and the details of its spans or, if `html` is a path, its page.
-fn write_found(rt: HostRuntime, html: Option<&str>, found: Found) -> Result<()> {
+fn write_found(rt: HostRuntime, html: Option<&str>, found: Found, logs: &Logs) -> Result<()> {
     if let Some(path) = html {
-        let trace = page_trace(rt, found)?;
-        return write_page(rt, path, &[trace]);
+        return write_found_page(rt, path, found, logs);
     }
     write_picture(rt, width(rt), found.spans.as_slice())?;
-    write_details(rt, &found)
+    write_details(rt, &found, logs)
 }
 
 /// Draws the trace whose id begins with the digits.
 fn draw<R: Read + Drop>(
     rt: HostRuntime,
+    options: &Options<'_>,
     digits: &str,
-    html: Option<&str>,
     reader: R,
 ) -> Result<()> {
     let mut lines = Lines::new(rt, reader)?;
     let mut found = Found::new(rt.alloc(), digits)?;
     lines.pass_all(&mut found)?;
-    tell(rt, lines.skipped())?;
+    tell(rt, lines.skipped(), "spans")?;
     check_ids(digits, found.ids.as_slice())?;
-    write_found(rt, html, found)
+    let logs = logs_of(rt, options.logs, &found)?;
+    write_found(rt, options.html, found, &logs)
 }
 
 /// Shows the traces that the reader's lines contain: the newest, or the one that was asked for.
 ///
 /// # Errors
 ///
-/// The input isn't read, the output isn't written, no trace or several traces have the id, or out of
-/// memory.
+/// The input isn't read, the output isn't written, no trace or several traces have the id, log
+/// records were asked for without an id, or out of memory.
 pub fn view<R: Read + Drop>(rt: HostRuntime, options: &Options<'_>, reader: R) -> Result<()> {
-    match (options.id, options.html) {
-        (Some(digits), html) => draw(rt, digits, html, reader),
-        (None, Some(path)) => list_page(rt, options, path, reader),
-        (None, None) => list(rt, options, reader),
+    match (options.id, options.logs, options.html) {
+        (Some(digits), _, _) => draw(rt, options, digits, reader),
+        (None, Some(_), _) => bail!("--logs wants the id of a trace"),
+        (None, None, Some(path)) => list_page(rt, options, path, reader),
+        (None, None, None) => list(rt, options, reader),
     }
 }
