@@ -4,7 +4,7 @@ use crate::sdk::json::{closed, resource, told};
 use opentelemetry::logs::{AnyValue, LogRecord, Severity};
 use opentelemetry::trace::{SpanId, TraceFlags, TraceId};
 use opentelemetry::{InstrumentationScope, Key, StringValue};
-use otel_otlp::{OtlpJsonLogExporter, logs_data, logs_text};
+use otel_otlp::{OtlpJsonLogExporter, logs_data, logs_text, read_logs, read_resource_logs};
 use otel_sdk::logs::{LogData, SdkLogRecord};
 use otel_sdk::trace::Exporter;
 use std::alloc::{AllocError, Global};
@@ -26,6 +26,12 @@ pub fn play<R: Print>(alloc: Global, lines: &Lines<'_, R>) {
     }
     if lines.begin("json-logs-text") {
         lines.end(text(alloc, lines));
+    }
+    if lines.begin("json-read-resource-logs") {
+        lines.end(read_groups(alloc, lines));
+    }
+    if lines.begin("json-read-logs") {
+        lines.end(read(alloc, lines));
     }
 }
 
@@ -96,5 +102,19 @@ fn text<R: Print>(alloc: Global, lines: &Lines<'_, R>) -> Result<(), AllocError>
     let resource = resource(alloc)?;
     let batch = [full(alloc)?];
     lines.answer_of(logs_text(alloc, &resource, &batch));
+    Ok(())
+}
+
+fn read_groups<R: Print>(alloc: Global, lines: &Lines<'_, R>) -> Result<(), AllocError> {
+    let line = logs_text(alloc, &resource(alloc)?, &[full(alloc)?])?;
+    let read = read_resource_logs(alloc, line.as_str());
+    lines.answer_of(read.map(|groups| groups.len()));
+    Ok(())
+}
+
+fn read<R: Print>(alloc: Global, lines: &Lines<'_, R>) -> Result<(), AllocError> {
+    let line = logs_text(alloc, &resource(alloc)?, &[full(alloc)?])?;
+    let read = read_logs(alloc, line.as_str());
+    lines.answer_of(read.map(|records| records.len()));
     Ok(())
 }

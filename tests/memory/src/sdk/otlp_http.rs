@@ -3,7 +3,9 @@ use crate::lines::Lines;
 use crate::sdk::export::span;
 use crate::sdk::json::told;
 use http::{Request, Response};
+use opentelemetry::StringValue;
 use otel_otlp::{HttpClient, HttpError, OtlpHttpConfig, OtlpHttpExporter, OtlpHttpSpanExporter};
+use otel_sdk::env::{EnvEndpoint, EnvOtlp};
 use otel_sdk::trace::Exporter;
 use otel_sdk_base::{Accepted, ManualClock};
 use std::alloc::{AllocError, Global};
@@ -16,6 +18,16 @@ pub fn play<R: Print>(alloc: Global, lines: &Lines<'_, R>) {
     }
     if lines.begin("otlp-http-config-with-header") {
         lines.end(with_header(alloc, lines));
+    }
+    if lines.begin("otlp-http-config-with-header-list") {
+        lines.end(with_header_list(alloc, lines));
+    }
+    if lines.begin("otlp-http-config-from-texts") {
+        let made = OtlpHttpConfig::from_texts(alloc, "http://h:4318", "", HEADERS);
+        lines.answer_named("made", made);
+    }
+    if lines.begin("otlp-http-config-from-env") {
+        lines.answer_named("made", OtlpHttpConfig::from_env(alloc, &given()));
     }
     if lines.begin("otlp-http-exporter-new") {
         lines.end(new(alloc, lines));
@@ -42,6 +54,22 @@ fn with_header<R: Print>(alloc: Global, lines: &Lines<'_, R>) -> Result<(), Allo
         config.with_header(alloc, "x-api-key-of-a-tenant", "secret"),
     );
     Ok(())
+}
+
+const HEADERS: &str = "x-api-key-of-a-tenant=a%2Cb,x-tenant=c";
+
+fn with_header_list<R: Print>(alloc: Global, lines: &Lines<'_, R>) -> Result<(), AllocError> {
+    let config = config(alloc)?;
+    lines.answer_named("set", config.with_header_list(alloc, HEADERS));
+    Ok(())
+}
+
+/// What the environment gives for a signal.
+pub fn given() -> EnvOtlp {
+    EnvOtlp {
+        endpoint: EnvEndpoint::Exact(StringValue::from("http://h:4318/a")),
+        headers: StringValue::from(HEADERS),
+    }
 }
 
 /// A client without a collector.

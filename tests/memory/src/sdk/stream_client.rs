@@ -1,7 +1,8 @@
 //! A client over a reader and a writer, and one over files that aren't there.
 use crate::lines::Lines;
+use crate::sdk::otlp_http::given;
 use http::Request;
-use otel_otlp::{FileClient, HttpClient, StreamClient};
+use otel_otlp::{FileClient, HttpClient, StreamClient, pipe_exporter};
 use std::alloc::{AllocError, Global};
 use std::hash::RandomState;
 use std::io;
@@ -18,6 +19,10 @@ pub fn play<R: Print>(rt: HostRuntime, lines: &Lines<'_, R>) {
     }
     if lines.begin("file-client-send-bytes") {
         lines.end(send_to_files(rt, keys, lines));
+    }
+    if lines.begin("pipe-exporter") {
+        let made = pipe_exporter(rt.alloc(), rt, "/nowhere", &given());
+        lines.answer_named("made", made);
     }
 }
 

@@ -1,9 +1,10 @@
 //! The way of spans to an exporter.
 use crate::lines::Lines;
 use crate::sdk::tracing::{App, app, enter};
+use otel_sdk::env::EnvBatches;
 use otel_sdk::error::OTelSdkResult;
 use otel_sdk::resource::Resource;
-use otel_sdk::trace::{Exporter, SpanData};
+use otel_sdk::trace::{Exporter, ManualClock, SpanData, Unfinished, finish};
 use otel_sdk_base::Accepted;
 use std::alloc::AllocError;
 use std::rc::Rc;
@@ -64,6 +65,9 @@ pub fn play<R: Print>(rt: HostRuntime, lines: &Lines<'_, R>) {
     if lines.begin("tracing-shutdown") {
         lines.end(shutdown(rt, lines));
     }
+    if lines.begin("last-export") {
+        lines.end(last_export(rt, lines));
+    }
 }
 
 /// Shuts down. Returns whether no span is open then, and whether so many spans with so many parts
@@ -104,5 +108,28 @@ fn shutdown<R: Print>(rt: HostRuntime, lines: &Lines<'_, R>) -> Result<(), Alloc
     let spans = if is_first { 2 } else { exported };
     let is_closed = exported == 0 || !is_first;
     lines.due(is_due && is_closed && app.exporter().spans == spans);
+    Ok(())
+}
+
+/// An export has no time for another try.
+const NO_TIME: EnvBatches = EnvBatches {
+    max_queue_size: 2,
+    max_export_batch_size: 2,
+    schedule_delay_millis: 0,
+    export_timeout_millis: 0,
+};
+
+/// A last export of two open spans.
+fn last_export<R: Print>(rt: HostRuntime, lines: &Lines<'_, R>) -> Result<(), AllocError> {
+    let mut app = app(rt)?;
+    enter(&mut app)?;
+    enter(&mut app)?;
+    let answer = finish(&mut app, &ManualClock::new(1), &NO_TIME);
+    let exported = if answer.is_ok() { 2 } else { 0 };
+    match answer {
+        Err(Unfinished::Refused(error)) => lines.answer(&error),
+        answer => lines.answer_named("finished", answer),
+    }
+    lines.due(app.open_spans() == 0 && app.exporter().spans == exported);
     Ok(())
 }
