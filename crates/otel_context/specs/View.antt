@@ -1,10 +1,9 @@
 -- From code to models: the views of the fields of a context, and the codes with which a model's
 -- value contains contexts, slots, stacks and span tables. No public contract cites this file.
-use Rattle.std.specs.Prelude.{ℕ, List, Bool, Option, Some, None, T, map, refl}
+use Rattle.std.specs.Prelude.{ℕ, ◌+◌, ◌≤◌, List, [], ◌∷◌, Bool, Option, Some, None, T, map, refl}
 use Rattle.std.specs.declared.rc.Rc.{Rc}
 use Rattle.std.specs.declared.alloc.Global.{Global}
 use Rattle.std.specs.Coded.{Coded, code_by, coded×, coded_ℕ, coded_bool, coded_list, coded_option}
-use Rattle.std.specs.HashMap.{HashMap}
 use Rattle.std.specs.FinMap.{FinMap, code, from_entries, is_sorted}
 use Rattle.std.specs.Cmp.Lexicographic.{slice_cmp}
 use Rattle.std.specs.Ordering.{nat_cmp}
@@ -21,6 +20,7 @@ use Rattle.otel_context.specs.Spans.{SpansState}
 use Rattle.otel_context.specs.Stack.{Live, StackState}
 use Rattle.otel_context.specs.declared.context.entries.Entry.{Entry}
 use Rattle.otel_context.specs.declared.context.contents.ActiveSpan.{ActiveSpan}
+use Rattle.otel_context.specs.declared.span.spans.Slot.{Slot}
 
 -- each key with the tree of its value
 abbrev pub pairs : List (Rc Entry Global) → List (List ℕ × Tree)
@@ -88,9 +88,25 @@ stack_code = code_by (Live × (ℕ × ℕ))
     (λ p. record { live = p.0; accepted = p.1.0; stepped = p.1.1 })
     (λ _. refl)
 
--- the entries of a hash map of spans as a finite map
-abbrev pub map_of : {S H : Type 0} → HashMap ℕ S H → FinMap nat_cmp S
-map_of table = from_entries table.entries
+-- an entry of that number in front, if there is a span
+abbrev pub with_entry : {S : Type 0} → ℕ → Option S → List (ℕ × S) → List (ℕ × S)
+with_entry number None entries = entries
+with_entry number (Some span) entries = (number, span) ∷ entries
+
+-- the spans in slots, with their numbers
+abbrev pub entries_of : {S : Type 0} → List (Slot S) → List (ℕ × S)
+entries_of [] = []
+entries_of (slot ∷ slots) = with_entry slot.number slot.span (entries_of slots)
+
+-- the numbers of slots rise, from the first number to below the next one
+abbrev pub IsAscending : {S : Type 0} → ℕ → List (Slot S) → ℕ → Type 0
+IsAscending first [] next = first ≤ next
+IsAscending first (slot ∷ slots) next =
+    (first ≤ slot.number) × IsAscending (slot.number + 1) slots next
+
+-- the spans in slots as a finite map
+abbrev pub map_of : {S : Type 0} → List (Slot S) → FinMap nat_cmp S
+map_of slots = from_entries (entries_of slots)
 
 -- a code of span tables: the one of the pair of the two fields
 abbrev pub spans_code : {S : Type 0} → Coded S → Coded (SpansState S)

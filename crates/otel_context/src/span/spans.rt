@@ -1,11 +1,12 @@
 //! The table of spans, to which contexts refer by number.
 ghost use Rattle.std.specs.Prelude.{◌≡◌, ◌↔◌, IsTrue, IsErr, OnOk, OnErr, IfOk, IfErr, None, Some};
-ghost use Rattle.std.specs.Prelude.{option_copied, alloc_error};
+ghost use Rattle.std.specs.Prelude.{◌≤◌, length, take as front, option_copied, alloc_error};
 ghost use Rattle.std.specs.Option.{option_copied_mut};
 ghost use Rattle.std.specs.Borrow.{sem};
+ghost use Rattle.otel_context.specs.SpanSlots.{Finds, IsIndexOf, HasSameEntries};
+ghost use Rattle.otel_context.specs.SpanSlots.{LendsOwn, LendsSlot};
 
 use std::alloc::{AllocError, Global};
-use std::collections::HashMap;
 use std::error::Error;
 use std::fmt;
 use std::marker::Model;
@@ -93,6 +94,26 @@ impl<S> SpanRefused<S> {
     }
 }
 
+// A number that was given out, and its span, or `None` once it was taken.
+#[derive(Drop)]
+struct Slot<S> {
+    number: u64,
+    span: Option<S>,
+}
+
+impl<S> Slot<S> {
+    // Returns a mutable reference to the span.
+    fn span_mut(&mut self) -> Option<&mut S>
+        ensures* writes_back { sem 𝓛 (LendsOwn S.row self.entry result) }
+        ensures value { option_copied_mut result ≡ self.old.span }
+    {
+        match &mut self.span {
+            Some(span) => Some(span),
+            None => None,
+        }
+    }
+}
+
 /// The spans to which contexts refer by number. Not in the Rust crate, whose contexts share their
 /// spans behind a lock.
 ///
@@ -102,24 +123,26 @@ impl<S> SpanRefused<S> {
 /// See `otel_examples::api::service`.
 #[derive(Drop)]
 pub struct Spans<S> {
-    table: HashMap<u64, S>,
+    // The numbers rise, and are below `next`.
+    slots: Vec<Slot<S>>,
+    // The number of slots that have a span.
+    live: usize,
     next: u64,
 }
 
 impl<S> Model for Spans<S> {
-    ghost use Rattle.std.specs.Prelude.{◌<◌, ◌==◌, ℕ, IsSome};
-    ghost use Rattle.std.specs.HashMap as hash;
+    ghost use Rattle.std.specs.Prelude.{◌≡◌, length};
     ghost use Rattle.otel_context.specs.Spans.{SpansState};
-    ghost use Rattle.otel_context.specs.View.{map_of, spans_code};
+    ghost use Rattle.otel_context.specs.View.{map_of, entries_of, spans_code, IsAscending};
 
     ghost Value = { SpansState S };
 
     ghost coded = { spans_code S.code };
 
-    ghost view = { λ s. record { spans = map_of s.table; next_number = s.next } };
+    ghost view = { λ s. record { spans = map_of s.slots.items; next_number = s.next } };
 
-    ghost invariant = { λ s. (number : ℕ)
-        → IsSome (hash.get ◌==◌ s.table number) → number < s.next };
+    ghost invariant = { λ s. IsAscending 0 s.slots.items s.next
+        × (s.live ≡ length (entries_of s.slots.items)) };
 }
 
 impl<S: Drop> Spans<S> {
@@ -139,14 +162,17 @@ impl<S: Drop> Spans<S> {
         ensures { result ≡ starting_at first }
     {
         Spans {
-            table: HashMap::new(alloc),
+            slots: Vec::new(alloc),
+            live: 0,
             next: first,
         }
     }
 
-    /// Inserts a span under the next number. Returns that number. `insert`, `get`, `get_mut` and
-    /// `take` take about the same time for any size of the table, except for an insert that grows
-    /// it.
+    /// Inserts a span under the next number. Returns that number. The time doesn't depend on the
+    /// size of the table, except for an insert that grows it.
+    ///
+    /// `get`, `get_mut` and `take` need at most the time of a binary search, except for a take that
+    /// drops what many earlier ones emptied.
     ///
     /// # Errors
     ///
@@ -165,23 +191,24 @@ impl<S: Drop> Spans<S> {
         if number == u64::MAX {
             return Err(SpanRefused::numbers_used_up(span));
         }
-        match self.table.insert(number, span) {
-            Ok(_) => {
-                self.next = number + 1;
-                Ok(number)
-            }
-            Err(failed) => {
-                let (_, span) = failed.value;
-                Err(SpanRefused::no_memory(span))
-            }
+        if self.slots.reserve(1).is_err() {
+            return Err(SpanRefused::no_memory(span));
         }
+        self.slots.push_reserved(Slot {
+            number,
+            span: Some(span),
+        });
+        self.live += 1;
+        self.next = number + 1;
+        Ok(number)
     }
 
     /// Returns the span with the given number.
     pub fn get(&self, number: u64) -> Option<&S>
         ensures { option_copied result ≡ get self.now number }
     {
-        self.table.get(&number)
+        let index = index_of(&self.slots, number)?;
+        self.slots[index].span.as_ref()
     }
 
     /// Returns a mutable reference to the span with the given number. Every other span is
@@ -190,7 +217,7 @@ impl<S: Drop> Spans<S> {
         ensures* writes_back { sem 𝓛 (LendsSpan S.row self.entry number result) }
         ensures value { option_copied_mut result ≡ get self.old number }
     {
-        self.table.get_mut(&number)
+        span_mut(&mut self.slots, number)
     }
 
     /// Returns the span with the number of a context, if the context has a number.
@@ -222,18 +249,39 @@ impl<S: Drop> Spans<S> {
         ensures value { result ≡ get self.old number }
         ensures taken { self.new ≡ take self.old number }
     {
-        let span = self.table.remove(&number);
+        let index = index_of(&self.slots, number)?;
+        let span = self.slots[index].span.take()?;
+        self.live -= 1;
+        self.drop_last();
+        self.drop_taken();
         self.give_back();
-        span
+        Some(span)
     }
 
-    // Shrinks the table if it has room for many times its spans.
+    // Drops the slots at the end that have no span.
+    fn drop_last(&mut self)
+        ensures { self.new ≡ self.old }
+    {
+        let len = live_len(&self.slots);
+        self.slots.truncate(len);
+    }
+
+    // Drops all slots that have no span if they are many more than the others.
+    fn drop_taken(&mut self)
+        ensures { self.new ≡ self.old }
+    {
+        if self.slots.len() - self.live > self.live + 8 {
+            self.slots.retain(|slot| slot.span.is_some());
+        }
+    }
+
+    // Shrinks the table if it has room for many times its slots.
     fn give_back(&mut self)
         ensures { self.new ≡ self.old }
     {
-        let len = self.table.len();
-        if self.table.capacity() / 8 > len + 8 {
-            self.table.shrink_to(2 * len);
+        let len = self.slots.len();
+        if self.slots.capacity() / 8 > len + 8 {
+            self.slots.shrink_to(2 * len);
         }
     }
 
@@ -241,7 +289,7 @@ impl<S: Drop> Spans<S> {
     pub fn len(&self) -> usize
         ensures { result ≡ len self.now }
     {
-        self.table.len()
+        self.live
     }
 
     /// Returns `true` if the table has no spans.
@@ -260,4 +308,43 @@ impl<S: Drop> Spans<S> {
     {
         self.next
     }
+}
+
+// Returns the index of the slot with the number. The last slots mostly have consecutive numbers, so
+// one index is tried before a search.
+fn index_of<S>(slots: &[Slot<S>], number: u64) -> Option<usize>
+    ensures { IsIndexOf slots.now number result }
+{
+    let len = slots.len();
+    if len == 0 || slots[len - 1].number < number {
+        return None;
+    }
+    let below = (slots[len - 1].number - number) as usize;
+    if below < len && slots[len - 1 - below].number == number {
+        return Some(len - 1 - below);
+    }
+    slots.binary_search_by_key(&number, |slot| slot.number).ok()
+}
+
+// Returns a mutable reference to the span with the number.
+fn span_mut<S>(slots: &mut Vec<Slot<S>>, number: u64) -> Option<&mut S>
+    ensures* writes_back { sem 𝓛 (LendsSlot S.row slots.entry number result) }
+    ensures value { Finds slots.old.items number (option_copied_mut result) }
+{
+    match index_of(slots, number) {
+        Some(index) => slots[index].span_mut(),
+        None => None,
+    }
+}
+
+// Returns the length without the slots at the end that have no span.
+fn live_len<S>(slots: &[Slot<S>]) -> usize
+    ensures bound { result ≤ length slots.now }
+    ensures entries { HasSameEntries slots.now (front result slots.now) }
+{
+    let mut len = slots.len();
+    while len > 0 && slots[len - 1].span.is_none() {
+        len -= 1;
+    }
+    len
 }

@@ -88,6 +88,116 @@ fn of_a_thousand_spans_every_second_is_taken(rt: HostRuntime) -> Result<(), Fail
     Ok(())
 }
 
+/// The orders in which the spans of a table are taken.
+#[derive(Clone, Copy, Debug)]
+enum Order {
+    OldestFirst,
+    NewestFirst,
+    Mixed,
+}
+
+const ORDERS: &[Order] = &[Order::OldestFirst, Order::NewestFirst, Order::Mixed];
+
+/// The number that is taken as the one with this index, of a thousand. 387 has no common factor
+/// with 1000, so the mixed order has each number once.
+fn taken_as(order: Order, index: u64) -> u64 {
+    match order {
+        Order::OldestFirst => index,
+        Order::NewestFirst => 999 - index,
+        Order::Mixed => index * 387 % 1000,
+    }
+}
+
+#[test]
+fn a_thousand_spans_are_taken_in_any_order(rt: HostRuntime) -> Result<(), Fail> {
+    for order in ORDERS {
+        let mut spans = Spans::new(rt.alloc());
+        for id in 0..1000 {
+            assert_eq!(rt; inserted(&rt, &mut spans, span(rt.alloc(), id + 1)), id);
+        }
+        for index in 0..1000 {
+            let number = taken_as(*order, index);
+            let next = taken_as(*order, (index + 1) % 1000);
+            let last = taken_as(*order, 999);
+            assert_eq!(rt;
+                id_at(&spans, last),
+                SpanId::from(last + 1),
+                "{order:?} {index}"
+            );
+            let Some(taken) = spans.take(number) else {
+                panic!(&rt; "{order:?}: no span {number}")
+            };
+            assert_eq!(rt; taken.span_context().span_id(), SpanId::from(number + 1));
+            assert_eq!(rt; spans.len(), (999 - index) as usize, "{order:?} {index}");
+            assert_eq!(rt; id_at(&spans, number), SpanId::INVALID, "{order:?} {index}");
+            assert!(rt; spans.take(number).is_none());
+            let wanted = if index == 999 {
+                SpanId::INVALID
+            } else {
+                SpanId::from(next + 1)
+            };
+            assert_eq!(rt; id_at(&spans, next), wanted, "{order:?} {index}");
+        }
+        assert!(rt; spans.is_empty());
+        assert_eq!(rt; inserted(&rt, &mut spans, span(rt.alloc(), 5)), 1000);
+        assert_eq!(rt; id_at(&spans, 1000), SpanId::from(5));
+    }
+    Ok(())
+}
+
+#[test]
+fn a_long_span_stays_under_many_short_ones(rt: HostRuntime) -> Result<(), Fail> {
+    let mut spans = Spans::new(rt.alloc());
+    assert_eq!(rt; inserted(&rt, &mut spans, span(rt.alloc(), 7)), 0);
+    for number in 1..1000 {
+        assert_eq!(rt;
+            inserted(&rt, &mut spans, span(rt.alloc(), number + 1)),
+            number
+        );
+        assert_eq!(rt; spans.len(), 2);
+        assert_eq!(rt; id_at(&spans, 0), SpanId::from(7));
+        assert_eq!(rt; id_at(&spans, number), SpanId::from(number + 1));
+        assert_eq!(rt;
+            id_at(&spans, number - 1),
+            SpanId::from(if number == 1 { 7 } else { 0 })
+        );
+        assert!(rt; spans.take(number).is_some());
+        assert_eq!(rt; spans.len(), 1);
+    }
+    match spans.get_mut(0) {
+        Some(span) => span.end(9),
+        None => {}
+    }
+    assert_eq!(rt; spans.take(0).and_then(|span| span.ended()), Some(9));
+    assert!(rt; spans.is_empty());
+    Ok(())
+}
+
+/// A table with a few spans, each taken some inserts later, and one that stays.
+#[test]
+fn spans_overlap_and_one_stays(rt: HostRuntime) -> Result<(), Fail> {
+    let mut spans = Spans::new(rt.alloc());
+    for number in 0..1000 {
+        assert_eq!(rt;
+            inserted(&rt, &mut spans, span(rt.alloc(), number + 1)),
+            number
+        );
+        if number > 5 {
+            assert!(rt; spans.take(number - 5).is_some(), "{number}");
+        }
+        assert_eq!(rt;
+            spans.len(),
+            if number > 5 { 6 } else { number as usize + 1 }
+        );
+        assert_eq!(rt; id_at(&spans, 0), SpanId::from(1));
+        assert_eq!(rt; id_at(&spans, number), SpanId::from(number + 1));
+    }
+    for number in 995..1000 {
+        assert_eq!(rt; id_at(&spans, number), SpanId::from(number + 1));
+    }
+    Ok(())
+}
+
 /// The calls that insert a span into a table.
 #[derive(Clone, Copy, Debug)]
 enum Numbered {

@@ -1,0 +1,313 @@
+-- Lists of slots whose numbers ascend, and the finite map of their spans.
+use Rattle.std.proofs.Common.{◌≡◌, ℕ, zero, suc, ◌+◌, ◌-◌, ◌<◌, ◌≤◌, List, [], ◌∷◌, ◌++◌, length, get_or, take, Option, Some, None, Result, Ok, Err, Bool, cond, true, false, is_some, refl, sym, ap, subst, ◌∙◌, length-append, arith, inl, inr, get_or-set_same, lt-length-set}
+use Rattle.std.specs.Prelude.{slice_set}
+use Rattle.std.specs.List.{filter}
+use Rattle.std.specs.Ordering.{nat_cmp, eq_by_cmp, ordering_index}
+use Rattle.std.specs.Borrow.{MutBor}
+use Rattle.std.specs.Option.{OnSome}
+use Rattle.std.specs.Result.{result_ok}
+use Rattle.std.specs.List.Sorted.{IsSearchInRange, IsBinarySearchResult, IsNonDecreasingBy}
+use Rattle.std.proofs.lemmas.Cmp.{ranked}
+use Rattle.std.proofs.lemmas.Bool.Decides.{nat_tests}
+use Rattle.std.specs.Cmp.{nat_cmp_total, unsigned_tied}
+use Rattle.std.specs.FinMap as map
+use Rattle.std.proofs.lemmas.Bool.{ne_eqb, eq-eqb, cases_Bool, cases_lt, true≢false}
+use Rattle.otel_context.specs.Spans.{IsNumbered}
+use Rattle.otel_context.specs.SpanSlots.{IsIndexOf, Finds, KeepsSlots, Replaces}
+use Rattle.otel_context.specs.View.{with_entry, entries_of, map_of, IsAscending}
+use Rattle.otel_context.specs.declared.span.spans.Slot.{Slot}
+use Rattle.otel_context.proofs.shared.SpansLemmas.{same_by_cmp}
+
+-- the order of numbers tells different ones apart, and equal ones not
+pub told_apart : (q n : ℕ) → (q ≡ n → ⊥) → eq_by_cmp nat_cmp q n ≡ false
+told_apart q n ne = unsigned_tied q n ∙ ne_eqb q n ne
+
+pub not_told_apart : (n : ℕ) → eq_by_cmp nat_cmp n n ≡ true
+not_told_apart n = unsigned_tied n n ∙ eq-eqb n n refl
+
+higher : (a b q : ℕ) → a ≤ b → ordering_index (nat_cmp a q) ≤ ordering_index (nat_cmp b q)
+higher a b q le = grind (arith, nat_tests)
+
+module _ {S : Type 0} where
+  pub OnSome-map : (r : Option (MutBor S)) {P Q : Type 0} → (P → Q) → OnSome r P → OnSome r Q
+  OnSome-map (Some x) f p = f p
+  OnSome-map None f p = tt
+
+  -- 1 for a slot with a span, and else 0
+  abbrev pub one : Option S → ℕ
+  one o = cond (is_some o) 1 0
+
+  count-with_entry : (n : ℕ) (o : Option S) (es : List (ℕ × S)) → length (with_entry n o es) ≡ one o + length es
+  count-with_entry n None es = omega arith
+  count-with_entry n (Some x) es = omega arith
+
+  find-other : (q n : ℕ) (o : Option S) (es : List (ℕ × S)) → (q ≡ n → ⊥) → map.find nat_cmp q (with_entry n o es) ≡ map.find nat_cmp q es
+  find-other q n None es ne = refl
+  find-other q n (Some x) es ne = ap (λ b. cond b (Some x) (map.find nat_cmp q es)) (told_apart q n ne)
+
+  find-same : (n : ℕ) (o : Option S) (es : List (ℕ × S)) → map.find nat_cmp n es ≡ None → map.find nat_cmp n (with_entry n o es) ≡ o
+  find-same n None es absent = absent
+  find-same n (Some x) es absent = ap (λ b. cond b (Some x) (map.find nat_cmp n es)) (not_told_apart n)
+
+  find-behind : (q n : ℕ) (o : Option S) (es fs : List (ℕ × S)) → map.find nat_cmp q es ≡ map.find nat_cmp q fs
+      → map.find nat_cmp q (with_entry n o es) ≡ map.find nat_cmp q (with_entry n o fs)
+  find-behind q n None es fs e = e
+  find-behind q n (Some x) es fs e = ap (cond (eq_by_cmp nat_cmp q n) (Some x)) e
+
+  -- the first number is at most the next one, and may be lowered
+  pub first_at_most : (first next : ℕ) (ss : List (Slot S)) → IsAscending first ss next → first ≤ next
+  first_at_most first next [] a = a
+  first_at_most first next (s ∷ ss) a = omega (arith, a.0, first_at_most (s.number + 1) next ss a.1)
+
+  lowered : (low first next : ℕ) (ss : List (Slot S)) → low ≤ first → IsAscending first ss next → IsAscending low ss next
+  lowered low first next [] l a = omega (arith, l, a)
+  lowered low first next (s ∷ ss) l a = (omega (arith, l, a.0), a.1)
+
+  -- the number at an index is at least that far above the first one, and below the next one
+  pub at_least : (first next i : ℕ) (ss : List (Slot S)) (d : Slot S) → IsAscending first ss next → i < length ss → first + i ≤ (get_or ss i d).number
+  at_least first next i [] d a l = absurd (omega (arith, l))
+  at_least first next zero (s ∷ ss) d a l = omega (arith, a.0)
+  at_least first next (suc i) (s ∷ ss) d a l = omega (arith, a.0, at_least (s.number + 1) next i ss d a.1 (omega (arith, l)))
+
+  pub below_next : (first next i : ℕ) (ss : List (Slot S)) (d : Slot S) → IsAscending first ss next → i < length ss → (get_or ss i d).number < next
+  below_next first next i [] d a l = absurd (omega (arith, l))
+  below_next first next zero (s ∷ ss) d a l = omega (arith, first_at_most (s.number + 1) next ss a.1)
+  below_next first next (suc i) (s ∷ ss) d a l = below_next (s.number + 1) next i ss d a.1 (omega (arith, l))
+
+  -- numbers rise
+  pub rises : (first next i j : ℕ) (ss : List (Slot S)) (d e : Slot S) → IsAscending first ss next → i ≤ j → j < length ss → (get_or ss i d).number ≤ (get_or ss j e).number
+  rises first next i j [] d e a h l = absurd (omega (arith, l))
+  rises first next zero zero (s ∷ ss) d e a h l = omega arith
+  rises first next (suc i) zero (s ∷ ss) d e a h l = absurd (omega (arith, h))
+  rises first next zero (suc j) (s ∷ ss) d e a h l = omega (arith, at_least (s.number + 1) next j ss e a.1 (omega (arith, l)))
+  rises first next (suc i) (suc j) (s ∷ ss) d e a h l = rises (s.number + 1) next i j ss d e a.1 (omega (arith, h)) (omega (arith, l))
+
+  -- a number that no slot has finds nothing
+  pub absent : (q : ℕ) (ss : List (Slot S)) → ((k : ℕ) (d : Slot S) → k < length ss → (get_or ss k d).number ≡ q → ⊥) → map.find nat_cmp q (entries_of ss) ≡ None
+  absent q [] h = refl
+  absent q (s ∷ ss) h =
+      find-other q s.number s.span (entries_of ss) (λ e. h zero s (omega arith) (sym e))
+      ∙ absent q ss (λ k d l. h (suc k) d (omega (arith, l)))
+
+  absent_below : (q first next : ℕ) (ss : List (Slot S)) → IsAscending first ss next → q < first → map.find nat_cmp q (entries_of ss) ≡ None
+  absent_below q first next ss a h = absent q ss (λ k d l e. absurd (omega (arith, h, e, at_least first next k ss d a l)))
+
+  pub absent_above : (q first next : ℕ) (ss : List (Slot S)) → IsAscending first ss next → next ≤ q → map.find nat_cmp q (entries_of ss) ≡ None
+  absent_above q first next ss a h = absent q ss (λ k d l e. absurd (omega (arith, h, e, below_next first next k ss d a l)))
+
+  -- the number of a slot finds its span
+  pub found : (first next i : ℕ) (ss : List (Slot S)) (d : Slot S) → IsAscending first ss next → i < length ss
+      → map.find nat_cmp (get_or ss i d).number (entries_of ss) ≡ (get_or ss i d).span
+  found first next i [] d a l = absurd (omega (arith, l))
+  found first next zero (s ∷ ss) d a l = find-same s.number s.span (entries_of ss) (absent_below s.number (s.number + 1) next ss a.1 (omega arith))
+  found first next (suc i) (s ∷ ss) d a l =
+      find-other (get_or ss i d).number s.number s.span (entries_of ss) (λ e. absurd (omega (arith, e, at_least (s.number + 1) next i ss d a.1 (omega (arith, l)))))
+      ∙ found (s.number + 1) next i ss d a.1 (omega (arith, l))
+
+  -- writing another span into a slot
+  pub set-ascends : (first next i : ℕ) (ss : List (Slot S)) (d w : Slot S) → i < length ss → w.number ≡ (get_or ss i d).number → IsAscending first ss next → IsAscending first (slice_set ss i w) next
+  set-ascends first next i [] d w l e a = absurd (omega (arith, l))
+  set-ascends first next zero (s ∷ ss) d w l e a = rw e a
+  set-ascends first next (suc i) (s ∷ ss) d w l e a = (a.0, set-ascends (s.number + 1) next i ss d w (omega (arith, l)) e a.1)
+
+  pub set-count : (i : ℕ) (ss : List (Slot S)) (d w : Slot S) → i < length ss
+      → one (get_or ss i d).span + length (entries_of (slice_set ss i w)) ≡ one w.span + length (entries_of ss)
+  set-count i [] d w l = absurd (omega (arith, l))
+  set-count zero (s ∷ ss) d w l =
+      omega (arith, count-with_entry s.number s.span (entries_of ss), count-with_entry w.number w.span (entries_of ss))
+  set-count (suc i) (s ∷ ss) d w l =
+      omega (arith, count-with_entry s.number s.span (entries_of ss), count-with_entry s.number s.span (entries_of (slice_set ss i w)), set-count i ss d w (omega (arith, l)))
+
+  set-other : (q i : ℕ) (ss : List (Slot S)) (d w : Slot S) → i < length ss → w.number ≡ (get_or ss i d).number → (q ≡ w.number → ⊥)
+      → map.find nat_cmp q (entries_of (slice_set ss i w)) ≡ map.find nat_cmp q (entries_of ss)
+  set-other q i [] d w l e ne = absurd (omega (arith, l))
+  set-other q zero (s ∷ ss) d w l e ne =
+      find-other q w.number w.span (entries_of ss) ne ∙ sym (find-other q s.number s.span (entries_of ss) (λ f. ne (f ∙ sym e)))
+  set-other q (suc i) (s ∷ ss) d w l e ne =
+      find-behind q s.number s.span (entries_of (slice_set ss i w)) (entries_of ss) (set-other q i ss d w (omega (arith, l)) e ne)
+
+  -- a slot with a higher number behind the others
+  pub push-ascends : (first n : ℕ) (o : Option S) (ss : List (Slot S)) → IsAscending first ss n → IsAscending first (ss ++ record { number = n; span = o } ∷ []) (n + 1)
+  push-ascends first n o [] a = (a, omega arith)
+  push-ascends first n o (s ∷ ss) a = (a.0, push-ascends (s.number + 1) n o ss a.1)
+
+  with_entry-append : (n : ℕ) (o : Option S) (es fs : List (ℕ × S)) {gs : List (ℕ × S)} → gs ≡ es ++ fs → with_entry n o gs ≡ with_entry n o es ++ fs
+  with_entry-append n None es fs e = e
+  with_entry-append n (Some x) es fs e = ap (λ l. (n, x) ∷ l) e
+
+  pub push-entries : (n : ℕ) (x : S) (ss : List (Slot S)) → entries_of (ss ++ record { number = n; span = Some x } ∷ []) ≡ entries_of ss ++ (n, x) ∷ []
+  push-entries n x [] = refl
+  push-entries n x (s ∷ ss) = with_entry-append s.number s.span (entries_of ss) ((n, x) ∷ []) (push-entries n x ss)
+
+  -- the slots up to the last one with a span
+  pub front-entries : (n : ℕ) (ss : List (Slot S)) → ((k : ℕ) (d : Slot S) → n ≤ k → k < length ss → (get_or ss k d).span ≡ None) → entries_of (take n ss) ≡ entries_of ss
+  front-entries zero [] h = refl
+  front-entries (suc n) [] h = refl
+  front-entries zero (s ∷ ss) h =
+      front-entries zero ss (λ k d l m. h (suc k) d (omega arith) (omega (arith, m)))
+      ∙ sym (ap (λ o. with_entry s.number o (entries_of ss)) (h zero s (omega arith) (omega arith)))
+  front-entries (suc n) (s ∷ ss) h =
+      ap (with_entry s.number s.span) (front-entries n ss (λ k d l m. h (suc k) d (omega (arith, l)) (omega (arith, m))))
+
+  pub front-ascends : (n first next : ℕ) (ss : List (Slot S)) → IsAscending first ss next → IsAscending first (take n ss) next
+  front-ascends zero first next ss a = first_at_most first next ss a
+  front-ascends (suc n) first next [] a = a
+  front-ascends (suc n) first next (s ∷ ss) a = (a.0, front-ascends n (s.number + 1) next ss a.1)
+
+  -- the slots with a span
+  live-step : (s : Slot S) (o : Option S) → s.span ≡ o → (ss rest : List (Slot S)) → entries_of rest ≡ entries_of ss → entries_of (cond (is_some s.span) (s ∷ rest) rest) ≡ entries_of (s ∷ ss)
+  live-step s None e ss rest h =
+      ap (λ p. entries_of (cond (is_some p) (s ∷ rest) rest)) e ∙ h ∙ sym (ap (λ p. with_entry s.number p (entries_of ss)) e)
+  live-step s (Some x) e ss rest h = ap (λ p. entries_of (cond (is_some p) (s ∷ rest) rest)) e ∙ ap (with_entry s.number s.span) h
+
+  pub live-entries : (ss : List (Slot S)) → entries_of (filter (λ s. is_some s.span) ss) ≡ entries_of ss
+  live-entries [] = refl
+  live-entries (s ∷ ss) = live-step s s.span refl ss (filter (λ t. is_some t.span) ss) (live-entries ss)
+
+  pub live-ascends : (first next : ℕ) (ss : List (Slot S)) → IsAscending first ss next → IsAscending first (filter (λ s. is_some s.span) ss) next
+  live-ascends first next [] a = a
+  live-ascends first next (s ∷ ss) a =
+      let rest = live-ascends (s.number + 1) next ss a.1 in
+      elim (cases_Bool (is_some s.span)) [
+        | inl t ↦ rw t (a.0, rest)
+        | inr f ↦ rw f (lowered first (s.number + 1) next (filter (λ t. is_some t.span) ss) (omega (arith, a.0)) rest)
+      ]
+
+  count-cons : (n : ℕ) (o : Option S) (es : List (ℕ × S)) (k : ℕ) → length es ≤ k → length (with_entry n o es) ≤ suc k
+  count-cons n None es k h = omega (arith, h)
+  count-cons n (Some x) es k h = omega (arith, h)
+
+  pub count_at_most : (ss : List (Slot S)) → length (entries_of ss) ≤ length ss
+  count_at_most [] = omega arith
+  count_at_most (s ∷ ss) = count-cons s.number s.span (entries_of ss) (length ss) (count_at_most ss)
+
+  -- the map of slots
+  pub get-map : (ss : List (Slot S)) (q : ℕ) → map.get (map_of ss) q ≡ map.find nat_cmp q (entries_of ss)
+  get-map ss q = map.get-from_entries nat_cmp_total (entries_of ss) q
+
+  len-with : (n : ℕ) (o : Option S) (es : List (ℕ × S)) → map.find nat_cmp n es ≡ None → map.len (map.from_entries {R = nat_cmp} es) ≡ length es
+      → map.len (map.from_entries {R = nat_cmp} (with_entry n o es)) ≡ length (with_entry n o es)
+  len-with n None es absent e = e
+  len-with n (Some x) es absent e =
+      let m = map.from_entries {R = nat_cmp} es in
+      map.len-insert nat_cmp_total m n x
+      ∙ ap (λ o. cond (is_some o) (map.len m) (map.len m + 1)) (map.get-from_entries nat_cmp_total es n ∙ absent)
+      ∙ ap (λ k. k + 1) e ∙ omega arith
+
+  pub len-map : (first next : ℕ) (ss : List (Slot S)) → IsAscending first ss next → map.len (map_of ss) ≡ length (entries_of ss)
+  len-map first next [] a = map.len-empty nat_cmp S
+  len-map first next (s ∷ ss) a =
+      len-with s.number s.span (entries_of ss) (absent_below s.number (s.number + 1) next ss a.1 (omega arith)) (len-map (s.number + 1) next ss a.1)
+
+  same : (m n : map.FinMap nat_cmp S) → ((q : ℕ) → map.get m q ≡ map.get n q) → m ≡ n
+  same = map.same_map nat_cmp_total map.nat_cmp-IsAntisymmetric
+
+  pub finds : (next i : ℕ) (ss : List (Slot S)) (d : Slot S) → IsAscending 0 ss next → i < length ss
+      → map.get (map_of ss) (get_or ss i d).number ≡ (get_or ss i d).span
+  finds next i ss d a l = get-map ss (get_or ss i d).number ∙ found 0 next i ss d a l
+
+  set-find : (next q i : ℕ) (ss : List (Slot S)) (d w : Slot S) → IsAscending 0 ss next → i < length ss → w.number ≡ (get_or ss i d).number
+      → map.find nat_cmp q (entries_of (slice_set ss i w)) ≡ cond (eq_by_cmp nat_cmp q w.number) w.span (map.find nat_cmp q (entries_of ss))
+  set-find next q i ss d w a l e =
+      let after = slice_set ss i w in
+      let at-w : map.find nat_cmp w.number (entries_of after) ≡ w.span =
+      subst (λ (s : Slot S). map.find nat_cmp s.number (entries_of after) ≡ s.span) (get_or-set_same ss i w d l)
+      (found 0 next i after d (set-ascends 0 next i ss d w l e a) (lt-length-set ss i w l)) in
+      elim (cases_Bool (eq_by_cmp nat_cmp q w.number)) [
+        | inl t ↦ ap (λ n. map.find nat_cmp n (entries_of after)) (same_by_cmp q w.number t) ∙ at-w ∙ sym (ap (λ b. cond b w.span (map.find nat_cmp q (entries_of ss))) t)
+        | inr f ↦ set-other q i ss d w l e (λ g. true≢false (sym (ap (eq_by_cmp nat_cmp q) (sym g) ∙ not_told_apart q) ∙ f))
+            ∙ sym (ap (λ b. cond b w.span (map.find nat_cmp q (entries_of ss))) f)
+      ]
+
+  pub replaced : (next i : ℕ) (ss : List (Slot S)) (d w : Slot S) (x : S) → IsAscending 0 ss next → i < length ss → w.number ≡ (get_or ss i d).number → w.span ≡ Some x
+      → map_of (slice_set ss i w) ≡ map.insert (map_of ss) w.number x
+  replaced next i ss d w x a l e o = same _ _ (λ q.
+      get-map (slice_set ss i w) q ∙ set-find next q i ss d w a l e
+      ∙ ap (λ p. cond (eq_by_cmp nat_cmp q w.number) p (map.find nat_cmp q (entries_of ss))) o
+      ∙ sym (map.get-insert nat_cmp_total (map_of ss) w.number x q ∙ ap (cond (eq_by_cmp nat_cmp q w.number) (Some x)) (get-map ss q)))
+
+  pub taken : (next i : ℕ) (ss : List (Slot S)) (d w : Slot S) → IsAscending 0 ss next → i < length ss → w.number ≡ (get_or ss i d).number → w.span ≡ None
+      → map_of (slice_set ss i w) ≡ map.remove (map_of ss) w.number
+  taken next i ss d w a l e o = same _ _ (λ q.
+      get-map (slice_set ss i w) q ∙ set-find next q i ss d w a l e
+      ∙ ap (λ p. cond (eq_by_cmp nat_cmp q w.number) p (map.find nat_cmp q (entries_of ss))) o
+      ∙ sym (map.get-remove nat_cmp_total (map_of ss) w.number q ∙ ap (cond (eq_by_cmp nat_cmp q w.number) None) (get-map ss q)))
+
+  pub pushed : (n : ℕ) (x : S) (ss : List (Slot S)) → IsAscending 0 ss n → map_of (ss ++ record { number = n; span = Some x } ∷ []) ≡ map.insert (map_of ss) n x
+  pushed n x ss a =
+      ap (map.from_entries {R = nat_cmp}) (push-entries n x ss)
+      ∙ map.from_entries_push nat_cmp_total map.nat_cmp-IsAntisymmetric (entries_of ss) n x (absent_above n 0 n ss a (omega arith))
+
+  without : (b : Bool) (o : Option S) → (b ≡ true → o ≡ None) → cond b None o ≡ o
+  without true o h = sym (h refl)
+  without false o h = refl
+
+  -- removing a number that finds nothing
+  pub removed-absent : (m : map.FinMap nat_cmp S) (n : ℕ) → map.get m n ≡ None → map.remove m n ≡ m
+  removed-absent m n absent = same _ _ (λ q.
+      map.get-remove nat_cmp_total m n q ∙ without (eq_by_cmp nat_cmp q n) (map.get m q) (λ t. ap (map.get m) (same_by_cmp q n t) ∙ absent))
+
+  pub absent-map : (q : ℕ) (ss : List (Slot S)) → ((k : ℕ) (d : Slot S) → k < length ss → (get_or ss k d).number ≡ q → ⊥) → map.get (map_of ss) q ≡ None
+  absent-map q ss h = get-map ss q ∙ absent q ss h
+
+  -- the numbers before the last one, and it, are below a higher one
+  pub absent-last : (q next : ℕ) (ss : List (Slot S)) (e : Slot S) → IsAscending 0 ss next → 0 < length ss → (get_or ss (length ss - 1) e).number < q → map.get (map_of ss) q ≡ None
+  absent-last q next ss e a n h = absent-map q ss (λ k d l f. absurd (omega (arith, f, h, rises 0 next k (length ss - 1) ss d e a (omega (arith, l)) (omega (arith, n)))))
+
+  -- a binary search ends at the number, or no slot has it
+  pub searched : (q : ℕ) (ss : List (Slot S)) (r : Result ℕ ℕ) → IsSearchInRange r (length ss) → IsBinarySearchResult (λ s. nat_cmp s.number q) ss r → IsIndexOf ss q (result_ok r)
+  searched q ss (Ok i) in_range equal = (in_range, λ d. ranked _ q _ (sym (equal d)))
+  searched q ss (Err i) in_range parted = λ next a.
+      let rise : IsNonDecreasingBy (λ s. ordering_index (nat_cmp s.number q)) ss = λ i j d h l. higher _ _ q (rises 0 next i j ss d d a h l) in
+      absent-map q ss (λ k d l e. elim (cases_lt k i) [
+        | inl h ↦ absurd (omega (arith, e, ranked _ q _ (sym ((parted rise).0 k d (omega arith) h))))
+        | inr h ↦ absurd (omega (arith, e, ranked _ q _ (sym ((parted rise).1 k d h l))))
+      ])
+
+  -- the span of a slot, and the map with another one
+  pub has-span : (q i : ℕ) (ss : List (Slot S)) (s : Slot S) → IsIndexOf ss q (Some i) → s ≡ get_or ss i s → Finds ss q s.span
+  has-span q i ss s at e = λ next a.
+      ap (map.get (map_of ss)) (sym (at.1 s)) ∙ finds next i ss s a at.0 ∙ ap (λ t. t.span) (sym e)
+
+  pub keeps-set : (q i : ℕ) (ss : List (Slot S)) (s w : Slot S) → IsIndexOf ss q (Some i) → s ≡ get_or ss i s → w.number ≡ s.number → is_some w.span ≡ is_some s.span → KeepsSlots ss (slice_set ss i w)
+  keeps-set q i ss s w at e n o = (
+    λ next a. set-ascends 0 next i ss s w at.0 (n ∙ ap (λ t. t.number) e) a,
+    let same-one : one (get_or ss i s).span ≡ one w.span = ap (λ t. one t.span) (sym e) ∙ ap (λ b. cond b 1 0) (sym o) in
+        omega (arith, same-one, set-count i ss s w at.0),
+  )
+
+  pub replaces-set : (q i : ℕ) (ss : List (Slot S)) (s w : Slot S) (x : S) → IsIndexOf ss q (Some i) → s ≡ get_or ss i s → w.number ≡ s.number → w.span ≡ Some x → Replaces ss q x (slice_set ss i w)
+  replaces-set q i ss s w x at e n o = λ next a.
+      let here : w.number ≡ (get_or ss i s).number = n ∙ ap (λ t. t.number) e in
+      replaced next i ss s w x a at.0 here o ∙ ap (λ k. map.insert (map_of ss) k x) (here ∙ at.1 s)
+
+  pub takes-set : (q i : ℕ) (ss : List (Slot S)) (s w : Slot S) → IsIndexOf ss q (Some i) → s ≡ get_or ss i s → w.number ≡ s.number → w.span ≡ None → (next : ℕ) → IsAscending 0 ss next
+      → map_of (slice_set ss i w) ≡ map.remove (map_of ss) q
+  takes-set q i ss s w at e n o next a =
+      let here : w.number ≡ (get_or ss i s).number = n ∙ ap (λ t. t.number) e in
+      taken next i ss s w a at.0 here o ∙ ap (map.remove (map_of ss)) (here ∙ at.1 s)
+
+  pub takes-count : (q i : ℕ) (ss : List (Slot S)) (s w : Slot S) (x : S) → IsIndexOf ss q (Some i) → s ≡ get_or ss i s → Some x ≡ s.span → w.span ≡ None
+      → length (entries_of ss) ≡ length (entries_of (slice_set ss i w)) + 1
+  takes-count q i ss s w x at e f o =
+      let before : one (get_or ss i s).span ≡ 1 = ap (λ t. one t.span) (sym e) ∙ sym (ap one f) in
+      let after : one w.span ≡ 0 = ap one o in
+      omega (arith, before, after, set-count i ss s w at.0)
+
+  -- each span has a number below the next one
+  pub fresh : (next : ℕ) (ss : List (Slot S)) → IsAscending 0 ss next → map.get (map_of ss) next ≡ None
+  fresh next ss a = get-map ss next ∙ absent_above next 0 next ss a (omega arith)
+
+  pub numbered : (next : ℕ) (ss : List (Slot S)) → IsAscending 0 ss next → IsNumbered (record { spans = map_of ss; next_number = next })
+  numbered next ss a = λ q some. elim (cases_lt q next) [
+    | inl h ↦ h
+    | inr h ↦ absurd (true≢false (sym some ∙ ap is_some (get-map ss q ∙ absent_above q 0 next ss a h)))
+  ]
+
+  pub push-count : (n : ℕ) (x : S) (ss : List (Slot S)) → length (entries_of (ss ++ record { number = n; span = Some x } ∷ [])) ≡ length (entries_of ss) + 1
+  push-count n x ss = ap length (push-entries n x ss) ∙ length-append (entries_of ss) ((n, x) ∷ [])
+
+  pub count_below : (first next : ℕ) (ss : List (Slot S)) → IsAscending first ss next → length (entries_of ss) + first ≤ next
+  count_below first next [] a = omega (arith, a)
+  count_below first next (s ∷ ss) a =
+      omega (arith, a.0, count-cons s.number s.span (entries_of ss) (length (entries_of ss)) (omega arith), count_below (s.number + 1) next ss a.1)
