@@ -5,6 +5,7 @@ pub mod Lists
 pub mod Members
 pub mod Nesting
 pub mod OneAttribute
+pub mod GroupMembers
 pub mod OneBatch
 pub mod OneGroup
 pub mod OneRecord
@@ -33,4 +34,11 @@ pub mod ReadBack
 pub mod ReadBackValues
 pub mod ReadBackRecords
 pub mod ReadBackSpans
+pub mod ReadBackGroups
 pub mod ReadBackLines
+pub mod RecordNesting
+pub mod RisingEntries
+pub mod ReadBackTrees
+pub mod LogMembers
+pub mod ReadBackGiven
+pub mod ReadBackEntries

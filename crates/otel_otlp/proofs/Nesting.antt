@@ -1,5 +1,7 @@
 -- How deep the value of a batch nests.
-use Rattle.std.proofs.Common.{◌≡◌, ℕ, suc, ◌≤◌, List, [], ◌∷◌, ◌++◌, map, filter, Option, Some, None, Bool, true, false, Ordering, Less, Equal, Greater, if◌then◌else◌, codes, length, ◌==◌, refl, arith}
+use Rattle.std.proofs.Common.{◌≡◌, ℕ, suc, ◌+◌, ◌≤◌, get_or, List, [], ◌∷◌, ◌++◌, map, filter, Option, Some, None, Bool, true, false, Ordering, Less, Equal, Greater, if◌then◌else◌, codes, length, ◌==◌, refl, arith}
+use Rattle.std.proofs.lemmas.List.Elements.{All-head, All-tail, All-filter}
+use Rattle.std.specs.List.{All}
 use Rattle.std.specs.Ordering.{match_ordering}
 use Rattle.opentelemetry.specs.Event.{EventRecord, LinkRecord}
 use Rattle.otel_base.specs.Array.{booleans, integers, texts, ArrayValue}
@@ -16,10 +18,9 @@ use Rattle.otel_sdk_span.specs.SpanData.{SpanRecord}
 use Rattle.serde_json.specs.Data.{Data, string, number, unsigned, Members, no_members, member, put, depth, items_depth, members_depth}
 use Rattle.serde_json.specs.View.{items_of}
 use Rattle.otel_otlp.specs.Common.{any_value, array_values, boolean_value, integer_value, text_value, key_value, attributes_member, resource, unique, instrumentation_scope}
-use Rattle.otel_otlp.specs.Groups.{is_of}
+use Rattle.otel_otlp.specs.Groups.{BatchForm, is_of, first_scopes, scope_value, resource_value, batch_value}
 use Rattle.otel_otlp.specs.Json.{Member, put_all, object_of, text_member, number_member, decimal_member, list_member, text_unless_empty, number_unless_zero, text_if_given, trace_id_text, span_id_text}
-use Rattle.otel_otlp.specs.Lossless.{scopes}
-use Rattle.otel_otlp.specs.Traces.{event, link, flags, context_members, status_member, kind_number, parent_member, identity, work, events_member, links_member, records, losses, span, scope_of, scope_spans, resource_spans, traces_data}
+use Rattle.otel_otlp.specs.Traces.{event, link, flags, context_members, status_member, kind_number, parent_member, identity, work, events_member, links_member, records, losses, span, form, traces_data}
 
 -- ---- members
 members_depth-match_ordering : (o : Ordering) (a b c : Members) (n : ℕ) → members_depth a ≤ n → members_depth b ≤ n → members_depth c ≤ n → members_depth (match_ordering o a b c) ≤ n
@@ -33,11 +34,11 @@ members_depth-put k d (member l e ms) n p q =
     members_depth-match_ordering _ (member k d (member l e ms)) (member l d ms) (member l e (put k d ms)) n (omega arith) (omega arith) (omega (arith, members_depth-put k d ms n p (omega arith)))
 
 -- the values of the members nest at most n deep
-abbrev AreWithin : ℕ → List Member → Type 0
+abbrev pub AreWithin : ℕ → List Member → Type 0
 AreWithin n [] = 0 ≤ n
 AreWithin n (m ∷ more) = (depth m.1 ≤ n) × AreWithin n more
 
-within-append : (n : ℕ) (xs ys : List Member) → AreWithin n xs → AreWithin n ys → AreWithin n (xs ++ ys)
+pub within-append : (n : ℕ) (xs ys : List Member) → AreWithin n xs → AreWithin n ys → AreWithin n (xs ++ ys)
 within-append n [] ys h g = g
 within-append n (x ∷ xs) ys h g = (h.0, within-append n xs ys h.1 g)
 
@@ -45,33 +46,40 @@ put_all-depth : (n : ℕ) (ms : Members) (xs : List Member) → members_depth ms
 put_all-depth n ms [] h g = h
 put_all-depth n ms (x ∷ xs) h g = put_all-depth n (put x.0 x.1 ms) xs (members_depth-put x.0 x.1 ms n g.0 h) g.1
 
-of_members : (n : ℕ) (xs : List Member) → AreWithin n xs → depth (object_of xs) ≤ suc n
+pub of_members : (n : ℕ) (xs : List Member) → AreWithin n xs → depth (object_of xs) ≤ suc n
 of_members n xs h = let inner = put_all-depth n no_members xs (omega arith) h in omega (arith, inner)
 
-within-if : (n : ℕ) (b : Bool) (xs : List Member) → AreWithin n xs → AreWithin n (if b then [] else xs)
+pub within-if : (n : ℕ) (b : Bool) (xs : List Member) → AreWithin n xs → AreWithin n (if b then [] else xs)
 within-if n true xs h = omega arith
 within-if n false xs h = h
 
-plain : (n : ℕ) (k : List ℕ) (d : Data) → depth d ≡ 0 → AreWithin n ((k, d) ∷ [])
+pub plain : (n : ℕ) (k : List ℕ) (d : Data) → depth d ≡ 0 → AreWithin n ((k, d) ∷ [])
 plain n k d e = (omega (arith, e), omega arith)
 
-given : (n : ℕ) (k : List ℕ) (t : Option (List ℕ)) → AreWithin n (text_if_given k t)
+pub given : (n : ℕ) (k : List ℕ) (t : Option (List ℕ)) → AreWithin n (text_if_given k t)
 given n k None = omega arith
 given n k (Some t) = plain n k (string t) refl
 
 -- ---- lists of values that nest at most n deep
-of_items : {A : Type 0} (n : ℕ) (f : A → Data) (within : (x : A) → depth (f x) ≤ n) (xs : List A) → items_depth (items_of (map f xs)) ≤ n
-of_items n f within [] = omega arith
-of_items n f within (x ∷ xs) = let here = within x in let more = of_items n f within xs in omega (arith, here, more)
+of_items : {A : Type 0} (n : ℕ) (f : A → Data) (xs : List A) → All (λ x. depth (f x) ≤ n) xs → items_depth (items_of (map f xs)) ≤ n
+of_items n f [] h = omega arith
+of_items n f (x ∷ xs) h =
+    let here = All-head (λ y. depth (f y) ≤ n) x xs h in
+    let more = of_items n f xs (All-tail (λ y. depth (f y) ≤ n) x xs h) in
+    omega (arith, here, more)
 
-of_list : {A : Type 0} (n : ℕ) (k : List ℕ) (f : A → Data) (within : (x : A) → depth (f x) ≤ n) (xs : List A) → AreWithin (suc n) (list_member k (map f xs))
-of_list n k f within xs = let inner = of_items n f within xs in (omega (arith, inner), omega arith)
+pub of_list : {A : Type 0} (n : ℕ) (k : List ℕ) (f : A → Data) (xs : List A) → All (λ x. depth (f x) ≤ n) xs → AreWithin (suc n) (list_member k (map f xs))
+of_list n k f xs h = let inner = of_items n f xs h in (omega (arith, inner), omega arith)
+
+-- each item of a list, if it is so of all
+each : {A : Type 0} (P : A → Type 0) (all : (x : A) → P x) (xs : List A) → All P xs
+each P all xs k d below = all (get_or xs k d)
 
 -- ---- attributes
 array_depth : (xs : ArrayValue) → items_depth (items_of (array_values xs)) ≤ 1
-array_depth (booleans bs) = of_items 1 boolean_value (λ b. omega arith) bs
-array_depth (integers zs) = of_items 1 integer_value (λ z. omega arith) zs
-array_depth (texts ss) = of_items 1 text_value (λ s. omega arith) ss
+array_depth (booleans bs) = of_items 1 boolean_value bs (each (λ b. depth (boolean_value b) ≤ 1) (λ b. omega arith) bs)
+array_depth (integers zs) = of_items 1 integer_value zs (each (λ z. depth (integer_value z) ≤ 1) (λ z. omega arith) zs)
+array_depth (texts ss) = of_items 1 text_value ss (each (λ s. depth (text_value s) ≤ 1) (λ s. omega arith) ss)
 
 value_depth : (v : AttributeValue) → depth (any_value v) ≤ 4
 value_depth (value.boolean b) = omega arith
@@ -88,12 +96,12 @@ more n m [] le h = omega arith
 more n m (x ∷ xs) le h = (let inner = h.0 in omega (arith, inner, le), more n m xs le h.1)
 
 with_attributes : (xs : List Attribute) → AreWithin 6 (attributes_member xs)
-with_attributes xs = within-if 6 (length (map key_value xs) == 0) (list_member (codes "attributes") (map key_value xs)) (of_list 5 (codes "attributes") key_value attribute_depth xs)
+with_attributes xs = within-if 6 (length (map key_value xs) == 0) (list_member (codes "attributes") (map key_value xs)) (of_list 5 (codes "attributes") key_value xs (each _ attribute_depth xs))
 
-count : (n : ℕ) (k : List ℕ) (c : ℕ) → AreWithin n (number_unless_zero k c)
+pub count : (n : ℕ) (k : List ℕ) (c : ℕ) → AreWithin n (number_unless_zero k c)
 count n k c = within-if n (c == 0) (number_member k c) (plain n k (number (unsigned c)) refl)
 
-maybe_text : (n : ℕ) (k t : List ℕ) → AreWithin n (text_unless_empty k t)
+pub maybe_text : (n : ℕ) (k t : List ℕ) → AreWithin n (text_unless_empty k t)
 maybe_text n k t = within-if n (length t == 0) (text_member k t) (plain n k (string t) refl)
 
 -- ---- events and links
@@ -148,8 +156,8 @@ records_within : (s : SpanRecord) → AreWithin 8 (records s)
 records_within s =
     within-append 8 (attributes_member s.attributes ++ events_member s.events) (links_member s.links)
     (within-append 8 (attributes_member s.attributes) (events_member s.events) (more 6 8 (attributes_member s.attributes) (omega arith) (with_attributes s.attributes))
-    (within-if 8 (length (map event s.events) == 0) (list_member (codes "events") (map event s.events)) (of_list 7 (codes "events") event event_depth s.events)))
-    (within-if 8 (length (map link s.links) == 0) (list_member (codes "links") (map link s.links)) (of_list 7 (codes "links") link link_depth s.links))
+    (within-if 8 (length (map event s.events) == 0) (list_member (codes "events") (map event s.events)) (of_list 7 (codes "events") event s.events (each _ event_depth s.events))))
+    (within-if 8 (length (map link s.links) == 0) (list_member (codes "links") (map link s.links)) (of_list 7 (codes "links") link s.links (each _ link_depth s.links)))
 
 losses_within : (s : SpanRecord) → AreWithin 8 (losses s)
 losses_within s =
@@ -174,23 +182,38 @@ scope_depth s =
     (within-append 6 (text_member (codes "name") s.name) (text_if_given (codes "version") s.version) (omega arith, omega arith) (given 6 (codes "version") s.version))
     (with_attributes (unique s.attributes)))
 
-group_depth : (ss : List SpanRecord) (s : Scope) → depth (scope_spans ss s) ≤ 11
-group_depth ss s =
-    let spans = list_member (codes "spans") (map span (filter (is_of scope_of s) ss)) in
-    of_members 10 ((codes "scope", instrumentation_scope s) ∷ spans ++ text_if_given (codes "schemaUrl") s.schema_url) (
-      let scope = scope_depth s in omega (arith, scope),
-      within-append 10 spans (text_if_given (codes "schemaUrl") s.schema_url) (of_list 9 (codes "spans") span span_depth (filter (is_of scope_of s) ss)) (given 10 (codes "schemaUrl") s.schema_url),
-    )
+-- of any form, if the items nest at most n deep
+module _ {R : Type 0} (form : BatchForm R) (n : ℕ) (least : 6 ≤ n) where
+  abbrev AllWithin : List R → Type 0
+  AllWithin = All (λ x. depth (form.value_of x) ≤ n)
 
-resource_depth : (r : Parts) (ss : List SpanRecord) → depth (resource_spans r ss) ≤ 13
-resource_depth r ss =
-    let groups = list_member (codes "scopeSpans") (map (scope_spans ss) (scopes ss)) in
-    of_members 12 ((codes "resource", resource r) ∷ groups ++ text_if_given (codes "schemaUrl") r.schema_url) (
-      let inner = of_members 6 (attributes_member r.attributes) (with_attributes r.attributes) in omega (arith, inner),
-      within-append 12 groups (text_if_given (codes "schemaUrl") r.schema_url) (of_list 11 (codes "scopeSpans") (scope_spans ss) (group_depth ss) (scopes ss)) (given 12 (codes "schemaUrl") r.schema_url),
-    )
+  group_depth : (xs : List R) → AllWithin xs → (s : Scope) → depth (scope_value form xs s) ≤ n + 2
+  group_depth xs h s =
+      let fs = filter (is_of form.scope_of s) xs in
+      let items = list_member form.items (map form.value_of fs) in
+      let url = text_if_given (codes "schemaUrl") s.schema_url in
+      let scope = scope_depth s in
+      let all = All-filter (is_of form.scope_of s) (λ x. depth (form.value_of x) ≤ n) xs h in
+      let inner = of_members (suc n) ((codes "scope", instrumentation_scope s) ∷ items ++ url)
+      (omega (arith, scope, least), within-append (suc n) items url (of_list n form.items form.value_of fs all) (given (suc n) (codes "schemaUrl") s.schema_url)) in
+      omega (arith, inner)
+
+  resource_depth : (r : Parts) (xs : List R) → AllWithin xs → depth (resource_value form r xs) ≤ n + 4
+  resource_depth r xs h =
+      let scopes = first_scopes form.scope_of [] xs in
+      let groups = list_member form.scopes (map (scope_value form xs) scopes) in
+      let url = text_if_given (codes "schemaUrl") r.schema_url in
+      let of_r = of_members 6 (attributes_member r.attributes) (with_attributes r.attributes) in
+      let all = of_list (n + 2) form.scopes (scope_value form xs) scopes (each _ (group_depth xs h) scopes) in
+      let inner = of_members (suc (n + 2)) ((codes "resource", resource r) ∷ groups ++ url)
+      (omega (arith, of_r, least), within-append (suc (n + 2)) groups url all (given (suc (n + 2)) (codes "schemaUrl") r.schema_url)) in
+      omega (arith, inner)
+
+  pub of_batch : (r : Parts) (xs : List R) → AllWithin xs → depth (batch_value form r xs) ≤ n + 6
+  of_batch r xs h =
+      let inner = resource_depth r xs h in
+      let all = of_members (suc (n + 4)) (list_member form.resources (resource_value form r xs ∷ [])) (omega (arith, inner), omega arith) in
+      omega (arith, all)
 
 pub batch_depth : (r : Parts) (ss : List SpanRecord) → depth (traces_data r ss) ≤ 15
-batch_depth r ss =
-    let inner = resource_depth r ss in
-    of_members 14 (list_member (codes "resourceSpans") (resource_spans r ss ∷ [])) (omega (arith, inner), omega arith)
+batch_depth r ss = of_batch form 9 (omega arith) r ss (each _ span_depth ss)

@@ -9,10 +9,10 @@ inside : (b : Bool) (p : ℕ) (t u : Tree) → (p ≡ 0 → u ≡ t) → (if b t
 inside true p t u same e = absurd (omega (arith, e))
 inside false p t u same e = same e
 
-first : (p q : ℕ) → p + q ≡ 0 → p ≡ 0
+pub first : (p q : ℕ) → p + q ≡ 0 → p ≡ 0
 first p q e = omega (arith, e)
 
-others : (p q : ℕ) → p + q ≡ 0 → q ≡ 0
+pub others : (p q : ℕ) → p + q ≡ 0 → q ≡ 0
 others p q e = omega (arith, e)
 
 mutual

@@ -1,7 +1,8 @@
 -- How a collector is reached, and the head of each request [OpenTelemetry protocol, "OTLP/HTTP
 -- Request"].
 use Rattle.std.specs.Prelude.{◌≡◌, ◌≢◌, ◌⊎◌, ℕ, ◌-◌, ◌==◌, Bool, true, false, List, [], ◌∷◌, ◌++◌}
-use Rattle.std.specs.Prelude.{length, take, slice_index, codes, string_bytes, if◌then◌else◌, ⊤, refl}
+use Rattle.std.specs.Prelude.{length, take, slice_index, codes, string_bytes, if◌then◌else◌, ⊤}
+use Rattle.std.specs.Prelude.{refl}
 use Rattle.std.specs.Prelude.{All, eqb, is_some}
 use Rattle.std.specs.List.{ends_with}
 use Rattle.http_header.specs.HeaderMap.{Entries, insert}

@@ -1,6 +1,7 @@
 -- An exporter that sends batches to a collector by OTLP over HTTP, and the place of each record.
 use Rattle.std.specs.Prelude.{◌≡◌, ◌⊎◌, ℕ, ◌<◌, ◌≤◌, Bool, true, false, List, [], ◌∷◌, ◌++◌, length}
-use Rattle.std.specs.Prelude.{Option, Some, None, Result, Ok, Err, ⊤, IsTrue, alloc_error, option_map}
+use Rattle.std.specs.Prelude.{Option, Some, None, Result, Ok, Err, ⊤, IsTrue, alloc_error}
+use Rattle.std.specs.Prelude.{option_map}
 use Rattle.std.specs.Prelude.{string_bytes, ◌/◌}
 use Rattle.std.specs.List.{flat_map}
 use Rattle.http.specs.Request.{head_of, body_of}
@@ -59,10 +60,10 @@ pub record IsNew {C R : Type 0} (client : C) (config : Config) (path : List ℕ)
     is_shut_down = false;
   }
 
--- ---- the place of each record
--- Each record of the accepted batches is in exactly one place, in order: first the parts that have
--- left, each taken by the collector or given up, and then the parts that wait. The records that were
--- given up, and those that the collector rejected, are counted, each up to 2 ^ 64 - 1.
+-- ---- the place of each record Each record of the accepted batches is in exactly one place, in
+-- order: first the parts that have left, each taken by the collector or given up, and then the
+-- parts that wait. The records that were given up, and those that the collector rejected, are
+-- counted, each up to 2 ^ 64 - 1.
 pub record IsAccounted {C R : Type 0} (s : Sending C R) : Type 0 where
   pub in_order :
       items_of s.accepted

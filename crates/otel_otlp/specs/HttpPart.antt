@@ -1,5 +1,6 @@
 -- The parts of a batch, each of which is one request, and the parts that have left the exporter.
-use Rattle.std.specs.Prelude.{◌≡◌, ◌⊎◌, ℕ, ◌<◌, ◌≤◌, ◌/◌, List, [], ◌∷◌, ◌++◌, length, take, drop, sum_by}
+use Rattle.std.specs.Prelude.{◌≡◌, ◌⊎◌, ℕ, ◌<◌, ◌≤◌, ◌/◌, List, [], ◌∷◌, ◌++◌, length, take, drop}
+use Rattle.std.specs.Prelude.{sum_by}
 use Rattle.otel_sdk_base.specs.Resource.{Parts}
 use Rattle.otel_otlp.specs.Groups.{BatchForm, batch_value}
 use Rattle.otel_otlp.specs.Json.{IsTextOf}
@@ -11,8 +12,8 @@ pub record PartOf (R : Type 0) : Type 0 where
   pub body : List ℕ
   pub items : List R
 
--- the items of a part that has left, and whether the collector has taken it and rejected how many of
--- them, or it was given up
+-- the items of a part that has left, and whether the collector has taken it and rejected how many
+-- of them, or it was given up
 pub record LeftOf (R : Type 0) : Type 0 where
   pub items : List R
   pub end : End

@@ -1,5 +1,6 @@
 -- When a refused request may be sent again.
-use Rattle.std.specs.Prelude.{◌≡◌, ◌⊎◌, ◌≤◌, ℕ, ◌+◌, ◌-◌, ◌*◌, ◌/◌, ◌%◌, ◌==◌, List, [], ◌∷◌, ◌++◌, Option, Some, None}
+use Rattle.std.specs.Prelude.{◌≡◌, ◌⊎◌, ◌≤◌, ℕ, ◌+◌, ◌-◌, ◌*◌, ◌/◌, ◌%◌, ◌==◌, List, [], ◌∷◌, ◌++◌}
+use Rattle.std.specs.Prelude.{Option, Some, None}
 use Rattle.std.specs.Prelude.{string_bytes, codes, decimal, if◌then◌else◌, refl}
 use Rattle.otel_sdk_base.specs.Clock.{within_u64}
 use Rattle.otel_sdk_base.specs.declared.error.OTelSdkError.{OTelSdkError}

@@ -14,7 +14,8 @@ use Rattle.otel_otlp.specs.declared.otlp_http.response.Partial.{Partial}
 abbrev pub IsDecimal : List ℕ → Option ℕ → Type 0
 IsDecimal text count =
     SomeIff count
-    (IsNumeral 10 (without_leading_plus text) × (digits_value 10 (without_leading_plus text) < 2 ^ 64))
+    (IsNumeral 10 (without_leading_plus text)
+    × (digits_value 10 (without_leading_plus text) < 2 ^ 64))
     (digits_value 10 (without_leading_plus text))
 
 -- a number of 64 bits is a number or a decimal text

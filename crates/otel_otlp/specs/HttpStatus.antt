@@ -1,6 +1,7 @@
 -- The statuses of a collector's responses [OpenTelemetry protocol, "OTLP/HTTP Response"], and the
 -- seconds of a `Retry-After` [RFC 9110, section 10.2.3].
-use Rattle.std.specs.Prelude.{◌≡◌, ℕ, ◌<◌, ◌^◌, ◌==◌, ◌&&◌, ◌||◌, List, nat_le, nat_lt, if◌then◌else◌, refl}
+use Rattle.std.specs.Prelude.{◌≡◌, ℕ, ◌<◌, ◌^◌, ◌==◌, ◌&&◌, ◌||◌, List, nat_le, nat_lt}
+use Rattle.std.specs.Prelude.{if◌then◌else◌, refl}
 use Rattle.std.specs.Str.Parse.{without_leading_plus, IsNumeral, digits_value}
 use Rattle.otel_otlp.specs.declared.otlp_http.status.StatusClass.{StatusClass}
 use Rattle.otel_otlp.specs.declared.otlp_http.status.StatusClass.TheVariants.{Taken, Again, Never}
@@ -14,7 +15,8 @@ class_of status =
 -- the text is a number of seconds, of 64 bits
 abbrev pub IsSeconds : List ℕ → Type 0
 IsSeconds text =
-    IsNumeral 10 (without_leading_plus text) × (digits_value 10 (without_leading_plus text) < 2 ^ 64)
+    IsNumeral 10 (without_leading_plus text)
+    × (digits_value 10 (without_leading_plus text) < 2 ^ 64)
 
 -- ---- worked rows
 bad_request : class_of 400 ≡ Never

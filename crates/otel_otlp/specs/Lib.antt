@@ -32,3 +32,5 @@ pub mod ReadTrees
 pub mod ReadLogs
 pub mod ReadView
 pub mod ReadBack
+pub mod ReadBackLogs
+pub mod LogsReadBack

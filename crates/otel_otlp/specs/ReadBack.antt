@@ -9,12 +9,13 @@ use Rattle.opentelemetry.specs.Event.{EventRecord, LinkRecord}
 use Rattle.otel_sdk_base.specs.Resource.{Parts}
 use Rattle.otel_sdk_span.specs.SpanData.{SpanRecord}
 use Rattle.otel_otlp.specs.Common.{unique}
-use Rattle.otel_otlp.specs.Groups.{is_of}
+use Rattle.otel_otlp.specs.Groups.{BatchForm, is_of, first_scopes, batch_value}
 use Rattle.otel_otlp.specs.Json.{IsTextOf}
-use Rattle.otel_otlp.specs.Lossless.{told, scopes, AreInRange, IsInRange}
-use Rattle.otel_otlp.specs.ReadGroups.{ResourceItems, joined}
-use Rattle.otel_otlp.specs.ReadTraces.{AreGroupsReadFrom, AreReadFrom}
-use Rattle.otel_otlp.specs.Traces.{scope_of, traces_data}
+use Rattle.otel_otlp.specs.Lossless.{told, AreInRange, IsInRange}
+use Rattle.otel_otlp.specs.ReadGroups.{ResourceItems, joined, AreGroupsOf, AreItemsOf}
+use Rattle.otel_otlp.specs.ReadTraces.{IsSpan}
+use Rattle.otel_otlp.specs.Traces.{form}
+use Rattle.serde_json.specs.Data.{Data}
 
 -- ---- as programs have it
 -- the trace state is one, and the number of dropped attributes has 32 bits
@@ -35,9 +36,8 @@ pub record IsHeld (s : SpanRecord) : Type 0 where
   pub dropped_events : s.dropped_events < 2 ^ 32
   pub dropped_links : s.dropped_links < 2 ^ 32
 
--- ---- what is read of it
--- the context, without the blanks at the ends of the values of its trace state, which a header can't
--- say [W3C trace-context-2, "list"]
+-- ---- what is read of it the context, without the blanks at the ends of the values of its trace
+-- state, which a header can't say [W3C trace-context-2, "list"]
 abbrev pub read_context : Bool → SpanContextRecord → SpanContextRecord
 read_context remote c = record {
   trace_id = c.trace_id;
@@ -92,14 +92,6 @@ read_span scope s = record {
   scope = read_scope scope;
 }
 
--- the spans of the scope, in order
-abbrev pub read_group : List SpanRecord → Scope → List SpanRecord
-read_group ss scope = map (read_span scope) (filter (is_of scope_of scope) ss)
-
--- all spans, scope by scope, the scopes in the order in which they first appear
-abbrev pub read_spans : List SpanRecord → List SpanRecord
-read_spans ss = joined (map (read_group ss) (scopes ss))
-
 -- the resource, each key once
 abbrev pub read_resource : Parts → Parts
 read_resource r = record {
@@ -107,21 +99,43 @@ read_resource r = record {
   schema_url = r.schema_url;
 }
 
-abbrev pub read_batch : Parts → List SpanRecord → ResourceItems SpanRecord
-read_batch r ss = record { resource = read_resource r; items = read_spans ss }
+-- ---- batches of any form; `read` gives what is read of an item in a group of a scope
+module _ {R : Type 0} (form : BatchForm R) (read : Scope → R → R) where
+  -- the items of the scope, in order
+  abbrev pub read_group : List R → Scope → List R
+  read_group xs scope = map (read scope) (filter (is_of form.scope_of scope) xs)
+
+  -- all items, scope by scope, the scopes in the order in which they first appear
+  abbrev pub read_items : List R → List R
+  read_items xs = joined (map (read_group xs) (first_scopes form.scope_of [] xs))
+
+  abbrev pub read_batch : Parts → List R → ResourceItems R
+  read_batch r xs = record { resource = read_resource r; items = read_items xs }
+
+-- `Says` is what a value says of an item, `IsHeld` an item as programs have it, and `IsLine` a line
+-- of a value
+module _ {R : Type 0} (form : BatchForm R) (read : Scope → R → R) (Says : Data → R → Type 0)
+    (IsHeld : R → Type 0) (IsLine : List ℕ → Data → Type 0) where
+  -- from a line of a batch exactly that is read
+  abbrev pub GroupsReadBack : Type 0
+  GroupsReadBack =
+      (line : List ℕ) (r : Parts) (xs : List R)
+      → AreInRange r.attributes → All IsHeld xs → IsLine line (batch_value form r xs)
+      → (gs : List (ResourceItems R))
+      → AreGroupsOf form Says line gs ↔ (gs ≡ read_batch form read r xs ∷ [])
+
+  -- the same without the resources
+  abbrev pub ItemsReadBack : Type 0
+  ItemsReadBack =
+      (line : List ℕ) (r : Parts) (xs : List R)
+      → AreInRange r.attributes → All IsHeld xs → IsLine line (batch_value form r xs)
+      → (ys : List R) → AreItemsOf form Says line ys ↔ (ys ≡ read_items form read xs)
 
 -- ---- there and back
--- from the text of a batch exactly that is read
+-- from the text of a batch of spans exactly that is read
 abbrev pub BatchesReadBack : Type 0
-BatchesReadBack =
-    (line : List ℕ) (r : Parts) (ss : List SpanRecord)
-    → AreInRange r.attributes → All IsHeld ss → IsTextOf line (traces_data r ss)
-    → (gs : List (ResourceItems SpanRecord))
-    → AreGroupsReadFrom line gs ↔ (gs ≡ read_batch r ss ∷ [])
+BatchesReadBack = GroupsReadBack form read_span IsSpan IsHeld IsTextOf
 
 -- the same without the resources
 abbrev pub SpansReadBack : Type 0
-SpansReadBack =
-    (line : List ℕ) (r : Parts) (ss : List SpanRecord)
-    → AreInRange r.attributes → All IsHeld ss → IsTextOf line (traces_data r ss)
-    → (ts : List SpanRecord) → AreReadFrom line ts ↔ (ts ≡ read_spans ss)
+SpansReadBack = ItemsReadBack form read_span IsSpan IsHeld IsTextOf

@@ -40,7 +40,8 @@ pub(crate) trait Item: Grouped + Sized {
     ) -> Result<Self, ReadError>
         ensures ok { IfOk result (says (view value.now)) }
         ensures scope { IfOk result (λ item. Self.form.scope_of item ≡ rc_value scope.now) }
-        ensures err { IfErr result (λ e. IsRefusal e → (item : Self) → ¬ says (view value.now) item) };
+        ensures err { IfErr result (λ e. IsRefusal e → (item : Self)
+            → ¬ says (view value.now) item) };
 }
 
 /// Reads each of the items of the scope.

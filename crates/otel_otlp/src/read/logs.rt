@@ -61,15 +61,15 @@ impl Message for ResourceLogs {
 /// describe (OpenTelemetry protocol, "JSON Protobuf Encoding"). Resources and records are in the
 /// order of the line; a resource that the line names twice is there twice.
 ///
-/// Unknown members are ignored, and one that is null counts as absent. Ids are hexadecimal digits of
-/// either case, and an empty one counts as absent; without both ids, flags aren't read. Numbers of
-/// 64 bits are numbers or decimal texts, and severities are numbers or names. A last attribute
+/// Unknown members are ignored, and one that is null counts as absent. Ids are hexadecimal digits
+/// of either case, and an empty one counts as absent; without both ids, flags aren't read. Numbers
+/// of 64 bits are numbers or decimal texts, and severities are numbers or names. A last attribute
 /// `log.target` that is a text is read as the target.
 ///
 /// Bodies and attributes of records are trees: bytes are read from base64 of either alphabet, with
-/// or without padding, and of a map's keys with the same name, the last value is read. Trees have no
-/// floats, which are read as their text, and no empty value, which is read as the empty text. A list
-/// or map within 32 others is read as the text of its JSON. Resources and scopes are read as
+/// or without padding, and of a map's keys with the same name, the last value is read. Trees have
+/// no floats, which are read as their text, and no empty value, which is read as the empty text. A
+/// list or map within 32 others is read as the text of its JSON. Resources and scopes are read as
 /// [`crate::read_resource_spans`] reads them.
 ///
 /// A line may have at most 127 lists and objects within each other. The memory is in proportion to

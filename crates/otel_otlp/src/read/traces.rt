@@ -67,8 +67,8 @@ impl Message for ResourceSpans {
 /// as an internal one. Of a resource's attributes with the same key, the last value is read.
 ///
 /// Attributes have no floats, bytes and maps: such a value is read as its text, if it is a JSON
-/// text, and otherwise as its JSON. An array whose items aren't all booleans or all integers is read
-/// as an array of such texts, and an empty value as the empty text.
+/// text, and otherwise as its JSON. An array whose items aren't all booleans or all integers is
+/// read as an array of such texts, and an empty value as the empty text.
 ///
 /// A line may have at most 127 lists and objects within each other. The memory is in proportion to
 /// the line.
