@@ -2,7 +2,6 @@
 use Rattle.std.proofs.Common.{◌≡◌, ◌≢◌, ℕ, zero, suc, ◌≤◌, List, Option, Some, None, Result, Ok, Err, inl, inr, refl, sym, ◌∙◌, arith, subst, IfSome, IfOk, OnOk, IsOk}
 use Rattle.std.proofs.KnownBytes.{Appends-kept}
 use Rattle.std.specs.Io.KnownBytes.{Appends, Keeps}
-use Rattle.std.specs.Result.{result_unwrap_or}
 use Rattle.std.specs.FinMap as fin
 use Rattle.otel_context.specs.Context.{ContextRecord}
 use Rattle.opentelemetry.specs.Carrier.{Pairs, TextMap}
@@ -116,20 +115,10 @@ module _ (pairs : ContextRecord → Pairs) (extracted : ContextRecord → TextMa
         };
   }
 
-  -- the status 1 may mean a failed write, of which nothing is known
-  pub ends_or_1 : {E : Type 0} (known old new : Option (List ℕ)) (r : Result ℕ E) (status : ℕ)
-      → status ≡ result_unwrap_or r 1 → IfOk r (λ n. IfSome known (λ input. Ends pairs extracted input n old new))
-      → status ≢ 1 → IfSome known (λ input. Ends pairs extracted input status old new)
-  ends_or_1 known old new (Ok n) status said ends other =
-      subst (λ n. IfSome known (λ input. Ends pairs extracted input n old new)) (sym said) ends
-  ends_or_1 known old new (Err e) status said ends other = absurd (other said)
-
   -- if the output is cut off, the status is neither 0 nor 2
-  pub cut_off_is_1 : {E : Type 0} (known old new : Option (List ℕ)) (r : Result ℕ E) (status : ℕ)
-      → status ≡ result_unwrap_or r 1 → IfOk r (λ n. n ≤ 2)
-      → IfOk r (λ n. IfSome known (λ input. Ends pairs extracted input n old new))
+  pub cut_off_is_1 : (known old new : Option (List ℕ)) (status : ℕ) → status ≤ 2
+      → IfSome known (λ input. Ends pairs extracted input status old new)
       → IfSome known (λ input. IsCutOff pairs extracted input old new → status ≡ 1)
-  cut_off_is_1 None old new r status said most ends = tt
-  cut_off_is_1 (Some input) old new (Err e) status said most ends = λ cut. said
-  cut_off_is_1 (Some input) old new (Ok n) status said most ends = λ cut.
-      said ∙ is_1 n most (λ zero. cut.no_report (ends.report zero)) (λ two. cut.no_fault (ends.fault two))
+  cut_off_is_1 None old new status most ends = tt
+  cut_off_is_1 (Some input) old new status most ends = λ cut.
+      is_1 status most (λ zero. cut.no_report (ends.report zero)) (λ two. cut.no_fault (ends.fault two))

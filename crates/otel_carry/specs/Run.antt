@@ -37,8 +37,9 @@ abbrev pub IsRunReport : {A S I : Type 0} {D : I → Type 0} → TextMapComposit
     → HashMap (String A) (String A) S → HashMap (String A) (String A) S → RunReport → Type 0
 IsRunReport composite pairs input old new report =
     OnOk report.injected (IfSome input (λ bytes.
-    IsRunOf (pairs_of (λ m. pairs (m.vtable, m.value)) composite) bytes (text_map old.entries) (text_map new.entries)
-    report.outcomes.items (current report.stack.live)))
+    IsRunOf (pairs_of (λ m. pairs (m.vtable, m.value)) composite) bytes
+    (text_map old.entries) (text_map new.entries) report.outcomes.items
+    (current report.stack.live)))
 
 -- The text has the lines of the outcomes, of the current context, of the carrier's texts, and of
 -- the context extracted from them.

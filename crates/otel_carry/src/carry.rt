@@ -40,29 +40,10 @@ pub fn carry<R: Read + Drop, W: Write>(
     ensures failed_write { FailsIfCutOff composite.now (λ m. pairs m) (λ m. extracted m)
         (R.remaining input) (W.contents output.old) (W.contents output.new) result }
 {
-    write_and_flush(alloc, input, output, composite).unwrap_or(1)
-}
-
-/// Reads the whole input, runs its attaches and detaches, writes the report of the run or the line
-/// of a failure, and flushes the output. Returns the exit status of the program.
-///
-/// # Errors
-///
-/// The error of a write or a flush that fails, and `OutOfMemory` if out of memory during a write. A
-/// prefix of the report may have been written.
-fn write_and_flush<R: Read + Drop, W: Write>(
-    alloc: Global,
-    input: R,
-    output: &mut W,
-    composite: &TextMapCompositePropagator,
-) -> io::Result<u8>
-    ensures status { IfOk result (λ status. status ≤ 2) }
-    ensures ends { IfOk result (EndsBy composite.now (λ m. pairs m) (λ m. extracted m)
-        (R.remaining input) (W.contents output.old) (W.contents output.new)) }
-{
-    let status = write_result(alloc, input, output, composite)?;
-    output.flush()?;
-    Ok(status)
+    match write_result(alloc, input, output, composite) {
+        Ok(status) if output.flush().is_ok() => status,
+        _ => 1,
+    }
 }
 
 /// Reads the whole input, runs its attaches and detaches, and writes the report of the run or the
