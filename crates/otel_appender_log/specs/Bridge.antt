@@ -4,7 +4,8 @@ use Rattle.std.specs.Prelude.{Result, IfOk}
 use Rattle.log.specs.declared.record.Metadata.{Metadata}
 use Rattle.log.specs.declared.record.Record.{Record}
 use Rattle.log.specs.Kv.{Pair}
-use Rattle.log.specs.Record.{metadata_level, metadata_target, record_metadata, record_args, record_key_values}
+use Rattle.log.specs.Record.{metadata_level, metadata_target, record_metadata, record_args}
+use Rattle.log.specs.Record.{record_key_values}
 use Rattle.otel_ids.specs.SpanContext.{SpanContextRecord, IsValidSpanContext}
 use Rattle.otel_base.specs.AnyValue.{Tree, text}
 use Rattle.otel_base.specs.Severity.{name}
@@ -75,7 +76,8 @@ with_content set blank severity body target attributes =
     set.attributes (set.target (set.body named (text body)) target) attributes
 
 -- `filled` is `blank` with the content of the source
-pub record IsFilled {R : Type 0} (set : Setters R) (source : Source) (blank filled : R) : Type 0 where
+pub record IsFilled {R : Type 0} (set : Setters R) (source : Source) (blank filled : R)
+    : Type 0 where
   pub body : List ℕ
   pub attributes : List Attribute
   pub is_message : IfSome source.message (λ message. body ≡ message)

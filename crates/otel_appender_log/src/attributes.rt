@@ -70,7 +70,8 @@ fn push_pair<D: Display>(
     value: &Value<'_, D>,
 ) -> Result<(), AllocError>
     ensures { OnOk result
-        (AddsValue D.output key.now value.now (pairs_view pairs.old.items) (pairs_view pairs.new.items)) }
+        (AddsValue D.output key.now value.now (pairs_view pairs.old.items)
+        (pairs_view pairs.new.items)) }
 {
     let alloc = *pairs.allocator();
     if let Some(value) = attribute_value(alloc, value)? {

@@ -149,8 +149,8 @@ where
                 .event_enabled(severity, metadata.target(), None)
     }
 
-    /// Emits the log record of [`bridged_record`], with the active span of the context. Counts it as
-    /// dropped if out of memory. Does nothing if telemetry is suppressed in the context.
+    /// Emits the log record of [`bridged_record`], with the active span of the context. Counts it
+    /// as dropped if out of memory. Does nothing if telemetry is suppressed in the context.
     fn log<D: Display, K: Source, S: Spans>(&self, record: &Record<'_, D, K, S>)
         ensures { IsLoggedBy L.Logger L.EmittingLogger.emits L.EmittingLogger.counts
             L.LogRecord.LogRecord L.LogRecord.StampedRecord.stamps D.output K.pairs

@@ -32,10 +32,12 @@ PutsAll held (m ∷ ms) new =
 -- why the member of the texts wasn't put into the baggage
 abbrev pub GiveRefused : MemberTexts → List Member → Status → Type 0
 GiveRefused given held s =
-    AreNoTexts given.key.now given.value.now given.metadata.now s ⊎ PutRefused (given_of given) held s
+    AreNoTexts given.key.now given.value.now given.metadata.now s
+    ⊎ PutRefused (given_of given) held s
 
 -- the members before the position were put in turn, and the one there wasn't, for that reason
-pub record FaultAt (held : List Member) (given : List MemberTexts) (at : ℕ) (s : Status) : Type 0 where
+pub record FaultAt (held : List Member) (given : List MemberTexts) (at : ℕ) (s : Status)
+    : Type 0 where
   pub before : List Member
   pub puts : PutsAll held (map given_of (take at given)) before
   pub member : MemberTexts

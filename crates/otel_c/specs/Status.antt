@@ -1,5 +1,6 @@
 -- The outcome of a call in C, and the meaning of each error.
-use Rattle.std.specs.Prelude.{◌≡◌, ◌⊎◌, ◌<◌, ℕ, false, List, length, Option, Some, None, Result, Ok, Err}
+use Rattle.std.specs.Prelude.{◌≡◌, ◌⊎◌, ◌<◌, ℕ, false, List, length, Option, Some, None, Result, Ok}
+use Rattle.std.specs.Prelude.{Err}
 use Rattle.std.specs.Prelude.{IsUtf8}
 use Rattle.http_header.specs.FieldValue.{is_visible_text}
 use Rattle.otel_ids.specs.TraceStateError.{Fault, KeyFault, ValueFault, ListFault}

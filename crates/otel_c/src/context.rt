@@ -143,7 +143,8 @@ fn extract_in(alloc: Global, headers: &Object, object: &mut Object) -> Result<()
 }
 
 fn inject_in(alloc: Global, object: &Object, headers: &mut Object) -> Result<(), Status>
-    ensures headers { OnOk result (Injects (Some object.now) (Some headers.old) (Some headers.new)) }
+    ensures headers { OnOk result (Injects (Some object.now) (Some headers.old)
+        (Some headers.new)) }
     ensures refused { IfErr result (InjectRefused (Some object.now) (Some headers.old)) }
 {
     let context = object.context()?;

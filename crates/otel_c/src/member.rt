@@ -99,8 +99,9 @@ pub(crate) fn insert(
 ///
 /// # Errors
 ///
-/// `Unsendable` if no header can carry the metadata. `Key` if no baggage can have the key. `Refused`
-/// if the baggage would have more than 64 members or 8192 bytes. `NoMemory` if out of memory.
+/// `Unsendable` if no header can carry the metadata. `Key` if no baggage can have the key.
+/// `Refused` if the baggage would have more than 64 members or 8192 bytes. `NoMemory` if out of
+/// memory.
 fn with_member(
     alloc: Global,
     context: &Context,

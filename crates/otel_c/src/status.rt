@@ -6,7 +6,8 @@ use opentelemetry::propagation::PropagationError;
 use otel_ids::TraceStateError;
 use std::alloc::{AllocError, AllocFailed};
 
-/// The reason why a call did nothing: `enum otel_status` in `include/otel.h`, without `OTEL_STATUS_OK`.
+/// The reason why a call did nothing: `enum otel_status` in `include/otel.h`, without
+/// `OTEL_STATUS_OK`.
 #[derive(Clone, Copy, Debug, PartialEq, Eq)]
 pub enum Status {
     /// Out of memory.

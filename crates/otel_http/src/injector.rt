@@ -174,8 +174,8 @@ impl Injector for HeaderInjector {
     ///
     /// # Errors
     ///
-    /// - `Refused` if the key isn't a field name, if the value isn't readable, or if the headers are
-    ///   full. The injector counts it.
+    /// - `Refused` if the key isn't a field name, if the value isn't readable, or if the headers
+    ///   are full. The injector counts it.
     /// - `Memory` if out of memory.
     ///
     /// In both cases, the headers are unchanged.

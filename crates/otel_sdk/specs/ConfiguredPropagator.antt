@@ -17,7 +17,8 @@ use Rattle.otel_sdk.specs.declared.env.configured.member.Kind.{Kind}
 use Rattle.otel_sdk.specs.declared.env.configured.member.Kind.TheVariants.{W3cTrace, W3cBaggage}
 use Rattle.otel_sdk.specs.declared.env.configured.member.Kind.TheVariants.{Zipkin}
 use Rattle.otel_sdk.specs.declared.env.propagators.EnvPropagator.{EnvPropagator}
-use Rattle.otel_sdk.specs.declared.env.propagators.EnvPropagator.TheVariants.{TraceContext, Baggage, B3, B3Multi}
+use Rattle.otel_sdk.specs.declared.env.propagators.EnvPropagator.TheVariants.{TraceContext, Baggage}
+use Rattle.otel_sdk.specs.declared.env.propagators.EnvPropagator.TheVariants.{B3, B3Multi}
 
 -- the name that lists a propagator
 abbrev pub name_of : Kind → EnvPropagator

@@ -161,7 +161,8 @@ provider_with_env c b =
 
 -- the builder with the configuration's sampler, resource, limits of spans and sizes of batches,
 -- disabled if the configuration is
-abbrev pub with_env : {S G E : Type 0} → EnvConfig → BuilderParts S G E → BuilderParts EnvSampler G E
+abbrev pub with_env : {S G E : Type 0} → EnvConfig → BuilderParts S G E
+    → BuilderParts EnvSampler G E
 with_env c b = record {
   provider = provider_with_env c b.provider;
   exporter = b.exporter;

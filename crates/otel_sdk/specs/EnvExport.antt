@@ -6,7 +6,8 @@ use Rattle.std.specs.Option.{unwrap_or}
 use Rattle.std.specs.Str.{bytes_eq}
 use Rattle.otel_sdk_base.specs.ResourceTexts.{fault}
 use Rattle.otel_sdk.specs.EnvHeaders.{headers_in}
-use Rattle.otel_sdk.specs.EnvTexts.{Variables, is_unset, text_of, warned, warning, number_or, number_warnings}
+use Rattle.otel_sdk.specs.EnvTexts.{Variables, is_unset, text_of, warned, warning, number_or}
+use Rattle.otel_sdk.specs.EnvTexts.{number_warnings}
 use Rattle.otel_sdk_base.specs.declared.otlp.EnvEndpoint.{EnvEndpoint}
 use Rattle.otel_sdk_base.specs.declared.otlp.EnvEndpoint.TheVariants.{Base, Exact}
 use Rattle.otel_sdk.specs.declared.env.export.EnvExporter.{EnvExporter}

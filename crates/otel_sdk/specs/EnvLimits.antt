@@ -1,10 +1,12 @@
 -- The limits that the environment sets.
-use Rattle.std.specs.Prelude.{◌≡◌, ℕ, Bool, false, List, [], ◌∷◌, ◌++◌, Option, Some, None, codes, refl}
+use Rattle.std.specs.Prelude.{◌≡◌, ℕ, Bool, false, List, [], ◌∷◌, ◌++◌, Option, Some, None, codes}
+use Rattle.std.specs.Prelude.{refl}
 use Rattle.std.specs.Prelude.{min, nat_le}
 use Rattle.otel_sdk_base.specs.Queue.{Limits}
 use Rattle.otel_sdk_span.specs.SpanLimits.{default_limits}
 use Rattle.otel_sdk_span.specs.declared.limits.SpanLimits.{SpanLimits}
-use Rattle.otel_sdk.specs.EnvTexts.{Variables, number, number_or, number_warnings, limit_or, limit_warnings}
+use Rattle.otel_sdk.specs.EnvTexts.{Variables, number, number_or, number_warnings, limit_or}
+use Rattle.otel_sdk.specs.EnvTexts.{limit_warnings}
 use Rattle.otel_sdk.specs.EnvTexts.{text_of, warned, warning}
 use Rattle.otel_sdk.specs.declared.env.limits.EnvBatches.{EnvBatches}
 use Rattle.otel_sdk_logs.specs.declared.limits.LogRecordLimits.{LogRecordLimits}

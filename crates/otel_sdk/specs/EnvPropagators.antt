@@ -7,7 +7,8 @@ use Rattle.otel_base.specs.Blanks.{cut_blanks}
 use Rattle.otel_ids.specs.Text.{is_comma}
 use Rattle.otel_sdk.specs.EnvTexts.{Variables, is_unset, text_of, warned, warning}
 use Rattle.otel_sdk.specs.declared.env.propagators.EnvPropagator.{EnvPropagator}
-use Rattle.otel_sdk.specs.declared.env.propagators.EnvPropagator.TheVariants.{TraceContext, Baggage, B3, B3Multi}
+use Rattle.otel_sdk.specs.declared.env.propagators.EnvPropagator.TheVariants.{TraceContext, Baggage}
+use Rattle.otel_sdk.specs.declared.env.propagators.EnvPropagator.TheVariants.{B3, B3Multi}
 use Rattle.otel_sdk.specs.declared.env.warning.EnvWarning.{EnvWarning}
 use Rattle.otel_sdk.specs.declared.env.warning.Instead.TheVariants.{Nothing}
 

@@ -15,7 +15,8 @@ use Rattle.otel_sdk.specs.declared.env.sampler.EnvSampler.TheVariants.{Plain, Pa
 use Rattle.otel_sdk.specs.declared.env.warning.EnvWarning.{EnvWarning}
 use Rattle.otel_sdk.specs.declared.env.warning.Instead.TheVariants.{Number, ParentBasedAlwaysOn}
 use Rattle.otel_sdk.specs.declared.trace.sampler.Sampler.{Sampler}
-use Rattle.otel_sdk.specs.declared.trace.sampler.Sampler.TheVariants.{AlwaysOn, AlwaysOff, TraceIdRatioBased}
+use Rattle.otel_sdk.specs.declared.trace.sampler.Sampler.TheVariants.{AlwaysOn, AlwaysOff}
+use Rattle.otel_sdk.specs.declared.trace.sampler.Sampler.TheVariants.{TraceIdRatioBased}
 
 -- ---- what it answers
 
@@ -100,7 +101,8 @@ abbrev name_warning : List ℕ → List EnvWarning
 name_warning text = warning (codes "OTEL_TRACES_SAMPLER") text ParentBasedAlwaysOn ∷ []
 
 case_example : (sampler_in (codes "ParentBased_Always_On") [] ≡ ParentBased AlwaysOn)
-    × (warnings_in (codes "ParentBased_Always_On") [] ≡ name_warning (codes "ParentBased_Always_On"))
+    × (warnings_in (codes "ParentBased_Always_On") []
+    ≡ name_warning (codes "ParentBased_Always_On"))
 case_example = (refl, refl)
 
 unknown_example : (sampler_in (codes "sometimes") [] ≡ ParentBased AlwaysOn)

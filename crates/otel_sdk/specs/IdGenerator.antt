@@ -22,8 +22,8 @@ FirstValid {S} {I} draw number (suc n) source result left =
     ((number id ≢ 0) × (result ≡ Ok id) × (left ≡ next))
     ⊎ ((number id ≡ 0) × FirstValid draw number n next result left))
 
--- The drawn id is the number that this many bytes from the source spell, the most significant first.
--- A failed draw is a source that failed.
+-- The drawn id is the number that this many bytes from the source spell, the most significant
+-- first. A failed draw is a source that failed.
 abbrev pub IsDraw : (Option (List ℕ) → Type 0) → Width → Option ℕ → Type 0
 IsDraw may_fill width None = may_fill None
 IsDraw may_fill width (Some id) = (bytes : List ℕ) × may_fill (Some bytes)

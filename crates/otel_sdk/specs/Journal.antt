@@ -1,6 +1,7 @@
 -- The spans of a `Tracing`: the ones that are open, the ones on their way to the exporter, and the
 -- history of both. Not in the Rust crate.
-use Rattle.std.specs.Prelude.{◌≡◌, ◌<◌, ℕ, Bool, true, List, [], ◌∷◌, ◌++◌, map, min, ◌-◌, ◌^◌, length}
+use Rattle.std.specs.Prelude.{◌≡◌, ◌<◌, ℕ, Bool, true, List, [], ◌∷◌, ◌++◌, map, min, ◌-◌, ◌^◌}
+use Rattle.std.specs.Prelude.{length}
 use Rattle.std.specs.Prelude.{Option, Some, None, option_map}
 use Rattle.std.specs.List.{filter_map}
 use Rattle.std.specs.Prelude.{IsPermutation}

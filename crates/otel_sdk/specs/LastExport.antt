@@ -2,7 +2,8 @@
 use Rattle.std.specs.Prelude.{◌≡◌, ◌*◌, ◌==◌, ℕ, List, Result, Ok, Err, false, if◌then◌else◌, refl}
 use Rattle.otel_sdk.specs.Tracing.{TracingState, ShutsDown}
 use Rattle.otel_sdk.specs.declared.trace.tracing.last_export.Unfinished.{Unfinished}
-use Rattle.otel_sdk.specs.declared.trace.tracing.last_export.Unfinished.TheVariants.{Dropped, Refused}
+use Rattle.otel_sdk.specs.declared.trace.tracing.last_export.Unfinished.TheVariants.{Dropped}
+use Rattle.otel_sdk.specs.declared.trace.tracing.last_export.Unfinished.TheVariants.{Refused}
 use Rattle.otel_sdk_base.specs.Export.{Calls}
 use Rattle.otel_sdk_base.specs.declared.error.OTelSdkError.{OTelSdkError}
 use Rattle.otel_sdk_span.specs.SpanData.{SpanRecord}

@@ -1,5 +1,6 @@
 -- The parent of each span of a run. Not in the Rust crate.
-use Rattle.std.specs.Prelude.{◌≡◌, ◌⊎◌, ◌<◌, ℕ, Bool, false, List, [], ◌∷◌, Option, Some, None, Result}
+use Rattle.std.specs.Prelude.{◌≡◌, ◌⊎◌, ◌<◌, ℕ, Bool, false, List, [], ◌∷◌, Option, Some, None}
+use Rattle.std.specs.Prelude.{Result}
 use Rattle.std.specs.List.{flat_map}
 use Rattle.otel_context.specs.Context.{ContextRecord, SpanPart}
 use Rattle.otel_context.specs.Spans as table
@@ -15,7 +16,8 @@ use Rattle.otel_sdk.specs.declared.trace.program.event.SpanEvent.{SpanEvent}
 use Rattle.otel_sdk.specs.declared.trace.program.event.SpanEvent.TheVariants.{Start, StartCurrent}
 use Rattle.otel_sdk.specs.declared.trace.program.event.SpanEvent.TheVariants.{StartActive, Attach}
 use Rattle.otel_sdk.specs.declared.trace.program.event.SpanEvent.TheVariants.{Detach, Change, End}
-use Rattle.otel_sdk.specs.declared.trace.program.event.SpanEvent.TheVariants.{Collect, Flush, Shutdown}
+use Rattle.otel_sdk.specs.declared.trace.program.event.SpanEvent.TheVariants.{Collect, Flush}
+use Rattle.otel_sdk.specs.declared.trace.program.event.SpanEvent.TheVariants.{Shutdown}
 use Rattle.otel_sdk_span.specs.Span.{SpanState}
 use Rattle.otel_sdk_span.specs.SpanData.{SpanRecord}
 

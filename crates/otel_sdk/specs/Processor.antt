@@ -1,5 +1,6 @@
 -- The effect of a span's end on a processor.
-use Rattle.std.specs.Prelude.{◌≡◌, Bool, Err, List, MatchBool, MatchOption, Option, if◌then◌else◌, not}
+use Rattle.std.specs.Prelude.{◌≡◌, Bool, Err, List, MatchBool, MatchOption, Option, if◌then◌else◌}
+use Rattle.std.specs.Prelude.{not}
 use Rattle.otel_ids.specs.TraceFlags as flags
 use Rattle.otel_sdk_base.specs.Export.{Calls}
 use Rattle.otel_sdk_base.specs.Queue.{IsFlushed, IsKeptOrDropped, QueueState, Received, after_add}

@@ -1,6 +1,7 @@
 -- The traces that a ratio samples: the bound of a ratio, which is a double given by its 64 bits,
 -- and the number of a trace id that is compared with that bound.
-use Rattle.std.specs.Prelude.{◌≡◌, refl, ℕ, ◌+◌, ◌*◌, ◌/◌, ◌%◌, ◌^◌, ◌==◌, ◌<◌, ◌≤◌, nat_lt, nat_le, Bool}
+use Rattle.std.specs.Prelude.{◌≡◌, refl, ℕ, ◌+◌, ◌*◌, ◌/◌, ◌%◌, ◌^◌, ◌==◌, ◌<◌, ◌≤◌, nat_lt, nat_le}
+use Rattle.std.specs.Prelude.{Bool}
 use Rattle.std.specs.Prelude.{List, Option, Some, codes, option_map, to_bits, if◌then◌else◌}
 use Rattle.std.specs.Float.{binary64}
 use Rattle.std.specs.Float.Parse.{parse_float}

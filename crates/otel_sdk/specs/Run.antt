@@ -25,10 +25,13 @@ use Rattle.otel_sdk.specs.declared.trace.program.event.SpanEvent.{SpanEvent}
 use Rattle.otel_sdk.specs.declared.trace.program.event.SpanEvent.TheVariants.{Start, StartCurrent}
 use Rattle.otel_sdk.specs.declared.trace.program.event.SpanEvent.TheVariants.{StartActive, Attach}
 use Rattle.otel_sdk.specs.declared.trace.program.event.SpanEvent.TheVariants.{Detach, Change, End}
-use Rattle.otel_sdk.specs.declared.trace.program.event.SpanEvent.TheVariants.{Collect, Flush, Shutdown}
+use Rattle.otel_sdk.specs.declared.trace.program.event.SpanEvent.TheVariants.{Collect, Flush}
+use Rattle.otel_sdk.specs.declared.trace.program.event.SpanEvent.TheVariants.{Shutdown}
 use Rattle.otel_sdk.specs.declared.trace.program.event.EventOutcome.{EventOutcome}
-use Rattle.otel_sdk.specs.declared.trace.program.event.EventOutcome.TheVariants.{Done, NumbersUsedUp}
-use Rattle.otel_sdk.specs.declared.trace.program.event.EventOutcome.TheVariants.{NotAttached, Failed}
+use Rattle.otel_sdk.specs.declared.trace.program.event.EventOutcome.TheVariants.{Done}
+use Rattle.otel_sdk.specs.declared.trace.program.event.EventOutcome.TheVariants.{NumbersUsedUp}
+use Rattle.otel_sdk.specs.declared.trace.program.event.EventOutcome.TheVariants.{NotAttached}
+use Rattle.otel_sdk.specs.declared.trace.program.event.EventOutcome.TheVariants.{Failed}
 
 -- The history of a run has each span that was started, even after a processor collected it, and
 -- the numbers of all ended spans, in the order of their ends. The live spans are the spans that no
@@ -173,7 +176,8 @@ module _ {E : Type 0} where
         (with_child (stack.current old.stack) span old))
     Takes (Attach context) old new = new ≡ with_stack (stack.attach context old.stack) old
     Takes (Detach position) old new = new ≡ with_stack (stack.detach position old.stack) old
-    Takes (Change number change) old new = new ≡ with_both (with_changed (change_of change) number) old
+    Takes (Change number change) old new =
+        new ≡ with_both (with_changed (change_of change) number) old
     Takes (End number time) old new = new ≡ with_both (with_ended number time) old
     Takes Collect old new = IsCollected old new × (new.live.ended ≡ [])
     Takes Flush old new = IsExported accepted calls (Ok tt) old new × (new.processor.queue ≡ [])

@@ -1,5 +1,6 @@
 -- The questions to a sampler and its answers.
-use Rattle.std.specs.Prelude.{◌≡◌, ℕ, List, [], ◌++◌, Bool, true, false, map, codes, if◌then◌else◌, ◌||◌}
+use Rattle.std.specs.Prelude.{◌≡◌, ℕ, List, [], ◌++◌, Bool, true, false, map, codes, if◌then◌else◌}
+use Rattle.std.specs.Prelude.{◌||◌}
 use Rattle.std.specs.Prelude.{nat_eq, to_bits}
 use Rattle.std.specs.Float.{binary64}
 use Rattle.otel_ids.specs.TraceState.{Pair}
@@ -15,10 +16,12 @@ use Rattle.opentelemetry.specs.View.{link_of}
 use Rattle.opentelemetry.specs.declared.trace.link.Link.{Link}
 use Rattle.otel_sdk.specs.Ratio.{samples, IsNumberText}
 use Rattle.otel_sdk.specs.declared.trace.sampler.SamplingDecision.{SamplingDecision}
-use Rattle.otel_sdk.specs.declared.trace.sampler.SamplingDecision.TheVariants.{Drop, RecordAndSample}
+use Rattle.otel_sdk.specs.declared.trace.sampler.SamplingDecision.TheVariants.{Drop}
+use Rattle.otel_sdk.specs.declared.trace.sampler.SamplingDecision.TheVariants.{RecordAndSample}
 use Rattle.otel_sdk.specs.declared.trace.sampler.SamplingResult.{SamplingResult}
 use Rattle.otel_sdk.specs.declared.trace.sampler.Sampler.{Sampler}
-use Rattle.otel_sdk.specs.declared.trace.sampler.Sampler.TheVariants.{AlwaysOn, AlwaysOff, TraceIdRatioBased}
+use Rattle.otel_sdk.specs.declared.trace.sampler.Sampler.TheVariants.{AlwaysOn, AlwaysOff}
+use Rattle.otel_sdk.specs.declared.trace.sampler.Sampler.TheVariants.{TraceIdRatioBased}
 
 -- the parent context, the trace id of the span, and the name, kind, attributes and links from its
 -- builder [OpenTelemetry trace SDK, "ShouldSample"]

@@ -4,7 +4,8 @@ use Rattle.otel_context.specs.Context.{span_context}
 use Rattle.otel_ids.specs.SpanContext.{IsValidSpanContext}
 use Rattle.otel_ids.specs.TraceFlags.{is_sampled}
 use Rattle.otel_sdk.specs.Sampler.{Asked, Answer, parent_based, unchanged}
-use Rattle.otel_sdk.specs.declared.trace.sampler.SamplingDecision.TheVariants.{Drop, RecordAndSample}
+use Rattle.otel_sdk.specs.declared.trace.sampler.SamplingDecision.TheVariants.{Drop}
+use Rattle.otel_sdk.specs.declared.trace.sampler.SamplingDecision.TheVariants.{RecordAndSample}
 
 -- Under a valid parent, the answer doesn't depend on the root sampler.
 abbrev pub RootIsNotAsked : Type 0

@@ -5,7 +5,8 @@ use Rattle.otel_sdk_span.specs.Span.{SpanState, after_attribute, after_event, af
 use Rattle.otel_sdk_span.specs.Span.{after_name, after_status}
 use Rattle.otel_sdk.specs.declared.trace.change.SpanChange.{SpanChange}
 use Rattle.otel_sdk.specs.declared.trace.change.SpanChange.TheVariants.{SetAttribute, AddEvent}
-use Rattle.otel_sdk.specs.declared.trace.change.SpanChange.TheVariants.{AddLink, SetStatus, UpdateName}
+use Rattle.otel_sdk.specs.declared.trace.change.SpanChange.TheVariants.{AddLink, SetStatus}
+use Rattle.otel_sdk.specs.declared.trace.change.SpanChange.TheVariants.{UpdateName}
 
 -- the span after the change
 abbrev pub change_of : SpanChange → SpanState → SpanState

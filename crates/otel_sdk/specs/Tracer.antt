@@ -1,5 +1,6 @@
 -- Which spans a tracer starts.
-use Rattle.std.specs.Prelude.{◌≡◌, ◌≢◌, ◌⊎◌, ℕ, ◌+◌, ◌/◌, ◌%◌, ◌==◌, List, [], ◌++◌, Bool, true, false}
+use Rattle.std.specs.Prelude.{◌≡◌, ◌≢◌, ◌⊎◌, ℕ, ◌+◌, ◌/◌, ◌%◌, ◌==◌, List, [], ◌++◌, Bool, true}
+use Rattle.std.specs.Prelude.{false}
 use Rattle.std.specs.Prelude.{Option, Some, None, Result, Ok, Err, if◌then◌else◌, refl}
 use Rattle.std.specs.Option.{option_map_or, unwrap_or}
 use Rattle.std.specs.Rc.{rc_value}
@@ -21,7 +22,8 @@ use Rattle.otel_sdk_span.specs.SpanData.{SpanRecord}
 use Rattle.otel_sdk_span.specs.declared.limits.SpanLimits.{SpanLimits}
 use Rattle.otel_sdk.specs.declared.trace.id_generator.IdError.{IdError}
 use Rattle.otel_sdk.specs.declared.trace.sampler.SamplingDecision.{SamplingDecision}
-use Rattle.otel_sdk.specs.declared.trace.sampler.SamplingDecision.TheVariants.{Drop, RecordOnly, RecordAndSample}
+use Rattle.otel_sdk.specs.declared.trace.sampler.SamplingDecision.TheVariants.{Drop, RecordOnly}
+use Rattle.otel_sdk.specs.declared.trace.sampler.SamplingDecision.TheVariants.{RecordAndSample}
 use Rattle.otel_sdk.specs.declared.trace.tracer.config.TracerConfig.{TracerConfig}
 
 -- ---- parents, ids and flags
@@ -202,8 +204,8 @@ abbrev pub IsRecorded : {S G : Type 0} → (ℕ → Type 0) → TracerState S G 
 IsRecorded may_show t builder parent context sampled span =
     Records may_show t.limits t.scope builder parent context sampled span
 
--- The relations `may_trace`, `may_span` and `may_show` are what the generator gave for trace ids and
--- for span ids and the times that the clock showed, and `is_counted` says that a failure was
+-- The relations `may_trace`, `may_span` and `may_show` are what the generator gave for trace ids
+-- and for span ids and the times that the clock showed, and `is_counted` says that a failure was
 -- counted. Only a call shows that one holds.
 module _ (answer : Asked → Answer) (random : Bool) (may_trace may_span : Result ℕ IdError → Type 0)
     (may_show : ℕ → Type 0) (is_counted : Type 0) (limits : SpanLimits) (scope : Scope)

@@ -1,7 +1,8 @@
 -- The model of a `Tracing`, and the effects of its calls. Not in the Rust crate, where the stack of
 -- a thread and a global provider hold these parts.
 use Rattle.std.specs.Prelude.{◌≡◌, ◌⊎◌, ℕ, ◌+◌, ◌<◌, ◌==◌, Bool, true, false, List, [], ◌∷◌, ◌++◌}
-use Rattle.std.specs.Prelude.{Option, Some, None, Result, IsErrAnd, IsTrue, OnOk, OnErr, if◌then◌else◌}
+use Rattle.std.specs.Prelude.{Option, Some, None, Result, IsErrAnd, IsTrue, OnOk, OnErr}
+use Rattle.std.specs.Prelude.{if◌then◌else◌}
 use Rattle.std.specs.Prelude.{MatchBool}
 use Rattle.std.specs.Result.{result_map_both}
 use Rattle.std.specs.Option.{unwrap_or}
@@ -21,7 +22,8 @@ use Rattle.otel_sdk.specs.Processor.{ProcessorState}
 use Rattle.otel_sdk.specs.declared.trace.live.Entered.{Entered}
 use Rattle.otel_sdk.specs.declared.trace.tracing.Attached.{Attached}
 use Rattle.otel_sdk.specs.declared.trace.tracing.NotEntered.{NotEntered}
-use Rattle.otel_sdk.specs.declared.trace.tracing.NotEntered.TheVariants.{NumbersUsedUp, PositionsUsedUp, Memory}
+use Rattle.otel_sdk.specs.declared.trace.tracing.NotEntered.TheVariants.{NumbersUsedUp}
+use Rattle.otel_sdk.specs.declared.trace.tracing.NotEntered.TheVariants.{PositionsUsedUp, Memory}
 use Rattle.otel_sdk_base.specs.Export.{Calls, items_of}
 use Rattle.otel_sdk_base.specs.Queue.{IsForceFlushed, IsShutDown, cause, one_more}
 use Rattle.otel_sdk_base.specs.declared.error.OTelSdkError.{OTelSdkError}

@@ -1,5 +1,6 @@
 -- How a `Tracing` records errors. Not in the Rust crate.
-use Rattle.std.specs.Prelude.{◌≡◌, ◌⊎◌, ℕ, List, Option, Result, IfSome, IsOk, IsTrue, OnOk, OnErr, IfErr}
+use Rattle.std.specs.Prelude.{◌≡◌, ◌⊎◌, ℕ, List, Option, Result, IfSome, IsOk, IsTrue, OnOk, OnErr}
+use Rattle.std.specs.Prelude.{IfErr}
 use Rattle.std.specs.Prelude.{codes}
 use Rattle.otel_context.specs.Context.{ContextRecord}
 use Rattle.otel_context.specs.SpanEffects.{message}

@@ -127,7 +127,8 @@ at_limit_example : set_all 2 [] (on (codes "a") ∷ on (codes "b") ∷ on (codes
     ≡ on (codes "a") ∷ on (codes "b") ∷ []
 at_limit_example = refl
 
-replaced_example : set_all 2 (on (codes "a") ∷ on (codes "b") ∷ []) (off (codes "a") ∷ on (codes "c") ∷ [])
+replaced_example :
+    set_all 2 (on (codes "a") ∷ on (codes "b") ∷ []) (off (codes "a") ∷ on (codes "c") ∷ [])
     ≡ off (codes "a") ∷ on (codes "b") ∷ []
 replaced_example = refl
 

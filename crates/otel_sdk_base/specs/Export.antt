@@ -1,6 +1,7 @@
 -- How a queue is exported in batches, what an exporter says about its calls, and the state of an
 -- in-memory exporter.
-use Rattle.std.specs.Prelude.{◌≡◌, ℕ, zero, suc, ◌*◌, ◌-◌, ◌<◌, Bool, List, [], ◌∷◌, ◌++◌, take, drop}
+use Rattle.std.specs.Prelude.{◌≡◌, ℕ, zero, suc, ◌*◌, ◌-◌, ◌<◌, Bool, List, [], ◌∷◌, ◌++◌, take}
+use Rattle.std.specs.Prelude.{drop}
 use Rattle.std.specs.Prelude.{length, refl, Result, Ok, true, if◌then◌else◌, alloc_error}
 use Rattle.std.specs.List.{flat_map}
 use Rattle.otel_sdk_base.specs.Resource.{Parts}

@@ -76,9 +76,21 @@ abbrev pub get : List ℕ → Parts → Option AttributeValue
 get key r = option_map (λ p. p.1) (find (has_key key) r.attributes)
 
 -- ---- worked rows
-merge_example : merge (record { attributes = named (codes "a") (codes "1") ∷ named (codes "b") (codes "2") ∷ []; schema_url = None })
-    (record { attributes = named (codes "b") (codes "3") ∷ named (codes "c") (codes "4") ∷ []; schema_url = Some (codes "u") })
-    ≡ record { attributes = named (codes "a") (codes "1") ∷ named (codes "b") (codes "3") ∷ named (codes "c") (codes "4") ∷ []; schema_url = Some (codes "u") }
+merge_example :
+    merge (record {
+      attributes = named (codes "a") (codes "1") ∷ named (codes "b") (codes "2") ∷ [];
+      schema_url = None;
+    })
+    (record {
+      attributes = named (codes "b") (codes "3") ∷ named (codes "c") (codes "4") ∷ [];
+      schema_url = Some (codes "u");
+    })
+    ≡ record {
+      attributes =
+          named (codes "a") (codes "1") ∷ named (codes "b") (codes "3")
+          ∷ named (codes "c") (codes "4") ∷ [];
+      schema_url = Some (codes "u");
+    }
 merge_example = refl
 
 url_example : merged_url (given (Some (codes "u"))) (given (Some (codes "v"))) ≡ None

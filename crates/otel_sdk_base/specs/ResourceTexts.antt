@@ -1,7 +1,8 @@
 -- How a resource is read from two texts (OpenTelemetry specification, "Specifying resource
 -- information via an environment variable").
 use Rattle.std.specs.Prelude.{◌≡◌, ℕ, Bool, true, false, not, ◌&&◌, ◌==◌, List, [], ◌∷◌, drop}
-use Rattle.std.specs.Prelude.{Option, Some, None, MatchOption, Result, Ok, Err, is_some, position, codes, refl}
+use Rattle.std.specs.Prelude.{Option, Some, None, MatchOption, Result, Ok, Err, is_some, position}
+use Rattle.std.specs.Prelude.{codes, refl}
 use Rattle.std.specs.Prelude.{if◌then◌else◌, map, length, filter_map, option_map}
 use Rattle.std.specs.Char.{is_ascii_hexdigit, encode_utf8}
 use Rattle.std.specs.List.{list_all, list_any, slice_split, before_first, after_first}
@@ -116,17 +117,20 @@ abbrev some : List ℕ → List ℕ → List Attribute
 some key value = named key value ∷ []
 
 blanks_example : attributes_in (codes "key=value, k = v , a= x, a=z")
-    ≡ named (codes "key") (codes "value") ∷ named (codes "k") (codes "v") ∷ some (codes "a") (codes "z")
+    ≡ named (codes "key") (codes "value") ∷ named (codes "k") (codes "v")
+    ∷ some (codes "a") (codes "z")
 unfolding percent_decode is_utf8 chars encode_utf8
 blanks_example = refl
 
 escapes_example : attributes_in (codes "a=b%2Cc%3dd,a%20b=c,c=%20,d=1+1")
-    ≡ named (codes "a") (codes "b,c=d") ∷ named (codes "a b") (codes "c") ∷ named (codes "c") (codes " ")
+    ≡ named (codes "a") (codes "b,c=d") ∷ named (codes "a b") (codes "c")
+    ∷ named (codes "c") (codes " ")
     ∷ some (codes "d") (codes "1+1")
 unfolding percent_decode is_utf8 chars encode_utf8
 escapes_example = refl
 
-equals_example : attributes_in (codes "a=1=2,,b=,") ≡ named (codes "a") (codes "1=2") ∷ some (codes "b") []
+equals_example :
+    attributes_in (codes "a=1=2,,b=,") ≡ named (codes "a") (codes "1=2") ∷ some (codes "b") []
 unfolding percent_decode is_utf8 chars encode_utf8
 equals_example = refl
 

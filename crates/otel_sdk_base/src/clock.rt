@@ -28,8 +28,8 @@ pub trait Clock: Drop {
 /// The reading of a source of time. Every [`std::time::Clock`] has it.
 ///
 /// No contract says what a source answers. So the call ensures a ghost member of which code that is
-/// generic over this trait knows nothing: only the call shows it. A contract that cites it says that
-/// the source was read, and answered so.
+/// generic over this trait knows nothing: only the call shows it. A contract that cites it says
+/// that the source was read, and answered so.
 pub trait TimeSource: std::time::Clock {
     ghost use Rattle.std.specs.Prelude.{Option};
     ghost use Rattle.std.specs.declared.time.SystemTime.{SystemTime};

@@ -1,5 +1,6 @@
 //! Resources: the entities that telemetry describes.
-ghost use Rattle.std.specs.Prelude.{◌≡◌, ◌↔◌, [], IfOk, IsTrue, length, map, option_map, string_bytes};
+ghost use Rattle.std.specs.Prelude.{◌≡◌, ◌↔◌, [], IfOk, IsTrue, length, map, option_map};
+ghost use Rattle.std.specs.Prelude.{string_bytes};
 ghost use Rattle.std.specs.Slice.Iter.{iter_rest};
 ghost use Rattle.otel_base.specs.View.{attribute_of, value_of};
 ghost use Rattle.otel_sdk_base.specs.Resource as spec;

@@ -6,9 +6,9 @@ use std::io::{self, Write};
 
 /// The calls on a writer. Every [`Write`] has them.
 ///
-/// No contract says what a writer answers. So each call ensures a ghost member of which code that is
-/// generic over this trait knows nothing: only the call shows it. A contract that cites it says that
-/// the writer answered so.
+/// No contract says what a writer answers. So each call ensures a ghost member of which code that
+/// is generic over this trait knows nothing: only the call shows it. A contract that cites it says
+/// that the writer answered so.
 pub trait WriterCalls: Write {
     ghost use Rattle.std.specs.Prelude.{ℕ, Bool, Result};
     ghost use Rattle.std.specs.declared.io.Error.{Error};

@@ -1,5 +1,6 @@
 //! Attributes with unique keys within limits.
-ghost use Rattle.std.specs.Prelude.{◌≡◌, ◌<◌, ◌≤◌, ◌+◌, IfOk, OnOk, OnErr, length, vec_len, vec_capacity};
+ghost use Rattle.std.specs.Prelude.{◌≡◌, ◌<◌, ◌≤◌, ◌+◌, IfOk, OnOk, OnErr, length, vec_len};
+ghost use Rattle.std.specs.Prelude.{vec_capacity};
 ghost use Rattle.otel_base.specs.View.{tree, pairs_view};
 ghost use Rattle.otel_sdk_logs.specs.Attributes as spec;
 

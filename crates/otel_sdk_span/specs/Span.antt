@@ -1,6 +1,7 @@
 -- The effects of the calls of a span.
 use Rattle.std.specs.Prelude.{ℕ, List, [], ◌∷◌, ◌++◌, length, Bool, true, false, ◌&&◌, not}
-use Rattle.std.specs.Prelude.{◌||◌, nat_eq, nat_lt, Option, Some, None, fold, is_some, if◌then◌else◌}
+use Rattle.std.specs.Prelude.{◌||◌, nat_eq, nat_lt, Option, Some, None, fold, is_some}
+use Rattle.std.specs.Prelude.{if◌then◌else◌}
 use Rattle.std.specs.Option.{option_map}
 use Rattle.std.specs.Ordering.{is_gt}
 use Rattle.otel_base.specs.KeyValue.{Attribute}

@@ -109,7 +109,8 @@ impl SdkSpan {
 }
 
 impl Span for SdkSpan {
-    ghost use Rattle.otel_sdk_span.specs.Span.{after_event, after_attribute, after_link, after_status};
+    ghost use Rattle.otel_sdk_span.specs.Span.{after_event, after_attribute, after_link};
+    ghost use Rattle.otel_sdk_span.specs.Span.{after_status};
     ghost use Rattle.otel_sdk_span.specs.Span.{after_name, after_end, is_recording};
 
     ghost context_of = { λ span. span.context };

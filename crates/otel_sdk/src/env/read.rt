@@ -48,9 +48,9 @@ fn tell(rt: &impl Eprint, warnings: &[EnvWarning]) {
 }
 
 impl EnvConfig {
-    /// Reads the configuration from the environment of the process, as [`EnvConfig::from_vars`] does
-    /// from its variables, and writes each warning to standard error, as a line. A text that isn't
-    /// UTF-8 counts as U+FFFD.
+    /// Reads the configuration from the environment of the process, as [`EnvConfig::from_vars`]
+    /// does from its variables, and writes each warning to standard error, as a line. A text that
+    /// isn't UTF-8 counts as U+FFFD.
     ///
     /// # Errors
     ///

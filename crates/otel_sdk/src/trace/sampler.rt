@@ -3,7 +3,8 @@ ghost use Rattle.std.specs.Prelude.{◌≡◌, ◌<◌, [], IfOk, map, string_by
 ghost use Rattle.std.specs.Float.{binary64};
 ghost use Rattle.otel_base.specs.View.{attribute_of};
 ghost use Rattle.otel_sdk.specs.Ratio.{bound, half, IsNumberText};
-ghost use Rattle.otel_sdk.specs.Sampler.{asked_of, result_of, decision_of, unchanged, IsDescription};
+ghost use Rattle.otel_sdk.specs.Sampler.{asked_of, result_of, decision_of, unchanged};
+ghost use Rattle.otel_sdk.specs.Sampler.{IsDescription};
 ghost use Rattle.otel_sdk.specs.Sampler.{parents_trace_state};
 
 pub mod laws;

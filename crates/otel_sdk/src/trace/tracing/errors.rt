@@ -3,7 +3,8 @@ ghost use Rattle.std.specs.Prelude.{◌≡◌, false, IfOk, OnOk, OnErr};
 ghost use Rattle.opentelemetry.specs.SpanBuilder.{from_name};
 ghost use Rattle.opentelemetry.specs.View.{builder_of};
 ghost use Rattle.otel_context.specs.SpanEffects.{attributes_of, message};
-ghost use Rattle.otel_sdk.specs.TracingErrors.{Fails, RecordsError, RecordsFailure, RecordsInCurrent};
+ghost use Rattle.otel_sdk.specs.TracingErrors.{Fails, RecordsError, RecordsFailure};
+ghost use Rattle.otel_sdk.specs.TracingErrors.{RecordsInCurrent};
 ghost use Rattle.otel_sdk.specs.TracingErrors.{RecordsOrCounts, RecordsPart, Tries};
 
 use super::Tracing;

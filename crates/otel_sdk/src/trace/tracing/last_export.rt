@@ -29,8 +29,8 @@ pub enum Unfinished {
     Dropped(u64),
 }
 
-/// Measures by a clock how much of a time is left. The time is no longer if the clock is set back, or
-/// stops.
+/// Measures by a clock how much of a time is left. The time is no longer if the clock is set back,
+/// or stops.
 #[derive(Drop)]
 struct Timer {
     /// The moment that the clock showed last, in nanoseconds since 1970.

@@ -1,5 +1,6 @@
 //! Removes ended spans from a table, by number, and queues them.
-ghost use Rattle.std.specs.Prelude.{◌≡◌, ◌≤◌, ◌==◌, false, [], length, take, fold, IfErr, OnOk, OnErr, IsTrue};
+ghost use Rattle.std.specs.Prelude.{◌≡◌, ◌≤◌, ◌==◌, false, [], length, take, fold, IfErr, OnOk};
+ghost use Rattle.std.specs.Prelude.{OnErr, IsTrue};
 ghost use Rattle.std.specs.List.{IsDistinct};
 ghost use Rattle.std.specs.Vec.{vec_capacity};
 ghost use Rattle.otel_sdk_base.specs.Queue.{cause};
