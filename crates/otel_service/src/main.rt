@@ -9,19 +9,20 @@ use otel_otlp::{AppendFile, OtlpJsonSpanExporter, pipe_exporter};
 use otel_sdk::EnvConfig;
 use otel_sdk::trace::{SpanExporter, Tracing};
 use otel_waterfall::WaterfallExporter;
-use service::{Call, NAME, serve};
+use service::{Call, NAME, Service, logger};
 use std::process::ExitCode;
 
 /// Answers the requests, and hands their spans to the exporter.
 fn run<E: SpanExporter>(call: Call<'_>, matches: &ArgMatches<'_>, exporter: E) -> Result<()> {
     let alloc = call.rt.alloc();
+    let log = logger(call)?;
     let builder = Tracing::builder(call.rt).with_exporter(exporter);
     let builder = builder.with_env(alloc, call.env)?;
     if matches.get_flag("fixed") {
         // A millisecond from one reading of the clock to the next.
-        return serve(call, builder.counted(1_000_000).build(alloc, NAME)?);
+        return Service::serve(call, builder.counted(1_000_000).build(alloc, NAME)?, log);
     }
-    serve(call, builder.build(alloc, NAME)?)
+    Service::serve(call, builder.build(alloc, NAME)?, log)
 }
 
 /// Returns the command with the arguments about requests.

@@ -31,7 +31,11 @@ pub struct Call<'a> {
 }
 
 /// Makes a logger that writes its records to standard error, as lines of JSON.
-fn logger(call: Call<'_>) -> Result<SimpleLogger<OtlpJsonLogExporter<Stderr>, HostRuntime>> {
+///
+/// # Errors
+///
+/// Out of memory.
+pub fn logger(call: Call<'_>) -> Result<SimpleLogger<OtlpJsonLogExporter<Stderr>, HostRuntime>> {
     let alloc = call.rt.alloc();
     let lines = SimpleLogProcessor::new(alloc, OtlpJsonLogExporter::new(alloc, call.rt.stderr())?)?;
     let loggers = SdkLoggerProvider::builder(call.rt).with_log_processor(lines);
@@ -54,44 +58,43 @@ pub struct Service<P, E: SpanExporter, L> {
     pub is_told: bool,
 }
 
-/// Answers the requests of standard input, and exports their spans.
-///
-/// # Errors
-///
-/// The reason why the input isn't read, an answer isn't written, or spans are lost.
-pub fn serve<P: Pipeline, E: SpanExporter>(call: Call<'_>, tracing: Tracing<P, E>) -> Result<()> {
-    let propagator = call.env.propagator(call.rt.alloc())?;
-    let log = OpenTelemetryLogBridge::new(call.rt.alloc(), logger(call)?);
-    let mut service = Service {
-        rt: call.rt,
-        tracing,
-        propagator,
-        log,
-        is_told: false,
-    };
-    service.run(call)
-}
+impl<P: Pipeline, E: SpanExporter, L: Logger + Drop> Service<P, E, L> {
+    /// Answers the requests of standard input, exports their spans, and logs them.
+    ///
+    /// # Errors
+    ///
+    /// The reason why the input isn't read, an answer isn't written, or spans are lost.
+    pub fn serve(call: Call<'_>, tracing: Tracing<P, E>, log: L) -> Result<()> {
+        let propagator = call.env.propagator(call.rt.alloc())?;
+        let mut service = Service {
+            rt: call.rt,
+            tracing,
+            propagator,
+            log: OpenTelemetryLogBridge::new(call.rt.alloc(), log),
+            is_told: false,
+        };
+        service.run(call)
+    }
 
-impl<P: Pipeline, E: SpanExporter, L: Logger> Service<P, E, L> {
     /// Answers the requests, and exports the last spans.
     fn run(&mut self, call: Call<'_>) -> Result<()> {
-        let answered = self.answer_input(call);
+        let answered = match call.is_lines {
+            true => self.answer_lines(call.rt.stdin(), &mut call.rt.stdout()),
+            false => self.answer_http(call.rt),
+        };
         let clock = SystemClock::new(call.rt);
         finish(&mut self.tracing, &clock, &call.env.span_batches)?;
         answered
     }
 
-    /// Answers the requests of standard input, until it ends or a request is refused.
-    fn answer_input(&mut self, call: Call<'_>) -> Result<()> {
-        if call.is_lines {
-            return self.answer_lines(call.rt.stdin(), &mut call.rt.stdout());
-        }
-        let keys = std::hash::RandomState::new(&call.rt)?;
-        let mut peer = Connection::new(call.rt.alloc(), keys, Config::default());
-        self.answer_peer(call.rt, &mut peer)
+    /// Answers the HTTP requests of standard input, until it ends or a request is refused.
+    fn answer_http(&mut self, rt: HostRuntime) -> Result<()> {
+        let keys = std::hash::RandomState::new(&rt)?;
+        let mut peer = Connection::new(rt.alloc(), keys, Config::default());
+        self.answer_peer(rt, &mut peer)
     }
 
-    /// Answers the HTTP requests of standard input, until it ends or a request is refused.
+    /// Answers the HTTP requests of the connection, until it ends or a request is refused.
     fn answer_peer(&mut self, rt: HostRuntime, peer: &mut Connection) -> Result<()> {
         http_server::serve(peer, self, &mut rt.stdin(), &mut rt.stdout())?;
         match peer.state() {
@@ -180,7 +183,7 @@ impl<P: Pipeline, E: SpanExporter, L: Logger> Service<P, E, L> {
     }
 }
 
-impl<P: Pipeline, E: SpanExporter, L: Logger> http_server::Service for Service<P, E, L> {
+impl<P: Pipeline, E: SpanExporter, L: Logger + Drop> http_server::Service for Service<P, E, L> {
     ghost answers = { λ _ _ _ _. Unit {0} };
 
     fn call(&mut self, request: &Request<Bytes>, answer: &mut Response) -> Result<(), AllocError> {
