@@ -40,8 +40,8 @@ impl Chosen {
         Ok(())
     }
 
-    /// Adds the span to its trace, after its other spans. A span of a trace that wasn't chosen isn't
-    /// kept.
+    /// Adds the span to its trace, after its other spans. A span of a trace that wasn't chosen
+    /// isn't kept.
     ///
     /// # Errors
     ///

@@ -44,7 +44,8 @@ impl Skipped {
         Ok(())
     }
 
-    /// Returns the text that tells of the lines, with a newline, or an empty text if there are none.
+    /// Returns the text that tells of the lines, with a newline, or an empty text if there are
+    /// none.
     pub fn text(&self, alloc: Global, wanted: &str) -> Result<String, AllocError> {
         let count = self.count;
         let mut text = match count {
@@ -140,6 +141,18 @@ fn service_of(alloc: Global, resource: &Resource) -> Result<StringValue, AllocEr
     }
 }
 
+/// Passes on the spans of a service, in their order.
+fn pass_spans<T: SpanTaker>(
+    taker: &mut T,
+    service: &StringValue,
+    spans: Vec<SpanData>,
+) -> Result<(), AllocError> {
+    for span in spans {
+        taker.take(service, span)?;
+    }
+    Ok(())
+}
+
 /// Passes on the spans of a resource, in their order.
 fn pass_group<T: SpanTaker>(
     alloc: Global,
@@ -147,10 +160,7 @@ fn pass_group<T: SpanTaker>(
     group: ResourceSpans,
 ) -> Result<(), AllocError> {
     let service = service_of(alloc, &group.resource)?;
-    for span in group.spans {
-        taker.take(&service, span)?;
-    }
-    Ok(())
+    pass_spans(taker, &service, group.spans)
 }
 
 /// Passes on the spans of a line, in their order.
@@ -180,10 +190,11 @@ impl<R: Read + Drop> Lines<R> {
     /// Returns the lines of the reader.
     pub fn new(rt: HostRuntime, reader: R) -> io::Result<Lines<R>> {
         let alloc = rt.alloc();
+        let reader = BufReader::new(alloc, reader)?;
         Ok(Lines {
             alloc,
             progress: Progress::new(rt),
-            reader: BufReader::new(alloc, reader)?,
+            reader,
             line: Vec::new(alloc),
             count: Count { lines: 0, bytes: 0 },
             skipped: Skipped::new(alloc),

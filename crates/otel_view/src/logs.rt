@@ -122,6 +122,17 @@ impl Logs {
         Ok(())
     }
 
+    /// Adds the record to the span that was active. A record of no span of the trace is counted.
+    fn take_record(&mut self, alloc: Global, record: &SdkLogRecord) -> Result<(), AllocError> {
+        match self.span_of(record.trace_context) {
+            Some(span) => self.add(span, line_of(alloc, record)?),
+            None => {
+                self.others = self.others.saturating_add(1);
+                Ok(())
+            }
+        }
+    }
+
     /// Returns the records of the span.
     pub fn of(&self, span: SpanId) -> &[Line] {
         match self.spans.get(&span) {
@@ -144,13 +155,7 @@ impl Logs {
 
 impl RecordTaker for Logs {
     fn take(&mut self, alloc: Global, record: SdkLogRecord) -> Result<(), AllocError> {
-        match self.span_of(record.trace_context) {
-            Some(span) => self.add(span, line_of(alloc, &record)?),
-            None => {
-                self.others = self.others.saturating_add(1);
-                Ok(())
-            }
-        }
+        self.take_record(alloc, &record)
     }
 }
 

@@ -46,10 +46,15 @@ fn refuse(rt: HostRuntime, error: &clap::Error) -> Result<ExitCode> {
     Ok(ExitCode::from(error.exit_code() as u8))
 }
 
-fn main(rt: HostRuntime) -> Result<ExitCode> {
-    let words: Vec<String> = std::env::args(&rt)?.collect(rt.alloc())?;
-    match command(rt.alloc())?.try_get_matches_from(words.as_slice()) {
+/// Shows the traces that the words of the command line ask for.
+fn answer(rt: HostRuntime, words: &[String]) -> Result<ExitCode> {
+    match command(rt.alloc())?.try_get_matches_from(words) {
         Ok(matches) => show(rt, &matches),
         Err(error) => refuse(rt, &error),
     }
+}
+
+fn main(rt: HostRuntime) -> Result<ExitCode> {
+    let words: Vec<String> = std::env::args(&rt)?.collect(rt.alloc())?;
+    answer(rt, words.as_slice())
 }

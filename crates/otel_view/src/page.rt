@@ -33,18 +33,29 @@ fn page_spans(
         .collect(alloc)
 }
 
+/// Returns the moment of the least start of the spans.
+fn start_text(rt: HostRuntime, spans: &[SpanData]) -> Result<String> {
+    Clock::new(rt).text(rt.alloc(), start_of(spans))
+}
+
+/// Returns the spans of the trace that was found, with their services.
+fn found_spans(alloc: Global, found: Found) -> Result<Vec<PageSpan>, AllocError> {
+    page_spans(alloc, found.services, found.spans)
+}
+
 /// Returns the trace that was found, as a page shows it.
 ///
 /// # Errors
 ///
 /// A moment that no clock shows, or out of memory.
 pub fn page_trace(rt: HostRuntime, found: Found) -> Result<PageTrace> {
-    let start = Clock::new(rt).text(rt.alloc(), start_of(found.spans.as_slice()))?;
+    let start = start_text(rt, found.spans.as_slice())?;
     let trace_id = found.ids.first().copied().unwrap_or(TraceId::INVALID);
+    let spans = found_spans(rt.alloc(), found)?;
     Ok(PageTrace {
         trace_id,
         start: StringValue::from(start),
-        spans: page_spans(rt.alloc(), found.services, found.spans)?,
+        spans,
     })
 }
 

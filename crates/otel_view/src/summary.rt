@@ -183,9 +183,9 @@ impl Traces {
     }
 }
 
-/// Returns the span as the record of its trace sees it.
-fn part_of(span: SpanData, service: &StringValue, is_wanted: bool) -> Result<Part, AllocError> {
-    Ok(Part {
+/// Returns the span of this service as the record of its trace sees it.
+fn part_of(span: SpanData, service: StringValue, is_wanted: bool) -> Part {
+    Part {
         trace: span.span_context.trace_id(),
         end: span.end_time,
         is_error: matches!(&span.status, Status::Error { .. }),
@@ -193,10 +193,10 @@ fn part_of(span: SpanData, service: &StringValue, is_wanted: bool) -> Result<Par
         head: Head {
             is_root: span.parent_span_id == SpanId::INVALID,
             start: span.start_time,
-            service: service.clone()?,
+            service,
             name: span.name,
         },
-    })
+    }
 }
 
 /// Returns `true` if this service, or none, was asked for.
@@ -219,7 +219,8 @@ pub struct Counting<'a> {
 impl<'a> SpanTaker for Counting<'a> {
     fn take(&mut self, service: &StringValue, span: SpanData) -> Result<(), AllocError> {
         let is_wanted = is_asked_for(self.service, service.as_str());
-        self.traces.add(part_of(span, service, is_wanted)?)
+        let service = service.clone()?;
+        self.traces.add(part_of(span, service, is_wanted))
     }
 }
 

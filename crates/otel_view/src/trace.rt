@@ -94,6 +94,19 @@ impl Found {
         Ok(is_first(self.ids.as_slice(), id))
     }
 
+    /// Adds the service of a span.
+    fn add_service(&mut self, service: &StringValue) -> Result<(), AllocError> {
+        self.services.push(service.clone()?)?;
+        Ok(())
+    }
+
+    /// Adds a span of this service.
+    fn add(&mut self, service: &StringValue, span: SpanData) -> Result<(), AllocError> {
+        self.add_service(service)?;
+        self.spans.push(span)?;
+        Ok(())
+    }
+
     /// Returns the starts and the places of the spans, ordered by start and then by place.
     ///
     /// # Errors
@@ -113,8 +126,7 @@ impl SpanTaker for Found {
     /// Adds the span, if it belongs to the trace.
     fn take(&mut self, service: &StringValue, span: SpanData) -> Result<(), AllocError> {
         if self.takes(span.span_context.trace_id())? {
-            self.services.push(service.clone()?)?;
-            self.spans.push(span)?;
+            return self.add(service, span);
         }
         Ok(())
     }

@@ -26,27 +26,35 @@ fn width(rt: HostRuntime) -> u16 {
     }
 }
 
+/// Writes the lines of the records below the heading.
+fn write_lines<W: Write>(
+    alloc: Global,
+    output: &mut W,
+    clock: &Clock,
+    colors: Colors,
+    columns: Columns,
+    records: &[Summary],
+) -> Result<()> {
+    output.write_all(heading(alloc, clock, colors, columns)?.as_bytes())?;
+    for record in records {
+        output.write_all(line(alloc, clock, colors, columns, record)?.as_bytes())?;
+    }
+    Ok(output.flush()?)
+}
+
 /// Writes the list of the records.
 fn write_list(rt: HostRuntime, records: &[Summary]) -> Result<()> {
-    let alloc = rt.alloc();
     let clock = Clock::new(rt);
     let colors = Colors::of_output(rt);
     let columns = Columns::new(width(rt));
-    let mut output = BufWriter::new(alloc, rt.stdout())?;
-    output.write_all(heading(alloc, &clock, colors, columns)?.as_bytes())?;
-    for record in records {
-        let line = line(alloc, &clock, colors, columns, record)?;
-        output.write_all(line.as_bytes())?;
-    }
-    output.flush()?;
-    Ok(())
+    let mut output = BufWriter::new(rt.alloc(), rt.stdout())?;
+    write_lines(rt.alloc(), &mut output, &clock, colors, columns, records)
 }
 
 /// Tells of the lines that weren't read, since they have none of the things.
 fn tell(rt: HostRuntime, skipped: &Skipped, things: &str) -> Result<()> {
     let text = skipped.text(rt.alloc(), things)?;
-    rt.stderr().write_all(text.as_bytes())?;
-    Ok(())
+    Ok(rt.stderr().write_all(text.as_bytes())?)
 }
 
 /// Reads the lines. Returns the records of the newest traces that pass the filter.
@@ -76,13 +84,30 @@ fn list<R: Read + Drop>(rt: HostRuntime, options: &Options<'_>, reader: R) -> Re
     tell(rt, lines.skipped(), "spans")
 }
 
+/// Reads the spans of the chosen traces from the file.
+fn read_chosen(rt: HostRuntime, file: &str, chosen: &mut Chosen) -> Result<()> {
+    let file = File::open(&rt, file)?;
+    Lines::new(rt, file)?.pass_all(chosen)
+}
+
 /// Reads the file a second time, and writes the page of the chosen traces.
 fn write_chosen(rt: HostRuntime, file: &str, path: &str, chosen: Chosen) -> Result<()> {
     let mut chosen = chosen;
-    let mut lines = Lines::new(rt, File::open(&rt, file)?)?;
-    lines.pass_all(&mut chosen)?;
+    read_chosen(rt, file, &mut chosen)?;
     let traces = chosen.into_traces(rt.alloc())?;
     write_page(rt, path, traces.as_slice())
+}
+
+/// Chooses the newest traces that pass the filter.
+fn choose_newest<R: Read + Drop>(
+    rt: HostRuntime,
+    options: &Options<'_>,
+    reader: R,
+) -> Result<Chosen> {
+    let mut lines = Lines::new(rt, reader)?;
+    let records = newest(rt.alloc(), options, &mut lines)?;
+    tell(rt, lines.skipped(), "spans")?;
+    choose(rt, records.as_slice())
 }
 
 /// Writes the page of the newest traces that pass the filter.
@@ -95,10 +120,7 @@ fn list_page<R: Read + Drop>(
     if options.file == "-" {
         bail!("standard input isn't read twice: --html wants a file or the id of a trace");
     }
-    let mut lines = Lines::new(rt, reader)?;
-    let records = newest(rt.alloc(), options, &mut lines)?;
-    tell(rt, lines.skipped(), "spans")?;
-    let chosen = choose(rt, records.as_slice())?;
+    let chosen = choose_newest(rt, options, reader)?;
     write_chosen(rt, options.file, path, chosen)
 }
 
@@ -119,21 +141,43 @@ fn details(
     }
 }
 
-/// Writes the details of the spans with their log records, ordered by start.
-fn write_details(rt: HostRuntime, found: &Found, logs: &Logs) -> Result<()> {
-    let places = found.places(rt.alloc())?;
-    let shown = Details {
+/// Returns how the spans at these places, ordered by start, are shown.
+fn shown(rt: HostRuntime, places: &[(u64, usize)]) -> Details {
+    Details {
         clock: Clock::new(rt),
         colors: Colors::of_output(rt),
         start: places.first().map_or(0, |first| first.0),
-    };
-    let mut output = BufWriter::new(rt.alloc(), rt.stdout())?;
-    for (_, place) in places {
-        let text = details(rt.alloc(), &shown, found, logs, place)?;
-        output.write_all(text.as_bytes())?;
     }
-    output.flush()?;
-    Ok(())
+}
+
+/// Writes the details of the spans at these places, with their log records.
+fn write_places<W: Write>(
+    alloc: Global,
+    output: &mut W,
+    shown: &Details,
+    found: &Found,
+    logs: &Logs,
+    places: &[(u64, usize)],
+) -> Result<()> {
+    for (_, place) in places {
+        output.write_all(details(alloc, shown, found, logs, *place)?.as_bytes())?;
+    }
+    Ok(output.flush()?)
+}
+
+/// Writes the details of the spans with their log records, ordered by start.
+fn write_details(rt: HostRuntime, found: &Found, logs: &Logs) -> Result<()> {
+    let places = found.places(rt.alloc())?;
+    let shown = shown(rt, places.as_slice());
+    let mut output = BufWriter::new(rt.alloc(), rt.stdout())?;
+    write_places(
+        rt.alloc(),
+        &mut output,
+        &shown,
+        found,
+        logs,
+        places.as_slice(),
+    )
 }
 
 /// Checks that exactly one id begins with the digits.
@@ -145,13 +189,19 @@ fn check_ids(digits: &str, ids: &[TraceId]) -> Result<()> {
     }
 }
 
+/// Tells of the log records that belong to no span of the trace.
+fn tell_others(rt: HostRuntime, logs: &Logs) -> Result<()> {
+    let text = logs.text(rt.alloc())?;
+    Ok(rt.stderr().write_all(text.as_bytes())?)
+}
+
 /// Reads the log records of the trace from the file of this path.
 fn read_logs(rt: HostRuntime, path: &str, logs: &mut Logs) -> Result<()> {
-    let mut lines = Lines::new(rt, File::open(&rt, path)?)?;
+    let file = File::open(&rt, path)?;
+    let mut lines = Lines::new(rt, file)?;
     lines.pass_all_records(logs)?;
     tell(rt, lines.skipped(), "log records")?;
-    rt.stderr().write_all(logs.text(rt.alloc())?.as_bytes())?;
-    Ok(())
+    tell_others(rt, logs)
 }
 
 /// Returns the log records of the trace, none if no file was given.
@@ -181,6 +231,15 @@ fn write_found(rt: HostRuntime, html: Option<&str>, found: Found, logs: &Logs) -
     write_details(rt, &found, logs)
 }
 
+/// Reads the spans of the trace whose id begins with the digits.
+fn find<R: Read + Drop>(rt: HostRuntime, digits: &str, reader: R) -> Result<Found> {
+    let mut lines = Lines::new(rt, reader)?;
+    let mut found = Found::new(rt.alloc(), digits)?;
+    lines.pass_all(&mut found)?;
+    tell(rt, lines.skipped(), "spans")?;
+    Ok(found)
+}
+
 /// Draws the trace whose id begins with the digits.
 fn draw<R: Read + Drop>(
     rt: HostRuntime,
@@ -188,10 +247,7 @@ fn draw<R: Read + Drop>(
     digits: &str,
     reader: R,
 ) -> Result<()> {
-    let mut lines = Lines::new(rt, reader)?;
-    let mut found = Found::new(rt.alloc(), digits)?;
-    lines.pass_all(&mut found)?;
-    tell(rt, lines.skipped(), "spans")?;
+    let found = find(rt, digits, reader)?;
     check_ids(digits, found.ids.as_slice())?;
     let logs = logs_of(rt, options.logs, &found)?;
     write_found(rt, options.html, found, &logs)
