@@ -80,8 +80,8 @@ impl Baggage {
 
     /// Returns the value of the key, or `None` if no member has the key.
     ///
-    /// Doesn't allocate. Compares the keys one by one if there are at most four members, and
-    /// otherwise finds the key by its hash.
+    /// Doesn't allocate. Compares the keys one by one until there are more than four members, and
+    /// from then on finds the key by its hash.
     pub fn get(&self, key: &str) -> Option<&StringValue>
         ensures { option_copied result ≡ get self.now key.now }
     {

@@ -8,40 +8,35 @@ ghost use Rattle.std.specs.Option.{option_copied};
 ghost use Rattle.std.specs.Str.{bytes_eq};
 ghost use Rattle.indexmap.specs.IndexMap.{insert_entry};
 ghost use Rattle.otel_context.specs.BaggageView.{lent_entry};
-ghost use Rattle.otel_context.specs.Names.{entries_of, text_of};
 
+mod few;
+mod many;
+
+use self::few::Few;
+use self::many::Many;
 use super::metadata::BaggageMetadata;
-use crate::names::{Name, is_same};
-use indexmap::{IndexMap, map};
 use otel_base::{Key, StringValue};
 use std::alloc::{AllocError, Global};
 use std::fmt;
 use std::marker::Model;
 
-/// The maximum number of members for which a look-up walks. Otherwise, it finds a key by its hash.
-/// A walk over so few is faster than a hash.
-const WALKED: usize = 4;
-
 /// Keys, each with a value and metadata, in insertion order.
-///
-/// The keys of the map are names, each made from an owned key. A look-up uses a name that borrows a
-/// text, so it doesn't allocate: a map of `'static` names may be used as one of names with the
-/// lifetime of that text. Such a name needs no impl of the map's trait for look-ups.
 #[derive(Drop)]
 pub struct Members {
-    map: IndexMap<Name<'static>, (StringValue, BaggageMetadata)>,
+    // The members, until there are too many to walk. Empty if there are members in `many`.
+    few: Few,
+    many: Many,
 }
 
 impl Model for Members {
-    ghost use Rattle.std.specs.Prelude.{List};
+    ghost use Rattle.std.specs.Prelude.{◌≡◌, ◌<◌, ◌++◌, List, [], length};
     ghost use Rattle.otel_context.specs.BaggageView.{Entry};
-    ghost use Rattle.otel_context.specs.Names.{entries_of, AreHeld};
 
     ghost Value = { List Entry };
 
-    ghost view = { λ m. entries_of m.map.entries };
+    ghost view = { λ m. m.few ++ m.many };
 
-    ghost invariant = { λ m. AreHeld m.map.entries };
+    ghost invariant = { λ m. 0 < length m.many → m.few ≡ [] };
 }
 
 impl Members {
@@ -50,7 +45,8 @@ impl Members {
         ensures { result ≡ [] }
     {
         Members {
-            map: IndexMap::new(alloc),
+            few: Few::new(alloc),
+            many: Many::new(alloc),
         }
     }
 
@@ -58,22 +54,33 @@ impl Members {
     pub fn len(&self) -> usize
         ensures { result ≡ length self.now }
     {
-        self.map.len()
+        if self.many.len() > 0 {
+            self.many.len()
+        } else {
+            self.few.len()
+        }
     }
 
     /// Returns the index of the key, if present.
     pub fn index_of(&self, key: &str) -> Option<usize>
         ensures { result ≡ position (bytes_eq key.now) (keys_of self.now) }
     {
-        index_of(&self.map, key)
+        if self.many.len() > 0 {
+            self.many.index_of(key)
+        } else {
+            self.few.index_of(key)
+        }
     }
 
     /// Returns the value and the metadata at the index, or `None` if the index is out of range.
     pub fn pair_at(&self, index: usize) -> Option<&(StringValue, BaggageMetadata)>
         ensures { option_copied result ≡ option_map (λ e. e.1) (slice_get self.now index) }
     {
-        let (_, pair) = self.map.get_index(index)?;
-        Some(pair)
+        if self.many.len() > 0 {
+            self.many.pair_at(index)
+        } else {
+            self.few.pair_at(index)
+        }
     }
 
     /// Sets the value and the metadata of the key. Returns the old ones. A present key keeps its
@@ -93,8 +100,13 @@ impl Members {
         ensures absent { OnErr result (lookup (bytes_eq key) self.old ≡ None) }
         ensures distinct { IsDistinct bytes_eq (keys_of self.new) }
     {
-        let old = self.map.insert(Name::Held(key), pair)?;
-        Ok(old)
+        if self.many.len() == 0 {
+            if self.few.takes(key.as_str()) {
+                return self.few.insert(key, pair);
+            }
+            self.many.take(&mut self.few)?;
+        }
+        self.many.insert(key, pair)
     }
 
     /// Removes the member at the index, and returns it. Later members move down.
@@ -103,10 +115,10 @@ impl Members {
         ensures entries { self.new ≡ remove self.old index }
         ensures distinct { IsDistinct bytes_eq (keys_of self.new) }
     {
-        let (name, pair) = self.map.shift_remove_index(index)?;
-        match name {
-            Name::Held(key) => Some((key, pair)),
-            Name::Asked(_) => unreachable!(),
+        if self.many.len() > 0 {
+            self.many.remove_at(index)
+        } else {
+            self.few.remove_at(index)
         }
     }
 
@@ -116,65 +128,38 @@ impl Members {
         ensures runs { ShowsInOrder lent_entry }
     {
         Entries {
-            entries: self.map.iter(),
+            few: self.few.as_slice(),
+            many: self.many.iter(),
         }
     }
 }
 
-/// Returns the index of the key, if present.
-fn index_of<'a>(
-    map: &'a IndexMap<Name<'a>, (StringValue, BaggageMetadata)>,
-    key: &'a str,
-) -> Option<usize>
-    ensures { result ≡ position (bytes_eq key.now) (keys_of (entries_of map.now.entries)) }
-{
-    if map.len() <= WALKED {
-        walk(map, key)
-    } else {
-        find(map, key)
-    }
-}
-
-/// Returns the index of the key, if present, by its hash. Not inlined, so that a walk stays short.
-#[inline(never)]
-fn find<'a>(
-    map: &'a IndexMap<Name<'a>, (StringValue, BaggageMetadata)>,
-    key: &'a str,
-) -> Option<usize>
-    ensures { result ≡ position (bytes_eq key.now) (keys_of (entries_of map.now.entries)) }
-{
-    map.get_index_of(&Name::Asked(key))
-}
-
-/// Returns the index of the key, if present, by comparing keys one by one.
-fn walk(map: &IndexMap<Name<'_>, (StringValue, BaggageMetadata)>, key: &str) -> Option<usize>
-    ensures { result ≡ position (λ n. bytes_eq key.now (text_of n)) (keys_of map.now.entries) }
-{
-    map.keys().position(|name| is_same(key, name.as_str()))
-}
-
 impl fmt::Debug for Members {
     fn fmt<W: fmt::Write>(&self, f: &mut fmt::Formatter<W>) -> fmt::Result {
-        fmt::Debug::fmt(&self.map, f)
+        let mut out = f.debug_map();
+        for (key, pair) in self.iter() {
+            out.entry(key, pair);
+        }
+        out.finish()
     }
 }
 
 /// An iterator over [`Members`]. Contracts see it as the list of the remaining members.
 #[derive(Debug, Drop)]
 pub struct Entries<'a> {
-    entries: map::Iter<'a, Name<'static>, (StringValue, BaggageMetadata)>,
+    few: &'a [(Key, (StringValue, BaggageMetadata))],
+    many: many::Iter<'a>,
 }
 
 impl<'a> Model for Entries<'a> {
-    ghost use Rattle.std.specs.Prelude.{List};
+    ghost use Rattle.std.specs.Prelude.{◌≡◌, ◌<◌, ◌++◌, List, [], length};
     ghost use Rattle.otel_context.specs.BaggageView.{Entry};
-    ghost use Rattle.otel_context.specs.Names.{entries_of, AreHeld};
 
     ghost Value = { List Entry };
 
-    ghost view = { λ i. entries_of i.entries };
+    ghost view = { λ i. i.few.now ++ i.many };
 
-    ghost invariant = { λ i. AreHeld i.entries };
+    ghost invariant = { λ i. 0 < length i.many → i.few.now ≡ [] };
 }
 
 impl<'a> Entries<'a> {
@@ -182,7 +167,11 @@ impl<'a> Entries<'a> {
     pub fn len(&self) -> usize
         ensures { result ≡ length self.now }
     {
-        self.entries.len()
+        if self.many.len() > 0 {
+            self.many.len()
+        } else {
+            self.few.len()
+        }
     }
 }
 
@@ -200,11 +189,11 @@ impl<'a> Iterator for Entries<'a> {
     ghost remaining = { λ s. at_most (length s) };
 
     fn next(&mut self) -> Option<(&'a Key, &'a (StringValue, BaggageMetadata))> {
-        let (name, pair) = self.entries.next()?;
-        match name {
-            Name::Held(key) => Some((key, pair)),
-            Name::Asked(_) => unreachable!(),
+        if let Some((first, others)) = self.few.split_first() {
+            self.few = others;
+            return Some((&first.0, &first.1));
         }
+        self.many.next()
     }
 
     fn size_hint(&self) -> (usize, Option<usize>)

@@ -1,7 +1,7 @@
 use Rattle.std.proofs.Common.{subst}
 use Rattle.otel_context.specs.Names.{IsHeld, Named}
 use Rattle.otel_context.proofs.NameLemmas.{held_first}
-use Rattle.otel_context.proofs.baggage.members.EntriesIterator.next.Goals as goal
+use Rattle.otel_context.proofs.baggage.members.many.IterIterator.next.Goals as goal
 
 pub unreachable-requires : goal.unreachable-requires
 unreachable-requires c =

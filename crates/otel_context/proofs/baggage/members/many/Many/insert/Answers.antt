@@ -5,7 +5,7 @@ use Rattle.indexmap.specs.IndexMap.{insert_entry}
 use Rattle.otel_context.specs.declared.names.Name.TheVariants.{Held}
 use Rattle.otel_context.specs.Names.{entries_of, AreHeld}
 use Rattle.otel_context.proofs.NameLemmas.{lookup_is, distinct_is, insert_is, held_insert}
-use Rattle.otel_context.proofs.baggage.members.Members.insert.Goals as goal
+use Rattle.otel_context.proofs.baggage.members.many.Many.insert.Goals as goal
 
 pub returns-in_err-old-clause-absent : goal.returns-in_err-old-clause-absent
 returns-in_err-old-clause-absent c =

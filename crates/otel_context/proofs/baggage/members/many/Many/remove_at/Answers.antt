@@ -5,7 +5,7 @@ use Rattle.std.proofs.lemmas.Option.{slice_get-map}
 use Rattle.indexmap.proofs.SetLemmas.{map-remove}
 use Rattle.otel_context.specs.Names.{text_of, IsHeld, entry_of, entries_of, AreHeld}
 use Rattle.otel_context.proofs.NameLemmas.{distinct_is, held_remove, held_at}
-use Rattle.otel_context.proofs.baggage.members.Members.remove_at.Goals as goal
+use Rattle.otel_context.proofs.baggage.members.many.Many.remove_at.Goals as goal
 
 pub returns-in_err-name-clause-distinct : goal.returns-in_err-name-clause-distinct
 returns-in_err-name-clause-distinct c = distinct_is c.shift_remove_index.new.self.entries c.shift_remove_index.ensures.unique
