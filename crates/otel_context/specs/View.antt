@@ -14,12 +14,11 @@ use Rattle.otel_base.specs.AnyValue.{Tree}
 use Rattle.otel_base.specs.View.{tree_code}
 use Rattle.otel_base.specs.View.{tree}
 use Rattle.otel_context.specs.BaggageMember.{Member, member_code}
-use Rattle.otel_context.specs.Context.{EntryMap, SpanPart, ContextRecord, empty_context}
+use Rattle.otel_context.specs.Context.{EntryMap, SpanPart, ContextRecord}
 use Rattle.otel_context.specs.Slots.{SlotsState}
 use Rattle.otel_context.specs.Spans.{SpansState}
 use Rattle.otel_context.specs.Stack.{Live, StackState}
 use Rattle.otel_context.specs.declared.context.entries.Entry.{Entry}
-use Rattle.otel_context.specs.declared.context.contents.ActiveSpan.{ActiveSpan}
 use Rattle.otel_context.specs.declared.span.spans.Slot.{Slot}
 
 -- each key with the tree of its value
@@ -38,14 +37,9 @@ IsRising entries = T (is_sorted (slice_cmp nat_cmp) (pairs entries))
 abbrev pub entries_seen : List (Rc Entry Global) → EntryMap
 entries_seen entries = from_entries (pairs entries)
 
--- the active span, from its fields
-abbrev pub span_part : ActiveSpan → SpanPart
-span_part span = record { context = span.context; number = span.number }
-
--- the context of these contents
-abbrev pub record_of : Option (Rc ContextRecord Global) → ContextRecord
-record_of None = empty_context
-record_of (Some contents) = contents.value
+-- the same context, without an active span
+abbrev pub without_span : ContextRecord → ContextRecord
+without_span context = record context { span = None }
 
 -- a code of entries: the one of the map's pairs
 abbrev pub entries_code : Coded EntryMap

@@ -1,31 +1,20 @@
 //! The contents of a context, which may be shared.
-ghost use Rattle.std.specs.Prelude.{◌≡◌, ◌↔◌, IsTrue, IfOk, Some, option_map};
+ghost use Rattle.std.specs.Prelude.{◌≡◌, ◌↔◌, IsTrue, IfOk, option_map};
 ghost use Rattle.otel_base.specs.View.{tree};
 ghost use Rattle.otel_context.specs.Context.{empty_context, get, with_value, with_baggage};
-ghost use Rattle.otel_context.specs.Context.{with_cleared_baggage, has_active_span, span_number};
-ghost use Rattle.otel_context.specs.Context.{with_remote_span_context, is_telemetry_suppressed};
+ghost use Rattle.otel_context.specs.Context.{with_cleared_baggage, is_telemetry_suppressed};
 ghost use Rattle.otel_context.specs.Context.{with_telemetry_suppressed};
-ghost use Rattle.otel_context.specs.Context.{with_span};
-ghost use Rattle.otel_context.specs.View.{span_part};
+ghost use Rattle.otel_context.specs.View.{without_span};
 
 use super::entries::Entries;
 use crate::baggage::Baggage;
 use otel_base::{AnyValue, Key};
-use otel_ids::SpanContext;
 use std::alloc::{AllocError, Global};
 use std::marker::Model;
 use std::rc::Rc;
 
-/// The active span.
-#[derive(Drop)]
-struct ActiveSpan {
-    context: SpanContext,
-    // The number of a local span in its span table, or `None` for a remote span.
-    number: Option<u64>,
-}
-
-/// The contents of a context: named entries, a baggage, the active span, and whether telemetry is
-/// suppressed.
+/// The contents of a context: named entries, a baggage, and whether telemetry is suppressed. They
+/// have no active span.
 ///
 /// Immutable. Each `with_` method returns new contents that differ in one part and share the
 /// others, or an error if out of memory.
@@ -33,15 +22,13 @@ struct ActiveSpan {
 pub struct Contents {
     entries: Entries,
     baggage: Option<Rc<Baggage>>,
-    span: Option<Rc<ActiveSpan>>,
     suppressed: bool,
 }
 
 impl Model for Contents {
-    ghost use Rattle.std.specs.Prelude.{option_map};
+    ghost use Rattle.std.specs.Prelude.{None, option_map};
     ghost use Rattle.otel_context.specs.Context.{ContextRecord};
     ghost use Rattle.otel_context.specs.View.{context_code};
-    ghost use Rattle.otel_context.specs.View.{span_part};
 
     ghost Value = { ContextRecord };
 
@@ -50,13 +37,13 @@ impl Model for Contents {
     ghost view = { λ c. record {
       entries = c.entries;
       baggage = option_map (λ b. b.value) c.baggage;
-      span = option_map (λ s. span_part s.value) c.span;
+      span = None;
       suppressed = c.suppressed;
     } };
 }
 
 impl Contents {
-    /// Returns no entry, no baggage, no span, and telemetry that isn't suppressed. Doesn't
+    /// Returns no entry, no baggage, and telemetry that isn't suppressed. Doesn't
     /// allocate.
     pub fn new(alloc: Global) -> Contents
         ensures { result ≡ empty_context }
@@ -64,7 +51,6 @@ impl Contents {
         Contents {
             entries: Entries::new(alloc),
             baggage: None,
-            span: None,
             suppressed: false,
         }
     }
@@ -88,7 +74,6 @@ impl Contents {
         let contents = Contents {
             entries: self.entries.with(alloc, key, value)?,
             baggage: self.baggage.clone()?,
-            span: self.span.clone()?,
             suppressed: self.suppressed,
         };
         Ok(Rc::new(alloc, contents)?)
@@ -124,92 +109,16 @@ impl Contents {
 
     /// Returns `true` if the contents hold nothing but a baggage.
     pub fn has_only_baggage(&self) -> bool
-        ensures { IsTrue result ↔ (with_cleared_baggage self.now ≡ empty_context) }
+        ensures { IsTrue result ↔ (with_cleared_baggage (without_span self.now) ≡ empty_context) }
     {
-        self.entries.is_empty() && self.span.is_none() && !self.suppressed
+        self.entries.is_empty() && !self.suppressed
     }
 
     /// Returns `true` if the contents hold nothing.
     pub fn is_empty(&self) -> bool
-        ensures { IsTrue result ↔ (self.now ≡ empty_context) }
+        ensures { IsTrue result ↔ (without_span self.now ≡ empty_context) }
     {
         self.has_only_baggage() && self.baggage.is_none()
-    }
-
-    /// Returns `true` if a span is active.
-    pub fn has_active_span(&self) -> bool
-        ensures { result ≡ has_active_span self.now }
-    {
-        self.span.is_some()
-    }
-
-    /// Returns the span context of the active span.
-    pub fn span_context(&self) -> Option<&SpanContext>
-        ensures { option_map (λ s. s.now) result
-            ≡ option_map (λ span. span.context) self.now.span }
-    {
-        match &self.span {
-            Some(span) => Some(&span.as_ref().context),
-            None => None,
-        }
-    }
-
-    /// Returns the number of the active span in its span table, or `None` for a remote span.
-    pub fn span_number(&self) -> Option<u64>
-        ensures { result ≡ span_number self.now }
-    {
-        match &self.span {
-            Some(span) => span.number,
-            None => None,
-        }
-    }
-
-    /// Returns contents whose active span is remote.
-    pub fn with_remote_span_context(
-        &self,
-        alloc: Global,
-        span_context: SpanContext,
-    ) -> Result<Rc<Contents>, AllocError>
-        ensures { IfOk result (λ c. c.value ≡ with_remote_span_context self.now span_context) }
-    {
-        self.with_active_span(
-            alloc,
-            ActiveSpan {
-                context: span_context,
-                number: None,
-            },
-        )
-    }
-
-    /// Returns contents whose active span is local, with the given number in its span table.
-    pub fn with_span(
-        &self,
-        alloc: Global,
-        span_context: SpanContext,
-        number: u64,
-    ) -> Result<Rc<Contents>, AllocError>
-        ensures { IfOk result (λ c. c.value ≡ with_span self.now span_context number) }
-    {
-        self.with_active_span(
-            alloc,
-            ActiveSpan {
-                context: span_context,
-                number: Some(number),
-            },
-        )
-    }
-
-    /// Returns contents with the given active span.
-    fn with_active_span(&self, alloc: Global, span: ActiveSpan) -> Result<Rc<Contents>, AllocError>
-        ensures { IfOk result (λ c. c.value ≡ record self.now { span = Some (span_part span) }) }
-    {
-        let contents = Contents {
-            entries: self.entries.clone()?,
-            baggage: self.baggage.clone()?,
-            span: Some(Rc::new(alloc, span)?),
-            suppressed: self.suppressed,
-        };
-        Ok(Rc::new(alloc, contents)?)
     }
 
     /// Returns `true` if telemetry is suppressed.
@@ -236,7 +145,6 @@ impl Clone for Contents {
         Ok(Contents {
             entries: self.entries.clone()?,
             baggage: self.baggage.clone()?,
-            span: self.span.clone()?,
             suppressed: self.suppressed,
         })
     }

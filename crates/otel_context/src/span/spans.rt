@@ -171,8 +171,8 @@ impl<S: Drop> Spans<S> {
     /// Inserts a span under the next number. Returns that number. The time doesn't depend on the
     /// size of the table, except for an insert that grows it.
     ///
-    /// `get`, `get_mut` and `take` need at most the time of a binary search, except for a take that
-    /// drops what many earlier ones emptied.
+    /// `get`, `get_mut` and `take` take at most the time of a binary search. Now and then, a `take`
+    /// goes over the whole table.
     ///
     /// # Errors
     ///

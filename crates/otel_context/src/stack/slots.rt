@@ -10,7 +10,7 @@ ghost use Rattle.otel_context.specs.Slots.{live_of};
 mod slot_vec;
 
 use self::slot_vec::{Neighbors, SlotVec};
-use crate::context::{Context, into_contents, of_contents, replace_contents};
+use crate::context::{Context, into_shared, of_shared, replace_shared};
 use std::alloc::{AllocError, Global};
 use std::marker::Model;
 
@@ -88,7 +88,7 @@ impl Slots {
         let newest = self.newest();
         let position = newest + 1;
         self.slots.set_live(position, newest)?;
-        let below = replace_contents(&mut self.current, into_contents(context));
+        let below = replace_shared(&mut self.current, into_shared(context));
         self.slots.cover(newest, below, position);
         self.slots.set_older(0, position);
         Ok(position)
@@ -108,13 +108,13 @@ impl Slots {
             return None;
         };
         if newer > 0 {
-            let contents = self.slots.uncover(position);
+            let shared = self.slots.uncover(position);
             self.slots.unlink(position, older, newer);
-            return Some(of_contents(contents));
+            return Some(of_shared(shared));
         }
         self.slots.unlink(position, older, newer);
         let below = self.slots.uncover(older);
-        let contents = replace_contents(&mut self.current, below);
-        Some(of_contents(contents))
+        let shared = replace_shared(&mut self.current, below);
+        Some(of_shared(shared))
     }
 }

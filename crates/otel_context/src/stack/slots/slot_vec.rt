@@ -2,27 +2,26 @@
 //!
 //! Each call reads or changes only the slots at the given positions, which must be live. There are
 //! two exceptions: `ask` returns whether its position is live and counts the query; `set_live`
-//! writes a slot that isn't live, and returns nothing of its old contents.
+//! writes a slot that isn't live, and returns nothing of its old parts.
 ghost use Rattle.std.specs.Prelude.{◌≡◌, ◌+◌, ◌<◌, ◌≤◌, ◌∷◌, [], true, false, length, IfOk};
 ghost use Rattle.std.specs.Prelude.{IfSome, IfNone, OnSome, OnOk, OnErr};
 ghost use Rattle.otel_context.specs.Links.{put, set_slot, slot_at, live_at, older_at, newer_at};
-ghost use Rattle.otel_context.specs.Links.{contents_at, base_slot, live_slot, unlinked};
+ghost use Rattle.otel_context.specs.Links.{shared_at, base_slot, live_slot, unlinked};
 ghost use Rattle.otel_context.specs.Links.{covered, uncovered, with_older};
 ghost use Rattle.otel_context.specs.Stack.{last_position};
 
-use crate::context::Contents;
+use crate::context::Shared;
 use crate::stack::counter::Counter;
 use std::alloc::{AllocError, Global};
 use std::marker::Model;
 use std::mem::{self, size_of};
-use std::rc::Rc;
 
 /// The slot of a position.
 #[derive(Drop)]
 struct Slot {
-    // The contents of the context that is live here. For the newest position, they are stored
-    // beside the slots. A slot that isn't live has none, so it keeps no context alive.
-    contents: Option<Rc<Contents>>,
+    // What the context that is live here shares. For the newest position, it is stored beside the
+    // slots. A slot that isn't live has nothing, so it keeps no context alive.
+    shared: Shared,
     is_live: bool,
     // The next lower live position, or 0. At position 0: the newest.
     older: u16,
@@ -75,7 +74,7 @@ impl SlotVec {
     {
         let mut slots = Vec::with_capacity(alloc, capacity + 1)?;
         slots.push(Slot {
-            contents: None,
+            shared: Shared::Nothing,
             is_live: true,
             older: 0,
             newer: 0,
@@ -114,7 +113,7 @@ impl SlotVec {
             slot.newer = 0;
         } else {
             self.slots.push(Slot {
-                contents: None,
+                shared: Shared::Nothing,
                 is_live: true,
                 older,
                 newer: 0,
@@ -123,15 +122,15 @@ impl SlotVec {
         Ok(())
     }
 
-    /// Sets the contents of a live position's slot, and the next higher live position.
-    pub fn cover(&mut self, position: u16, contents: Option<Rc<Contents>>, newer: u16)
+    /// Sets the parts in a live position's slot, and the next higher live position.
+    pub fn cover(&mut self, position: u16, shared: Shared, newer: u16)
         requires { live_at self.old.items position ≡ true }
         ensures { self.new ≡ record self.old {
-          items = set_slot self.old.items position (covered contents newer);
+          items = set_slot self.old.items position (covered shared newer);
         } }
     {
         let slot = &mut self.slots[position as usize];
-        slot.contents = contents;
+        slot.shared = shared;
         slot.newer = newer;
     }
 
@@ -159,15 +158,15 @@ impl SlotVec {
         self.slots[newer as usize].older = older;
     }
 
-    /// Takes the contents out of a live position's slot.
-    pub fn uncover(&mut self, position: u16) -> Option<Rc<Contents>>
+    /// Takes the parts out of a live position's slot.
+    pub fn uncover(&mut self, position: u16) -> Shared
         requires { live_at self.old.items position ≡ true }
-        ensures given { result ≡ contents_at self.old.items position }
+        ensures given { result ≡ shared_at self.old.items position }
         ensures left { self.new ≡ record self.old {
           items = set_slot self.old.items position uncovered;
         } }
     {
-        mem::replace(&mut self.slots[position as usize].contents, None)
+        mem::replace(&mut self.slots[position as usize].shared, Shared::Nothing)
     }
 
     /// Returns the neighbors of a position, or `None` if it isn't live.

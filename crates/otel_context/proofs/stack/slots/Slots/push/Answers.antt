@@ -38,7 +38,7 @@ set_older-requires c =
     let m = c.newest-newest.result in
     let is : m ≡ older_at xs 0 = c.newest-newest.ensures.newest ∙ sym (ap (λ (s : SlotsState). newest_position (live_of s)) c.self.view_is) ∙ linked-newest now xs c.self.invariant in
     let covered = ap (λ (s : SlotVecState). s.items) c.cover.ensures in
-    base-stays now xs c.set_live.new.self.items c.cover.new.self.items m (m + 1) c.replace_contents-below.result c.in_ok-set_live.ensures.live covered c.self.invariant is refl
+    base-stays now xs c.set_live.new.self.items c.cover.new.self.items m (m + 1) c.replace_shared-below.result c.in_ok-set_live.ensures.live covered c.self.invariant is refl
 
 pub invariant_of-self-2 : goal.invariant_of-self-2
 invariant_of-self-2 c =
@@ -49,8 +49,8 @@ invariant_of-self-2 c =
     let low : m < last_position = omega (arith, c.requires, c.newest-newest.ensures.newest) in
     let covered = ap (λ (s : SlotVecState). s.items) c.cover.ensures in
     let joined = ap (λ (s : SlotVecState). s.items) c.set_older.ensures in
-    push-linked now c.replace_contents-below.new.context xs c.set_live.new.self.items c.cover.new.self.items c.set_older.new.self.items m (m + 1) c.replace_contents-below.result
-    c.in_ok-set_live.ensures.live covered joined c.self.invariant is refl low c.replace_contents-below.ensures.given
+    push-linked now c.replace_shared-below.new.context xs c.set_live.new.self.items c.cover.new.self.items c.set_older.new.self.items m (m + 1) c.replace_shared-below.result
+    c.in_ok-set_live.ensures.live covered joined c.self.invariant is refl low c.replace_shared-below.ensures.given
 
 pub returns-clause-live : goal.returns-clause-live
 returns-clause-live c =
@@ -61,8 +61,8 @@ returns-clause-live c =
     let low : m < last_position = omega (arith, c.requires, c.newest-newest.ensures.newest) in
     let covered = ap (λ (s : SlotVecState). s.items) c.cover.ensures in
     let joined = ap (λ (s : SlotVecState). s.items) c.set_older.ensures in
-    push-live now c.replace_contents-below.new.context xs c.set_live.new.self.items c.cover.new.self.items c.set_older.new.self.items m (m + 1) c.replace_contents-below.result
-    c.in_ok-set_live.ensures.live covered joined c.self.invariant is refl low c.replace_contents-below.ensures.given
-    ∙ ap (λ (s : SlotsState). live_of s ++ (m + 1, c.replace_contents-below.new.context) ∷ []) c.self.view_is
-    ∙ ap (λ (r : ContextRecord). live_of c.args.self.now ++ (m + 1, r) ∷ []) (c.replace_contents-below.ensures.replaced ∙ c.into_contents.ensures)
+    push-live now c.replace_shared-below.new.context xs c.set_live.new.self.items c.cover.new.self.items c.set_older.new.self.items m (m + 1) c.replace_shared-below.result
+    c.in_ok-set_live.ensures.live covered joined c.self.invariant is refl low c.replace_shared-below.ensures.given
+    ∙ ap (λ (s : SlotsState). live_of s ++ (m + 1, c.replace_shared-below.new.context) ∷ []) c.self.view_is
+    ∙ ap (λ (r : ContextRecord). live_of c.args.self.now ++ (m + 1, r) ∷ []) (c.replace_shared-below.ensures.replaced ∙ c.into_shared.ensures)
     ∙ ap (λ n. live_of c.args.self.now ++ (n + 1, c.args.context) ∷ []) c.newest-newest.ensures.newest
