@@ -225,12 +225,61 @@ static void fills(void) {
     CALL(OTEL_STATUS_OK, otel_baggage_set_all(&context, members, 64, &changed, &failed));
     CALL(OTEL_STATUS_OK, otel_baggage_length(&changed, &count));
     check(count == 64, "64 members");
+    /* Keys that are there need no place. */
+    CALL(OTEL_STATUS_OK, otel_baggage_set_all(&changed, members, 64, &context, &failed));
+    CALL(OTEL_STATUS_REFUSED, otel_baggage_set_all(&changed, members + 63, 2, &context, &failed));
+    check(failed == 1, "the member after one that is there");
+    otel_free(&context);
+    otel_free(&changed);
+}
+
+/* The bytes of all members count, and those of a member that another takes the place of don't. */
+static void fills_bytes(void) {
+    static char text[8191];
+    otel_member members[] = {MEMBER("k", "", ""), MEMBER("j", "", ""), MEMBER("k", "", "")};
+    otel_handle context = OTEL_NOTHING, changed = OTEL_NOTHING;
+    size_t failed = 9;
+    memset(text, 'v', sizeof text);
+    members[0].value = text;
+    members[0].value_length = sizeof text;
+    CALL(OTEL_STATUS_OK, otel_context_new(&context));
+    CALL(OTEL_STATUS_REFUSED, otel_baggage_set_all(&context, members, 3, &changed, &failed));
+    check(failed == 1 && changed.object == NULL, "the member that is too much");
+    members[1] = members[2];
+    CALL(OTEL_STATUS_OK, otel_baggage_set_all(&context, members, 2, &changed, NULL));
+    members[1] = members[0];
+    CALL(OTEL_STATUS_OK, otel_baggage_set_all(&changed, members, 3, &context, NULL));
+    injects(&context, "baggage", "k=");
+    otel_free(&context);
+    otel_free(&changed);
+}
+
+/* Gives what otel_baggage_set gives for one member after another. */
+static void sets_in_turn(void) {
+    static const otel_member many[] = {
+        MEMBER("a", "1", "p"), MEMBER("b", "2 ", ""), MEMBER("a", "3", ""), MEMBER("c", "", " q=r "),
+        MEMBER("b", "\xe2\x82\xac", "s"), MEMBER("old", "4", ""),
+    };
+    static char one[256], all[256];
+    otel_handle context = OTEL_NOTHING, changed = OTEL_NOTHING, moved;
+    size_t at, one_length = 0, all_length = 0;
+    extract(&context, "baggage", "old=0;m,older=0");
+    CALL(OTEL_STATUS_OK, otel_baggage_set_all(&context, many, 6, &changed, NULL));
+    CALL(OTEL_STATUS_OK, otel_context_baggage(&changed, all, sizeof all, &all_length));
+    for (at = 0; at < sizeof many / sizeof *many; at++) {
+        CALL(OTEL_STATUS_OK, otel_baggage_set(&context, many[at].key, many[at].key_length,
+             many[at].value, many[at].value_length, many[at].metadata, many[at].metadata_length,
+             &changed));
+        moved = context, context = changed, changed = moved;
+    }
+    CALL(OTEL_STATUS_OK, otel_context_baggage(&context, one, sizeof one, &one_length));
+    check(one_length == all_length && memcmp(one, all, one_length) == 0, "members set in turn");
     otel_free(&context);
     otel_free(&changed);
 }
 
 static void (*const runs[])(void) = {reads, sets, removes, refuses, limits,
-                                     sets_all, refuses_all, fills};
+                                     sets_all, refuses_all, fills, fills_bytes, sets_in_turn};
 
 int main(void) {
     return ends(runs, sizeof runs / sizeof *runs);

@@ -70,6 +70,10 @@ fn put_texts(alloc: Global, baggage: &mut Baggage, given: &MemberTexts) -> Resul
 
 /// Puts each of the members into the baggage, in order. Writes the position of the last one that it
 /// tries.
+///
+/// # Errors
+///
+/// The error of [`put_texts`] for that one. The members before it are in the baggage.
 fn put_all(
     alloc: Global,
     baggage: &mut Baggage,
@@ -86,7 +90,12 @@ fn put_all(
     Ok(())
 }
 
-/// Returns a copy of the context with each of the members in its baggage.
+/// Returns a copy of the context with each of the members in its baggage, in linear time: the
+/// baggage is copied once.
+///
+/// # Errors
+///
+/// As for [`put_all`], and `NoMemory` if out of memory.
 fn with_all(
     alloc: Global,
     context: &Context,
@@ -136,6 +145,12 @@ fn set_all(
 
 /// Puts the context with each of the members in its baggage, in order, into the other handle, and
 /// frees the object that this held. Writes the position of the first member that is refused.
+///
+/// # Errors
+///
+/// If a member is refused, the number of the status that `otel_baggage_set` would return for it
+/// after the members before it: `NotText`, `Unsendable`, `Key` or `Refused`. `Invalid` if the first
+/// handle holds no context. `NoMemory` if out of memory. Both handles are unchanged.
 #[unsafe(no_mangle)]
 pub extern "C" fn otel_baggage_set_all(
     alloc: Global,
