@@ -1,11 +1,11 @@
 -- The model of a `Tracing`, and the effects of its calls. Not in the Rust crate, where the stack of
 -- a thread and a global provider hold these parts.
 use Rattle.std.specs.Prelude.{◌≡◌, ◌⊎◌, ℕ, ◌+◌, ◌<◌, ◌==◌, Bool, true, false, List, [], ◌∷◌, ◌++◌}
-use Rattle.std.specs.Prelude.{Option, Some, None, Result, IsErrAnd, IsTrue, OnOk, OnErr}
+use Rattle.std.specs.Prelude.{Option, Some, None, Result, IsErrAnd, IsOk, IsTrue, OnOk, OnErr}
 use Rattle.std.specs.Prelude.{if◌then◌else◌}
 use Rattle.std.specs.Prelude.{MatchBool}
 use Rattle.std.specs.Result.{result_map_both}
-use Rattle.std.specs.Option.{unwrap_or}
+use Rattle.std.specs.Option.{option_map_or, unwrap_or}
 use Rattle.std.specs.List.{list_any}
 use Rattle.otel_context.specs.Context.{ContextRecord, span_number, with_span}
 use Rattle.otel_context.specs.Spans as table
@@ -19,6 +19,7 @@ use Rattle.otel_sdk.specs.Ended.{AreCollected, of}
 use Rattle.otel_sdk.specs.Journal.{AllArrived, EndsOnce, LosesNone, found, sampled_of}
 use Rattle.otel_sdk.specs.LiveState.{LiveState, with_started, with_changed, with_ended}
 use Rattle.otel_sdk.specs.Processor.{ProcessorState}
+use Rattle.otel_sdk.specs.SpanChange.{records_at}
 use Rattle.otel_sdk.specs.declared.trace.live.Entered.{Entered}
 use Rattle.otel_sdk.specs.declared.trace.tracing.Attached.{Attached}
 use Rattle.otel_sdk.specs.declared.trace.tracing.NotEntered.{NotEntered}
@@ -213,6 +214,12 @@ module _ {P E : Type 0} where
   with_current_changed change t =
       record t { spans = changed_if (span_number (current t)) change t.spans }
 
+  -- whether the active span of the current context is a local one and records; if not, a change of
+  -- it never fails
+  abbrev pub current_records : TracingState P E → Bool
+  current_records t =
+      option_map_or (λ number. records_at number t.spans.spans) (span_number (current t)) false
+
   -- The clock gave a moment, at which the event was added to the current span, if there is one; or
   -- no span changed, for want of memory (`Tracing::add_event`).
   pub record AddsEvent {X : Type 0} (name : List ℕ) (attributes : List Attribute)
@@ -221,6 +228,7 @@ module _ {P E : Type 0} where
     pub ok : OnOk answer (new
         ≡ with_current_changed (λ span. after_event span name moment attributes) (at moment old))
     pub err : OnErr answer (new ≡ at moment old)
+    pub idle : current_records old ≡ false → IsOk answer
 
   -- ---- work in a span
 

@@ -26,6 +26,11 @@ pub enum Instead {
 }
 
 impl fmt::Display for Instead {
+    ghost use Rattle.std.specs.Prelude.{Some};
+    ghost use Rattle.otel_sdk.specs.EnvWarnings.{instead_text};
+
+    ghost output = { λ instead. Some (instead_text instead) };
+
     fn fmt<W: fmt::Write>(&self, f: &mut fmt::Formatter<W>) -> fmt::Result {
         match self {
             Instead::Number(number) => write!(f, "{number} counts instead"),
@@ -53,6 +58,10 @@ pub struct EnvWarning {
 }
 
 impl fmt::Display for EnvWarning {
+    ghost use Rattle.otel_sdk.specs.EnvWarnings.{warning_text};
+
+    ghost output = { warning_text };
+
     fn fmt<W: fmt::Write>(&self, f: &mut fmt::Formatter<W>) -> fmt::Result {
         let value = self.value.as_str();
         write!(f, "{} can't be {value:?}: {}", self.name, self.instead)

@@ -1,8 +1,9 @@
 //! Changes to a span before its end, and its end.
-ghost use Rattle.std.specs.Prelude.{◌≡◌, Some, OnOk, OnErr, MatchBool};
+ghost use Rattle.std.specs.Prelude.{◌≡◌, Some, false, IsOk, OnOk, OnErr, MatchBool};
 ghost use Rattle.otel_context.specs.SpanCalls.{after_effect};
 ghost use Rattle.otel_sdk.specs.SpanEnd.{EndsNow, EndsNothing};
-ghost use Rattle.otel_sdk.specs.SpanChange.{change_of};
+ghost use Rattle.otel_sdk.specs.SpanChange.{change_of, records_at};
+ghost use Rattle.otel_sdk_span.specs.Span.{is_recording};
 
 use opentelemetry::trace::{Span, SpanContext, Spans, Status};
 use opentelemetry::{KeyValue, StringValue};
@@ -38,6 +39,7 @@ pub(crate) fn make_change(
 ) -> Result<(), AllocError>
     ensures ok { OnOk result (span.new ≡ change_of change span.old) }
     ensures err { OnErr result (span.new ≡ span.old) }
+    ensures idle { is_recording span.old ≡ false → IsOk result }
 {
     match change {
         SpanChange::SetAttribute(attribute) => span.set_attribute(alloc, attribute),
@@ -72,6 +74,7 @@ pub(crate) fn change_in(
     ensures ok { OnOk result
         (spans.new ≡ after_effect (change_of change) spans.old (Some number)) }
     ensures err { OnErr result (spans.new ≡ spans.old) }
+    ensures idle { records_at number spans.old ≡ false → IsOk result }
 {
     match spans.get_mut(number) {
         Some(span) => make_change(alloc, span, change),

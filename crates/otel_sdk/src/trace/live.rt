@@ -1,12 +1,12 @@
 //! The spans of a program until a processor collects them.
 ghost use Rattle.std.specs.Prelude.{◌≡◌, ◌<◌, ◌≤◌, false, [], OnOk, OnErr, IfOk, IfErr, IsErr};
-ghost use Rattle.std.specs.Prelude.{IsErrOf, IsTrue, None, Some, not, option_copied};
+ghost use Rattle.std.specs.Prelude.{IsErrOf, IsOk, IsTrue, None, Some, not, option_copied};
 ghost use Rattle.std.specs.Vec.{vec_capacity};
 ghost use Rattle.otel_context.specs.Context.{with_span};
 ghost use Rattle.otel_context.specs.Spans.{get, used_up};
 ghost use Rattle.otel_context.specs.Stack.{attach, current, last_position, newest_position};
 ghost use Rattle.otel_context.specs.declared.span.spans.SpanCause.TheVariants.{NumbersUsedUp};
-ghost use Rattle.otel_sdk.specs.SpanChange.{change_of};
+ghost use Rattle.otel_sdk.specs.SpanChange.{change_of, records_at};
 ghost use Rattle.otel_sdk.specs.LiveState.{no_spans, with_started, with_changed, with_ended};
 ghost use Rattle.otel_sdk_base.specs.Queue.{cause};
 ghost use Rattle.otel_sdk_base.specs.declared.error.OTelSdkError.TheVariants.{AlreadyShutdown};
@@ -215,6 +215,7 @@ impl LiveSpans {
     ) -> Result<(), AllocError>
         ensures ok { OnOk result (self.new ≡ with_changed (change_of change) number self.old) }
         ensures err { OnErr result (self.new ≡ self.old) }
+        ensures idle { records_at number self.old.spans ≡ false → IsOk result }
     {
         change_in(alloc, &mut self.spans, number, change)
     }

@@ -1,5 +1,5 @@
 //! One value that traces a program: its tracer, contexts, spans and processor.
-ghost use Rattle.std.specs.Prelude.{◌≡◌, false, length, IfOk, IfErr, OnErr};
+ghost use Rattle.std.specs.Prelude.{◌≡◌, false, length, IfOk, IfErr, IsErrOf, OnErr};
 ghost use Rattle.otel_context.specs.Stack.{newest_position, last_position};
 ghost use Rattle.otel_context.specs.Spans.{used_up};
 ghost use Rattle.opentelemetry.specs.SpanBuilder.{from_name};
@@ -203,6 +203,9 @@ impl<P: Pipeline, E: SpanExporter> Tracing<P, E> {
             → self.old.spans.spans.next_number ≡ used_up) }
         ensures positions { IfErr result (λ error. error ≡ PositionsUsedUp
             → newest_position self.old.contexts ≡ last_position) }
+        ensures full { self.old.is_disabled ≡ false
+            → newest_position self.old.contexts ≡ last_position
+            → IsErrOf result PositionsUsedUp }
     {
         self.enter_with(SpanBuilder::from_name(StringValue::from(name)))
     }
@@ -221,6 +224,9 @@ impl<P: Pipeline, E: SpanExporter> Tracing<P, E> {
             → self.old.spans.spans.next_number ≡ used_up) }
         ensures positions { IfErr result (λ error. error ≡ PositionsUsedUp
             → newest_position self.old.contexts ≡ last_position) }
+        ensures full { self.old.is_disabled ≡ false
+            → newest_position self.old.contexts ≡ last_position
+            → IsErrOf result PositionsUsedUp }
     {
         if self.is_disabled() {
             return Ok(Entered {
@@ -241,6 +247,8 @@ impl<P: Pipeline, E: SpanExporter> Tracing<P, E> {
             → self.old.spans.spans.next_number ≡ used_up) }
         ensures positions { IfErr result (λ error. error ≡ PositionsUsedUp
             → newest_position self.old.contexts ≡ last_position) }
+        ensures full { newest_position self.old.contexts ≡ last_position
+            → IsErrOf result PositionsUsedUp }
     {
         if self.stack.newest_position() == LAST_POSITION {
             return Err(NotEntered::PositionsUsedUp);

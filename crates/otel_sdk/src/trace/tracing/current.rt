@@ -1,9 +1,9 @@
 //! The calls of a `Tracing` on its current span.
-ghost use Rattle.std.specs.Prelude.{◌≡◌, OnOk, OnErr};
+ghost use Rattle.std.specs.Prelude.{◌≡◌, false, IsOk, OnOk, OnErr};
 ghost use Rattle.otel_base.specs.View.{attribute_of};
 ghost use Rattle.otel_context.specs.SpanEffects.{attributes_of};
 ghost use Rattle.otel_sdk.specs.SpanChange.{change_of};
-ghost use Rattle.otel_sdk.specs.Tracing.{AddsEvent, with_current_changed};
+ghost use Rattle.otel_sdk.specs.Tracing.{AddsEvent, current_records, with_current_changed};
 ghost use Rattle.otel_sdk_span.specs.Span.{after_attribute, after_link, after_name, after_status};
 
 use super::Tracing;
@@ -24,6 +24,7 @@ impl<P: Pipeline, E: SpanExporter> Tracing<P, E> {
         ensures ok { OnOk result (self.new ≡ with_current_changed
             (λ span. after_attribute span (attribute_of attribute)) self.old) }
         ensures err { OnErr result (self.new ≡ self.old) }
+        ensures idle { current_records self.old ≡ false → IsOk result }
     {
         self.change(SpanChange::SetAttribute(attribute))
     }
@@ -57,6 +58,7 @@ impl<P: Pipeline, E: SpanExporter> Tracing<P, E> {
         ensures ok { OnOk result (self.new ≡ with_current_changed
             (λ span. after_link span span_context (attributes_of attributes)) self.old) }
         ensures err { OnErr result (self.new ≡ self.old) }
+        ensures idle { current_records self.old ≡ false → IsOk result }
     {
         self.change(SpanChange::AddLink(span_context, attributes))
     }
@@ -71,6 +73,7 @@ impl<P: Pipeline, E: SpanExporter> Tracing<P, E> {
         ensures ok { OnOk result (self.new
             ≡ with_current_changed (λ span. after_status span status) self.old) }
         ensures err { OnErr result (self.new ≡ self.old) }
+        ensures idle { current_records self.old ≡ false → IsOk result }
     {
         self.change(SpanChange::SetStatus(status))
     }
@@ -84,6 +87,7 @@ impl<P: Pipeline, E: SpanExporter> Tracing<P, E> {
         ensures ok { OnOk result (self.new
             ≡ with_current_changed (λ span. after_name span name) self.old) }
         ensures err { OnErr result (self.new ≡ self.old) }
+        ensures idle { current_records self.old ≡ false → IsOk result }
     {
         self.change(SpanChange::UpdateName(name))
     }
@@ -96,6 +100,7 @@ impl<P: Pipeline, E: SpanExporter> Tracing<P, E> {
     pub(super) fn change(&mut self, change: SpanChange) -> Result<(), AllocError>
         ensures ok { OnOk result (self.new ≡ with_current_changed (change_of change) self.old) }
         ensures err { OnErr result (self.new ≡ self.old) }
+        ensures idle { current_records self.old ≡ false → IsOk result }
     {
         match self.stack.current().span_number() {
             Some(number) => self.journal.change(self.alloc, number, change),

@@ -1,6 +1,6 @@
 //! The spans of a `Tracing`, from their start to the exporter.
 ghost use Rattle.std.specs.Prelude.{◌≡◌, ◌<◌, [], ◌∷◌, false, length, IfOk, IfErr, OnOk, OnErr};
-ghost use Rattle.std.specs.Prelude.{IsTrue};
+ghost use Rattle.std.specs.Prelude.{IsOk, IsTrue};
 ghost use Rattle.otel_context.specs.Spans.{used_up};
 ghost use Rattle.otel_context.specs.Stack.{attach, last_position, newest_position};
 ghost use Rattle.otel_context.specs.declared.span.spans.SpanCause.TheVariants.{NumbersUsedUp};
@@ -8,7 +8,7 @@ ghost use Rattle.otel_sdk.specs.Ended.{AreCollected, of};
 ghost use Rattle.otel_sdk.specs.Journal as spec;
 ghost use Rattle.otel_sdk.specs.Journal.{IsSound, innermost_closed, opened};
 ghost use Rattle.otel_sdk.specs.LiveState.{with_changed};
-ghost use Rattle.otel_sdk.specs.SpanChange.{change_of};
+ghost use Rattle.otel_sdk.specs.SpanChange.{change_of, records_at};
 ghost use Rattle.otel_sdk.specs.Tracing as tracing_spec;
 ghost use Rattle.otel_sdk.specs.Tracing.{SameSpans, context_with, innermost_of, next_entered};
 ghost use Rattle.otel_sdk_base.specs.Queue.{IsForceFlushed, IsShutDown, cause};
@@ -155,6 +155,7 @@ impl<E: SpanExporter> Journal<E> {
           spans = with_changed (change_of change) number self.old.spans;
         }) }
         ensures err { OnErr result (self.new ≡ self.old) }
+        ensures idle { records_at number self.old.spans.spans ≡ false → IsOk result }
     {
         let _ = self.live.ended();
         self.live.change(alloc, number, change)

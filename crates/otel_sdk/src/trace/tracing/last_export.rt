@@ -1,5 +1,5 @@
 //! The last export of a `Tracing`, which is tried again for some time.
-ghost use Rattle.std.specs.Prelude.{◌≡◌, ◌-◌, ◌<◌, ◌≤◌, ℕ, IsTrue, OnOk};
+ghost use Rattle.std.specs.Prelude.{◌≡◌, ◌≢◌, ◌-◌, ◌<◌, ◌≤◌, ℕ, IsTrue, OnOk, false};
 ghost use Rattle.otel_sdk.specs.LastExport as spec;
 ghost use Rattle.otel_sdk.specs.LastExport.{Finishes, IsLast};
 ghost use Rattle.otel_sdk.specs.Tracing.{HasArrived, IsDone};
@@ -42,7 +42,8 @@ struct Timer {
 impl Timer {
     /// Returns a timer that starts now.
     fn new<C: Clock>(clock: &C, millis: u32) -> Timer
-        ensures { result.left ≡ spec.nanos_of millis }
+        ensures shown { C.reads clock.now result.last }
+        ensures left { result.left ≡ spec.nanos_of millis }
     {
         Timer {
             last: clock.now(),
@@ -52,8 +53,10 @@ impl Timer {
 
     /// Reads the clock. Returns `true` if it shows a later moment than before.
     fn read<C: Clock>(&mut self, clock: &C) -> bool
+        ensures shown { C.reads clock.now self.new.last }
         ensures passed { self.new.left ≡ self.old.left - (self.new.last - self.old.last) }
         ensures later { IsTrue result → self.old.last < self.new.last }
+        ensures still { result ≡ false → self.new.last ≤ self.old.last }
     {
         let now = clock.now();
         let passed = now.saturating_sub(self.last);
@@ -67,6 +70,8 @@ impl Timer {
     fn wait<C: Clock>(&mut self, clock: &C) -> bool
         ensures waited { IsTrue result → self.new.left ≤ self.old.left - PAUSE }
         ensures less { IsTrue result → self.new.left < self.old.left }
+        ensures stopped { result ≡ false → self.old.left ≢ 0
+            → self.old.left - PAUSE < self.new.left }
     {
         if self.left == 0 {
             return false;

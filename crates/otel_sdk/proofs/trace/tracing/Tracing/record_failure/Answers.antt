@@ -1,4 +1,4 @@
-use Rattle.std.proofs.Common.{◌≡◌, ◌∙◌, ap, codes, inr, refl, rules, sym}
+use Rattle.std.proofs.Common.{◌≡◌, ◌∙◌, ap, codes, inl, inr, refl, rules, sym, Err, Ok, OnErr, Result}
 use Rattle.std.proofs.lemmas.Result.{on_ok_weaker, on_err_weaker}
 use Rattle.otel_context.specs.SpanEffects.{attributes_of, message}
 use Rattle.otel_context.specs.declared.span.status.Status.TheVariants.{Error}
@@ -52,3 +52,19 @@ returns-clause-err g c = on_err_weaker c.change-2.result (λ e.
             ∙ ap (λ (t : TracingState g.row.P.Denot g.row.E.Denot). with_exception_in c.args.number c.from-text.result c.read-now.result t.spans) c.self.view_is,
       );
     }) c.change-2.ensures.err
+
+on_err : {T X P : Type 0} (r : Result T X) → P → OnErr r P
+on_err (Ok x) p = tt
+on_err (Err e) p = p
+
+pub returns-in_err-change-clause-err : goal.returns-in_err-change-clause-err
+returns-in_err-change-clause-err g c =
+    let unchanged : c.change.new.self ≡ c.self.inside.journal = c.in_err-change.ensures.err in
+    on_err c.from_residual-in_err-change.result (record {
+      moment = c.read-now.result;
+      same = changed-state (λ _. c.change.new.self.spans) _ c.self.inside.stack.live c.self.inside.journal c.change.new.self
+          c.self.inside.moments c.read-now.new.self c.self.inside.unrecorded c.self.inside.is_disabled c.args.self.now c.read-now.result c.self.view_is
+          c.read-now.ensures.listed (unchanged ∙ (λ i. record c.self.inside.journal { spans = (sym unchanged i).spans }));
+      spans = inl (ap (λ (j : JournalState g.row.E.Denot). j.spans) unchanged
+          ∙ ap (λ (t : TracingState g.row.P.Denot g.row.E.Denot). t.spans) c.self.view_is);
+    })

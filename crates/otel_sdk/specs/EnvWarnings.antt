@@ -1,0 +1,30 @@
+-- What a warning about the text of an environment variable prints.
+use Rattle.std.specs.Prelude.{◌≡◌, List, ℕ, ◌++◌, codes, Option, Some, refl}
+use Rattle.std.specs.Fmt.{◌++?◌, debug_escape, debug_str, decimal}
+use Rattle.otel_sdk.specs.EnvTexts.{warning}
+use Rattle.otel_sdk.specs.declared.env.warning.EnvWarning.{EnvWarning}
+use Rattle.otel_sdk.specs.declared.env.warning.Instead.{Instead}
+use Rattle.otel_sdk.specs.declared.env.warning.Instead.TheVariants as to
+
+-- what counts instead
+abbrev pub instead_text : Instead → List ℕ
+instead_text (to.Number n) = decimal n ++ codes " counts instead"
+instead_text to.NoLimit = codes "there is no limit"
+instead_text to.Nothing = codes "it is left out"
+instead_text to.False = codes "false counts instead"
+instead_text to.ParentBasedAlwaysOn = codes "parentbased_always_on counts instead"
+instead_text to.Otlp = codes "otlp counts instead"
+instead_text to.HttpJson = codes "http/json counts instead"
+
+-- the variable's name, its text, quoted and escaped, and what counts instead; it says nothing of a
+-- text that isn't ASCII
+abbrev pub warning_text : EnvWarning → Option (List ℕ)
+warning_text w =
+    Some w.name ++? Some (codes " can't be ") ++? debug_str w.value
+    ++? Some (codes ": ") ++? Some (instead_text w.instead)
+
+-- ---- worked rows
+quoted_example : warning_text (warning (codes "A") (codes "-1\"") to.NoLimit)
+    ≡ Some (codes "A can't be \"-1\\\"\": there is no limit")
+unfolding debug_escape
+quoted_example = refl
