@@ -1,5 +1,6 @@
 -- The effects of calls of log processors.
-use Rattle.std.specs.Prelude.{◌≡◌, ◌&&◌, ◌⊎◌, ℕ, List, false, not, if◌then◌else◌, codes}
+use Rattle.std.specs.Prelude.{◌≡◌, ◌&&◌, ◌⊎◌, ◌+◌, ◌-◌, ◌^◌, ℕ, List, false, not, if◌then◌else◌}
+use Rattle.std.specs.Prelude.{codes, min}
 use Rattle.std.specs.Prelude.{Option, option_map, Result, Err, string_bytes}
 use denote.Ref.{Bor}
 use Rattle.otel_context.specs.Context.{ContextRecord, is_telemetry_suppressed, span_context}
@@ -66,3 +67,10 @@ abbrev pub IsProcessorsAnswer : (Result (Unit {0}) OTelSdkError → Type 0) → 
     → Result (Unit {0}) OTelSdkError → Type 0
 IsProcessorsAnswer may_answer is_at_work answer = may_answer answer
     ⊎ (is_at_work × ((error : OTelSdkError) × SaysAtWork error × (answer ≡ Err error)))
+
+-- The count is of the records that didn't reach the processor and of those that it dropped, up to
+-- the greatest `u64`. While the processor is at work, it is only of the former.
+abbrev pub CountsDropped : (ℕ → Type 0) → (ℕ → Type 0) → Type 0 → ℕ → Type 0
+CountsDropped may_have_missed may_have_dropped is_at_work count = (missed : ℕ) × (dropped : ℕ)
+    × may_have_missed missed × (may_have_dropped dropped ⊎ (is_at_work × (dropped ≡ 0)))
+    × (count ≡ min (missed + dropped) (2 ^ 64 - 1))

@@ -47,6 +47,10 @@ pub trait RecordIntake: LogProcessor {
 
     ghost may_show: { ℕ → Type 0 };
 
+    ghost may_have_missed: { ℕ → Type 0 };
+
+    ghost may_have_dropped: { ℕ → Type 0 };
+
     /// Receives a record, as [`LogProcessor::on_emit`].
     fn take(&mut self, given: LogData)
         ensures taken { is_taken given }
@@ -111,6 +115,21 @@ pub trait RecordIntake: LogProcessor {
     fn show<C: Clock>(clock: &C) -> u64
         ensures shown { may_show result }
         ensures read { C.reads clock.now result };
+
+    /// Returns the number of records that didn't reach the processor.
+    fn missed(missed: &Cell<u64>) -> u64
+        ensures { may_have_missed result };
+
+    /// Returns the number of dropped records, as [`LogProcessor::dropped_records`].
+    fn dropped(&self) -> u64
+        ensures shown { may_have_dropped result }
+        ensures dropped { result ≡ (Self.received self.now).dropped };
+
+    /// Returns 0 in place of the number of records that a processor at work dropped. The error is
+    /// of the attempt to borrow it.
+    fn dropped_unseen(error: BorrowError) -> u64
+        ensures none { result ≡ 0 }
+        ensures at_work { is_at_work };
 }
 
 impl<P: LogProcessor> RecordIntake for P {
@@ -133,6 +152,10 @@ impl<P: LogProcessor> RecordIntake for P {
     ghost may_shut_down = { λ _. Unit {0} };
 
     ghost may_show = { λ _. Unit {0} };
+
+    ghost may_have_missed = { λ _. Unit {0} };
+
+    ghost may_have_dropped = { λ _. Unit {0} };
 
     fn take(&mut self, given: LogData) {
         self.on_emit(given);
@@ -175,5 +198,17 @@ impl<P: LogProcessor> RecordIntake for P {
 
     fn show<C: Clock>(clock: &C) -> u64 {
         clock.now()
+    }
+
+    fn missed(missed: &Cell<u64>) -> u64 {
+        missed.get()
+    }
+
+    fn dropped(&self) -> u64 {
+        self.dropped_records()
+    }
+
+    fn dropped_unseen(_error: BorrowError) -> u64 {
+        0
     }
 }

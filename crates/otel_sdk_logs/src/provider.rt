@@ -4,7 +4,7 @@ ghost use Rattle.std.specs.Prelude.{option_map};
 ghost use Rattle.std.specs.Option.{option_map_or, unwrap_or};
 ghost use Rattle.otel_sdk_base.specs.Resource.{merge, with_defaults};
 ghost use Rattle.otel_sdk_logs.specs.Attributes.{default_limits};
-ghost use Rattle.otel_sdk_logs.specs.Processor.{IsProcessorsAnswer};
+ghost use Rattle.otel_sdk_logs.specs.Processor.{CountsDropped, IsProcessorsAnswer};
 
 use crate::export::LogData;
 use crate::intake::RecordIntake;
@@ -82,16 +82,17 @@ impl<P: RecordIntake, C> LoggerProviderInner<P, C> {
             Err(error) => Err(P::refusal(self.alloc, error)),
         }
     }
-}
 
-impl<P: LogProcessor, C> LoggerProviderInner<P, C> {
     /// Returns the number of records dropped here and by the processor.
-    fn dropped_records(&self) -> u64 {
-        let dropped = self.dropped_records.get();
-        match self.processor.try_borrow() {
-            Ok(processor) => dropped.saturating_add(processor.dropped_records()),
-            Err(_) => dropped,
-        }
+    fn dropped_records(&self) -> u64
+        ensures { CountsDropped P.may_have_missed P.may_have_dropped P.is_at_work result }
+    {
+        let missed = P::missed(&self.dropped_records);
+        let dropped = match self.processor.try_borrow() {
+            Ok(processor) => processor.dropped(),
+            Err(error) => P::dropped_unseen(error),
+        };
+        missed.saturating_add(dropped)
     }
 }
 
@@ -165,7 +166,9 @@ impl<P: RecordIntake, C: Clock> SdkLoggerProvider<P, C> {
 
     /// Returns the number of records that the processor dropped or that didn't reach it. If called
     /// from within the processor's own work, counts only records that didn't reach it.
-    pub fn dropped_records(&self) -> u64 {
+    pub fn dropped_records(&self) -> u64
+        ensures { CountsDropped P.may_have_missed P.may_have_dropped P.is_at_work result }
+    {
         self.inner.dropped_records()
     }
 
