@@ -1,5 +1,5 @@
 -- One turn of the loop over the pieces of a list of headers.
-use Rattle.std.proofs.Common.{◌≡◌, Bool, true, false, ℕ, ◌+◌, ◌<◌, ◌≤◌, List, length, take, get_or, fold, map, Option, Some, None, sym, ap, ◌∙◌, subst, Bor, Iter}
+use Rattle.std.proofs.Common.{◌≡◌, ◌⊎◌, inl, Bool, true, false, ℕ, ◌+◌, ◌<◌, ◌≤◌, List, length, take, get_or, fold, map, Option, Some, None, sym, ap, ◌∙◌, subst, Bor, Iter}
 use Rattle.std.specs.Prelude.{All, option_map}
 use Rattle.std.specs.Slice.Iter.{iter_rest, iter_steps}
 use Rattle.std.proofs.lemmas.List.{take_all, nil_from_length}
@@ -11,6 +11,7 @@ use Rattle.otel_base.specs.View.{attribute_of}
 use Rattle.otel_base.specs.declared.key_value.KeyValue.{KeyValue}
 use Rattle.otel_base.proofs.shared.Steps.{fold-take_more}
 use Rattle.otel_sdk_base.specs.ResourceTexts.{pieces}
+use Rattle.otel_otlp.specs.HttpConfig.{IfHeader}
 use Rattle.otel_otlp.specs.HttpTexts.{first, read, with_piece, IsRefused, NamesRead, NamesPiece}
 use Rattle.otel_otlp.specs.declared.otlp_http.config.ConfigError.{ConfigError}
 use Rattle.otel_otlp.specs.declared.otlp_http.config.ConfigError.TheVariants as error
@@ -48,3 +49,16 @@ named list n piece turn (error.Memory failed) is = tt
 pub first_is : (r : Option (Bor KeyValue)) (s t : Iter KeyValue) (all : List Attribute) → iter_steps s r t → map attribute_of (iter_rest s) ≡ all → option_map (λ (a : Bor KeyValue). attribute_of a.now) r ≡ first all
 first_is None s t all h e = sym (ap first (sym e ∙ ap (map attribute_of) (nil_from_length (iter_rest s) h.0)))
 first_is (Some x) s t all h e = ap first (ap (map attribute_of) (sym h) ∙ e)
+
+-- ---- errors that name a header
+pub header_if : (P : Type 0) (e : ConfigError) → P → IfHeader P e
+header_if P (error.Endpoint text) h = tt
+header_if P (error.Header text) h = h
+header_if P (error.HeaderList piece) h = tt
+header_if P (error.Memory failed) h = tt
+
+pub header_or : (P Q : Type 0) (e : ConfigError) → IfHeader P e → IfHeader (P ⊎ Q) e
+header_or P Q (error.Endpoint text) h = tt
+header_or P Q (error.Header text) h = inl h
+header_or P Q (error.HeaderList piece) h = tt
+header_or P Q (error.Memory failed) h = tt

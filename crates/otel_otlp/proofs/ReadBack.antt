@@ -1,25 +1,23 @@
 -- What one member says, and nothing else.
-use Rattle.std.proofs.Common.{◌≡◌, refl, sym, ap, subst, ◌∙◌, ℕ, zero, suc, ◌+◌, ◌<◌, ◌^◌, ◌==◌, arith}
+use Rattle.std.proofs.Common.{◌≡◌, refl, sym, ap, subst, ◌∙◌, ℕ, suc, ◌<◌, ◌^◌, ◌==◌, arith}
 use Rattle.std.proofs.Common.{ℤ, pos, negsuc, neg_ℤ, Bool, true, false, cond, if◌then◌else◌, drop}
-use Rattle.std.proofs.Common.{List, [], ◌∷◌, map, length, Option, Some, None, MatchOption, Ok, Result}
-use Rattle.std.proofs.Common.{option_and_then, option_map, decimal}
+use Rattle.std.proofs.Common.{List, [], ◌∷◌, map, length, Option, Some, None, MatchOption}
+use Rattle.std.proofs.Common.{option_and_then, decimal}
 use Rattle.std.proofs.lemmas.Bool.{ne_eqb}
-use Rattle.std.proofs.lemmas.Fmt.{decimal_is_IsNumeral, parse-signed_decimal}
+use Rattle.std.proofs.lemmas.Fmt.{decimal_is_IsNumeral}
 use Rattle.std.proofs.lemmas.List.Elements.{All-head, All-tail}
 use Rattle.std.proofs.lemmas.Str.Parse.{digit_from_value}
 use Rattle.std.specs.Fmt.{signed_decimal}
-use Rattle.std.specs.Int.{w64, w128, to_be_bytes, from_be_bytes}
 use Rattle.std.specs.Int.Signed.{mag}
 use Rattle.std.specs.List.{All, AllZip}
 use Rattle.std.specs.Str.{bytes_eq}
-use Rattle.std.specs.Str.Parse.{IsNumeral, AllDigits, digits_value, without_leading_plus, without_leading_sign, starts_with_minus, signed_digits_value}
-use Rattle.serde_json.specs.Data.{Data, string, number, unsigned, array, Members, no_members}
-use Rattle.serde_json.specs.Find.{get}
+use Rattle.std.specs.Str.Parse.{IsNumeral, digits_value, without_leading_plus, without_leading_sign, starts_with_minus, signed_digits_value}
+use Rattle.serde_json.specs.Data.{Data, string, number, unsigned, array, no_members}
 use Rattle.serde_json.specs.View.{items_of}
 use Rattle.otel_otlp.specs.HttpResponse.{IsCount}
 use Rattle.otel_otlp.specs.Json.{Member, object_of, text_member, text_unless_empty, number_unless_zero, list_unless_empty, text_if_given}
 use Rattle.otel_otlp.specs.ReadMembers as read
-use Rattle.otel_otlp.specs.ReadMembers.{unless_null, member_of, IsWideIn, IsNarrowIn, AreIn, list_in, items}
+use Rattle.otel_otlp.specs.ReadMembers.{unless_null, member_of, IsWideIn, IsNarrowIn, AreIn, list_in}
 use Rattle.otel_otlp.proofs.Found.{or_else-none, if_so, found, get_all}
 use Rattle.otel_otlp.proofs.LeftOut.{empty_is, zero_is}
 use Rattle.otel_otlp.proofs.ReadErrors.{some_same, one_wide}

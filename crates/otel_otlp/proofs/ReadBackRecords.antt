@@ -1,26 +1,25 @@
 -- What the events and links that the exporter writes are read as.
 use Rattle.std.proofs.Common.{◌≡◌, refl, sym, ap, subst, ◌∙◌, ℕ, ◌+◌, ◌/◌, ◌%◌, ◌<◌, ◌^◌, ◌==◌, arith}
-use Rattle.std.proofs.Common.{Bool, true, false, if◌then◌else◌, List, map, codes, Some, option_and_then}
-use Rattle.std.specs.List.{All}
+use Rattle.std.proofs.Common.{Bool, true, false, List, map, codes, Some, option_and_then}
 use Rattle.opentelemetry.specs.Event.{EventRecord, LinkRecord}
 use Rattle.otel_ids.specs.SpanContext.{SpanContextRecord}
 use Rattle.otel_ids.specs.TraceState.{IsState, header}
 use Rattle.otel_ids.specs.Laws.{cut_value}
 use Rattle.otel_ids.specs.Reading.{Reads}
 use Rattle.otel_ids.proofs.shared.Header.{header_reads, one_reading}
-use Rattle.serde_json.specs.Data.{Data, string, number, unsigned}
+use Rattle.serde_json.specs.Data.{string}
 use Rattle.serde_json.specs.Find.{as_str}
 use Rattle.otel_otlp.specs.Json.{Member, object_of, text_unless_empty, trace_id_text, span_id_text}
 use Rattle.otel_otlp.specs.Lossless.{IsContextInRange, IsEventInRange, IsLinkInRange}
 use Rattle.otel_otlp.specs.ReadBack.{IsHeldEvent, IsHeldLink, read_context, read_event, read_link}
-use Rattle.otel_otlp.specs.ReadMembers.{HasState, trace_id_of, span_id_of}
+use Rattle.otel_otlp.specs.ReadMembers.{trace_id_of, span_id_of}
 use Rattle.otel_otlp.specs.ReadTraces as spec
 use Rattle.otel_otlp.specs.Traces.{event, link, flags}
 use Rattle.otel_otlp.proofs.Found.{found}
 use Rattle.otel_otlp.proofs.OneRecord.{event_front, event_members, link_front, link_members, time_of, title_of, attributes_found, lost_found, linked_trace, linked_span, linked_flags, state_found, none_of_attributes, none_of_losses}
 use Rattle.otel_otlp.proofs.ReadBack.{Only, member_in, text_is, text_left_out, wide_is, narrow_is, number_left_out}
 use Rattle.otel_otlp.proofs.ReadBackValues.{trace_id_again, span_id_again, only_attributes}
-use Rattle.otel_otlp.proofs.ReadErrors.{some_same, one_wide}
+use Rattle.otel_otlp.proofs.ReadErrors.{some_same}
 
 -- ---- events
 pub only_event : (e : EventRecord) → IsEventInRange e × IsHeldEvent e

@@ -1,10 +1,9 @@
 -- What the spans that the exporter writes are read as.
-use Rattle.std.proofs.Common.{◌≡◌, refl, sym, ap, subst, ◌∙◌, ℕ, ◌<◌, ◌^◌, ◌==◌, arith}
-use Rattle.std.proofs.Common.{Bool, true, false, if◌then◌else◌, List, [], ◌∷◌, ◌++◌, map, codes, length}
-use Rattle.std.proofs.Common.{Option, Some, None, MatchOption, option_and_then}
+use Rattle.std.proofs.Common.{◌≡◌, refl, sym, ap, subst, ◌∙◌, ℕ, ◌<◌, ◌^◌, ◌==◌}
+use Rattle.std.proofs.Common.{Bool, true, false, if◌then◌else◌, List, [], ◌++◌, map, codes, length}
+use Rattle.std.proofs.Common.{Option, Some, MatchOption, option_and_then}
 use Rattle.std.specs.List.{All}
 use Rattle.hex.proofs.HexLemmas.{decode_sized-encode_lower, decode_sized-ok}
-use Rattle.hex.specs.Hex.{encode_lower}
 use Rattle.std.specs.Int.{w64, to_be_bytes}
 use Rattle.otel_base.specs.InstrumentationScope.{Scope}
 use Rattle.otel_context.specs.declared.span.status.SpanKind.{SpanKind}
@@ -12,8 +11,8 @@ use Rattle.otel_context.specs.declared.span.status.SpanKind.TheVariants as kind
 use Rattle.otel_context.specs.declared.span.status.Status.{Status}
 use Rattle.otel_context.specs.declared.span.status.Status.TheVariants as status
 use Rattle.otel_sdk_span.specs.SpanData.{SpanRecord}
-use Rattle.serde_json.specs.Data.{Data, string, number, unsigned}
-use Rattle.otel_otlp.specs.Json.{Member, object_of, text_member, number_member, text_unless_empty, span_id_text}
+use Rattle.serde_json.specs.Data.{Data, number, unsigned}
+use Rattle.otel_otlp.specs.Json.{Member, text_member, number_member, text_unless_empty, span_id_text}
 use Rattle.otel_otlp.specs.Lossless.{told, IsEventInRange, IsLinkInRange}
 use Rattle.otel_otlp.specs.ReadBack.{IsHeld, IsHeldEvent, IsHeldLink, read_context, read_event, read_link, read_scope, read_span}
 use Rattle.otel_otlp.specs.ReadMembers.{member_of, unless_null, text_of, text_in, parent_id_of, parent_id_in, span_id_of, IsWideIn, IsNarrowIn, AreIn}

@@ -22,7 +22,8 @@ use Rattle.otel_otlp.specs.Trees.{cut, cut_trees, cut_entries}
 use Rattle.otel_otlp.proofs.ReadBack.{Only, integer_is, list_is}
 use Rattle.otel_otlp.proofs.ReadBackValues.{only_there}
 use Rattle.otel_otlp.proofs.ReadErrors.{some_same}
-use Rattle.otel_otlp.proofs.RisingEntries.{by_bytes, Rises, pairs_of, is_map, one_map}
+use Rattle.otel_base.proofs.MapTrees.{same_map}
+use Rattle.otel_otlp.proofs.RisingEntries.{by_bytes, Rises, pairs_of, is_map}
 
 -- ---- bytes
 bytes_again : (bs : List ℕ) → IsBytes bs → bytes_of (encode_of standard bs) ≡ Some bs
@@ -113,8 +114,8 @@ only_map Is es rises each =
     let in_list = only_in (IsPairOf Is) (entry_values es) (pairs_of es) each in
     let is = is_map es rises in (
       (pairs_of es, is, in_list.0),
-      λ t k. one_map (pairs_of es) t (any.map es)
-          (subst (λ ps. any.IsMapOf ps t) (in_list.1 k.0 k.2) k.1) is,
+      λ t k. same_map (pairs_of es) (pairs_of es) t (any.map es)
+          (subst (λ ps. any.IsMapOf ps t) (in_list.1 k.0 k.2) k.1) is (λ _. refl),
     )
 
 -- ---- cutting

@@ -1,11 +1,11 @@
 -- What the ids and the attributes that the exporter writes are read as.
-use Rattle.std.proofs.Common.{◌≡◌, refl, sym, ap, subst, ◌∙◌, ℕ, zero, suc, ◌<◌, ◌^◌, ◌==◌, ◌&&◌, not, arith}
-use Rattle.std.proofs.Common.{ℤ, Bool, true, false, List, [], ◌∷◌, ◌++◌, map, length, codes}
-use Rattle.std.proofs.Common.{Option, Some, None, MatchOption, option_and_then, option_map}
+use Rattle.std.proofs.Common.{◌≡◌, refl, sym, ap, subst, ◌∙◌, ℕ, suc, ◌<◌, ◌^◌, ◌&&◌, not, arith}
+use Rattle.std.proofs.Common.{ℤ, Bool, true, false, List, [], ◌∷◌, map, length, codes}
+use Rattle.std.proofs.Common.{Option, Some, MatchOption, option_map}
 use Rattle.std.specs.Prelude.{⊤}
 use Rattle.std.specs.Bool.{MatchBool}
 use Rattle.std.specs.Int.{w64, w128, to_be_bytes, from_be_bytes}
-use Rattle.std.specs.List.{All, AllZip, list_all}
+use Rattle.std.specs.List.{All, list_all}
 use Rattle.std.specs.Result.{result_ok}
 use Rattle.std.proofs.lemmas.Bool.{ne_eqb}
 use Rattle.std.proofs.lemmas.List.{map-id}
@@ -16,18 +16,16 @@ use Rattle.otel_base.specs.KeyValue.{Attribute}
 use Rattle.otel_base.specs.Value as value
 use Rattle.otel_base.specs.Value.{AttributeValue}
 use Rattle.otel_ids.proofs.shared.Numerals.{bytes_again}
-use Rattle.serde_json.specs.Data.{Data, boolean, string, array, object}
-use Rattle.serde_json.specs.View.{items_of}
-use Rattle.otel_otlp.specs.Common.{boolean_value, integer_value, text_value, list_value, array_values, any_value, key_value, attributes_member}
-use Rattle.otel_otlp.specs.Json.{Member, object_of, text_member, list_member, list_unless_empty, trace_id_text, span_id_text}
+use Rattle.serde_json.specs.Data.{Data}
+use Rattle.otel_otlp.specs.Common.{boolean_value, integer_value, text_value, array_values, any_value, key_value, attributes_member}
+use Rattle.otel_otlp.specs.Json.{Member, object_of, list_member, trace_id_text, span_id_text}
 use Rattle.otel_otlp.specs.Lossless.{IsInteger, IsArrayInRange, IsValueInRange, AreInRange, told_array, told_value, told}
-use Rattle.otel_otlp.specs.ReadMembers as read
 use Rattle.otel_otlp.specs.ReadMembers.{member_of, unless_null, list_in, AreIn, has, all_have, trace_id_of, span_id_of}
 use Rattle.otel_otlp.specs.ReadValues as spec
 use Rattle.otel_otlp.proofs.Found.{found}
 use Rattle.otel_otlp.proofs.Ids.{bytes_small}
 use Rattle.otel_otlp.proofs.OneAttribute.{anything}
-use Rattle.otel_otlp.proofs.ReadBack.{Only, only_some, member_in, integer_is, list_left_out, list_says}
+use Rattle.otel_otlp.proofs.ReadBack.{Only, only_some, integer_is, list_left_out, list_says}
 use Rattle.otel_otlp.proofs.ReadErrors.{some_same}
 use Rattle.otel_otlp.proofs.ReadLists as lists
 

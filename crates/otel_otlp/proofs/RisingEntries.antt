@@ -1,16 +1,13 @@
 -- The pairs of a map make that map, and no other.
-use Rattle.std.proofs.Common.{◌≡◌, ℕ, List, [], ◌∷◌, ◌&&◌, Bool, cond, if◌then◌else◌, T}
+use Rattle.std.proofs.Common.{◌≡◌, ℕ, List, [], ◌∷◌, Bool, if◌then◌else◌}
 use Rattle.std.proofs.Common.{Option, Some, None, nat_cmp, bytes_eq, refl, sym, ap, ◌∙◌, subst}
 use Rattle.std.specs.Cmp.Lexicographic.{slice_cmp, nat_list_eq_equiv}
-use Rattle.std.specs.FinMap.Entries.{find, is_sorted, below_all, same_entries}
 use Rattle.std.specs.List.{AllByRecursion}
 use Rattle.std.specs.List.Sorted.{IsStrictlySortedBy}
 use Rattle.std.specs.Option.{option_or}
-use Rattle.std.specs.Ordering.{is_eq, is_lt, match_ordering}
+use Rattle.std.specs.Ordering.{is_eq, match_ordering}
 use Rattle.std.specs.declared.cmp.Ordering.{Ordering}
 use Rattle.std.specs.declared.cmp.Ordering.TheVariants.{Less, Equal, Greater}
-use Rattle.std.proofs.Math.Facts.{yes_and}
-use Rattle.std.proofs.lemmas.Cmp.{nat_list_cmp_total}
 use Rattle.std.proofs.lemmas.Map.Lookups.{exact_bytes}
 use Rattle.std.proofs.lemmas.Map.Text.{is_eq-slice_cmp}
 use Rattle.otel_base.specs.AnyValue as any
@@ -69,36 +66,3 @@ last_in k (more_entries l t es) h =
 
 pub is_map : (es : Entries) → Rises es → IsMapOf (pairs_of es) (any.map es)
 is_map es h = record { entries = es; is = refl; rising = h; last_wins = λ k. last_in k es h }
-
--- ---- the trees at the keys determine the map
-by_cases : (o : Ordering) (a b : Option Tree) → match_ordering o a b a ≡ cond (is_eq o) b a
-by_cases Less a b = refl
-by_cases Equal a b = refl
-by_cases Greater a b = refl
-
-found : (k : List ℕ) (es : Entries) → entry_at k es ≡ find by_bytes k (pairs_of es)
-found k no_entries = refl
-found k (more_entries l t es) =
-    by_cases (by_bytes k l) (entry_at k es) (Some t)
-    ∙ ap (cond (is_eq (by_bytes k l)) (Some t)) (found k es)
-
-below : (k : List ℕ) (es : Entries) → Above k es → T (below_all by_bytes k (pairs_of es))
-below k no_entries h = tt
-below k (more_entries l t es) h =
-    subst (λ o. T (is_lt o && below_all by_bytes k (pairs_of es))) (sym h.0) (below k es h.1)
-
-sorted : (es : Entries) → Rises es → T (is_sorted by_bytes (pairs_of es))
-unfolding IsStrictlySortedBy
-sorted no_entries h = tt
-sorted (more_entries l t es) h = yes_and _ _ (below l es h.0) (sorted es h.1)
-
-pub one_map : (ps : List (List ℕ × Tree)) (s t : Tree) → IsMapOf ps s → IsMapOf ps t → s ≡ t
-one_map ps s t m n =
-    let at : (k : List ℕ)
-    → find by_bytes k (pairs_of m.entries) ≡ find by_bytes k (pairs_of n.entries) =
-    λ k. sym (found k m.entries) ∙ m.last_wins k ∙ sym (n.last_wins k) ∙ found k n.entries in
-    let pairs : pairs_of m.entries ≡ pairs_of n.entries =
-    same_entries by_bytes nat_list_cmp_total exact_bytes (pairs_of m.entries) (pairs_of n.entries)
-    (sorted m.entries m.rising) (sorted n.entries n.rising) at in
-    m.is ∙ ap any.map (sym (entries_again m.entries) ∙ ap entries_of pairs ∙ entries_again n.entries)
-    ∙ sym n.is

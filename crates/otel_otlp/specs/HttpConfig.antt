@@ -5,8 +5,10 @@ use Rattle.std.specs.Prelude.{length, take, slice_index, codes, string_bytes, if
 use Rattle.std.specs.Prelude.{refl}
 use Rattle.std.specs.Prelude.{All, eqb, is_some}
 use Rattle.std.specs.List.{ends_with}
-use Rattle.http_header.specs.HeaderMap.{Entries, insert}
-use Rattle.http_header.specs.FieldValue.{FieldValue, plain_value}
+use Rattle.http_header.specs.HeaderMap.{Entries, insert, RefusesInsert}
+use Rattle.http_header.specs.FieldName.{IsFieldName}
+use Rattle.http_header.specs.FieldValue.{FieldValue, plain_value, IsFieldValue}
+use Rattle.http_header.specs.Token.{lowercase}
 use Rattle.http_uri.specs.Uri.{Spells, uri_scheme, uri_path}
 use Rattle.http_uri.specs.declared.uri.Uri.{Uri}
 use Rattle.http.specs.declared.request.Parts.{Parts}
@@ -42,6 +44,22 @@ NamesHeader name (error.Endpoint text) = ⊥
 NamesHeader name (error.Header text) = string_bytes text ≡ name
 NamesHeader name (error.HeaderList piece) = ⊥
 NamesHeader name (error.Memory failed) = ⊤
+
+-- no configuration sets this header: it is the exporter's own, or its name or its value isn't one
+-- of a header
+abbrev pub IsRefusedHeader : List ℕ → List ℕ → Type 0
+IsRefusedHeader name value =
+    IsOwn (lowercase name) ⊎ (¬ (IsFieldName name) ⊎ ¬ (IsFieldValue value))
+
+-- the same; or these headers are too many for another name
+abbrev pub IsRefusedBy : Entries FieldValue → List ℕ → List ℕ → Type 0
+IsRefusedBy headers name value =
+    IsRefusedHeader name value ⊎ RefusesInsert headers (lowercase name)
+
+-- an error that names a header says so
+abbrev pub IfHeader : Type 0 → ConfigError → Type 0
+IfHeader P (error.Header text) = P
+IfHeader P other = ⊤
 
 -- the error names the endpoint, unless memory ran out
 abbrev pub NamesEndpoint : List ℕ → ConfigError → Type 0

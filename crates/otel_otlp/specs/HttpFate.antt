@@ -1,7 +1,7 @@
 -- The meaning of a collector's answer for the request that it answers [OpenTelemetry protocol,
 -- "OTLP/HTTP Response"].
 use Rattle.std.specs.Prelude.{◌≡◌, ℕ, ◌-◌, List, Option, Some, None, MatchOption, IfSome}
-use Rattle.std.specs.Prelude.{Ok, Err, option_map, String, string_bytes, codes}
+use Rattle.std.specs.Prelude.{Ok, Err, option_map, String, string_bytes, codes, is_some, true, []}
 use Rattle.std.specs.declared.alloc.Global.{Global}
 use Rattle.std.specs.Str.Parse.{without_leading_plus, digits_value}
 use Rattle.http.specs.Response.{head_of, body_of}
@@ -42,11 +42,12 @@ pub record IsAgain (now : ℕ) (response : Received) (refusal : Refusal) : Type 
   pub wait : IsAskedWait now response refusal.wait
 
 -- the meaning of a response whose status has this meaning; the name is that of the member with the
--- number of rejected items
+-- number of rejected items; a body without bytes can be read
 abbrev pub IsFateOf : List ℕ → ℕ → Received → StatusClass → Fate → Type 0
 IsFateOf name now response status.Taken f =
     (partial : Option Partial) × (f ≡ fate.Taken partial)
     × IfSome partial (IsReadFrom name (body_of response).items)
+    × ((body_of response).items ≡ [] → is_some partial ≡ true)
 IsFateOf name now response status.Again f =
     (refusal : Refusal) × (f ≡ fate.Stays refusal) × IsAgain now response refusal
 IsFateOf name now response status.Never f =

@@ -2,11 +2,11 @@
 -- trace/v1/trace_service.proto and logs/v1/logs_service.proto, `ExportTracePartialSuccess` and
 -- `ExportLogsPartialSuccess`].
 use Rattle.std.specs.Prelude.{◌≡◌, ◌<◌, ◌^◌, ℕ, List, [], ◌∷◌, Option, Some, None, MatchOption}
-use Rattle.std.specs.Prelude.{option_map, option_and_then, string_bytes, codes}
+use Rattle.std.specs.Prelude.{option_map, option_and_then, string_bytes, codes, is_some, true}
 use Rattle.std.specs.Option.{SomeIff}
 use Rattle.std.specs.Str.Parse.{without_leading_plus, IsNumeral, digits_value}
 use Rattle.serde_json.specs.Data.{Data, null, boolean, number, string, array, object}
-use Rattle.serde_json.specs.Find.{get, as_u64, as_str}
+use Rattle.serde_json.specs.Find.{get, as_u64, as_str, as_object}
 use Rattle.serde_json.specs.Read.{read}
 use Rattle.otel_otlp.specs.declared.otlp_http.response.Partial.{Partial}
 
@@ -46,10 +46,12 @@ HasMessage partial p =
 abbrev pub IsWhole : Partial → Type 0
 IsWhole p = (p.rejected ≡ 0) × (p.message ≡ None)
 
--- the object says this by its member `partialSuccess`; nothing was rejected if it isn't there
+-- it is an object, which says this by its member `partialSuccess`; nothing was rejected if that
+-- isn't there
 abbrev pub IsPartial : List ℕ → Data → Partial → Type 0
 IsPartial name d p =
-    MatchOption (get (codes "partialSuccess") d) (IsWhole p)
+    (is_some (as_object d) ≡ true)
+    × MatchOption (get (codes "partialSuccess") d) (IsWhole p)
     (λ partial. IsRejected name partial (Some p.rejected) × HasMessage partial p)
 
 -- the bytes say this; nothing was rejected if there are none

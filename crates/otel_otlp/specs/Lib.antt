@@ -25,6 +25,7 @@ pub mod HttpTally
 pub mod HttpExporter
 pub mod Pipes
 pub mod ReadMembers
+pub mod ReadErrors
 pub mod ReadValues
 pub mod ReadGroups
 pub mod ReadTraces

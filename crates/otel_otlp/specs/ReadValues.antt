@@ -1,7 +1,7 @@
 -- Attributes and their values, read from JSON whoever wrote it [OpenTelemetry protocol, "JSON
 -- Protobuf Encoding"; opentelemetry/proto/common/v1/common.proto].
 use Rattle.std.specs.Prelude.{◌≡◌, ℕ, ℤ, Bool, List, [], codes}
-use Rattle.std.specs.Prelude.{Option, Some, None, MatchOption, option_and_then}
+use Rattle.std.specs.Prelude.{Option, Some, MatchOption, option_and_then}
 use Rattle.std.specs.Option.{option_or}
 use Rattle.std.specs.Bool.{MatchBool}
 use Rattle.otel_base.specs.Array.{ArrayValue, booleans, integers, texts}

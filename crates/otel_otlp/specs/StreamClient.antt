@@ -2,7 +2,7 @@
 -- [RFC 9110; RFC 9112].
 use Rattle.std.specs.Prelude.{◌≡◌, ◌≤◌, ◌*◌, ℕ, Bool, true, false, List, [], ◌∷◌, ◌++◌, length}
 use Rattle.std.specs.Prelude.{Ok, Option, Some, None, option_map, unwrap_or, Vec, All, IsTrue}
-use Rattle.std.specs.Prelude.{map, fold, codes}
+use Rattle.std.specs.Prelude.{map, fold, codes, alloc_error}
 use Rattle.std.specs.Io.KnownBytes.{Consumes}
 use Rattle.std.specs.declared.alloc.Global.{Global}
 use Rattle.httparse.specs.Grammar.{print_request}
@@ -20,6 +20,8 @@ use Rattle.http.specs.Response as answered
 use Rattle.http1.specs.declared.client.Client.{Client}
 use Rattle.http1.specs.declared.conn.BodySize.TheVariants.{Known}
 use Rattle.http1.specs.declared.conn.Limits.{Limits}
+use Rattle.http1.specs.declared.error.WriteError.{WriteError}
+use Rattle.http1.specs.declared.error.WriteError.TheVariants.{OutOfMemory}
 use Rattle.http1.specs.Fields.{Header}
 use Rattle.http1.specs.Framing.{method_kind}
 use Rattle.http1.specs.Encoder.{encoder_for, AreAccepted}
@@ -33,6 +35,8 @@ use Rattle.http1.specs.ServerTrace.{SeenBody, no_body}
 use Rattle.http1.specs.ClientTrace.{SeenResponse, answer_view, Seen, Trace}
 use Rattle.http1_typed.specs.Parts.{fields_of, version_of}
 use Rattle.otel_otlp.specs.HttpClient.{Sent, Received}
+use Rattle.otel_otlp.specs.declared.otlp_http.client.HttpError.{HttpError}
+use Rattle.otel_otlp.specs.declared.otlp_http.client.HttpError.TheVariants.{Memory, Unreachable}
 use Rattle.otel_otlp.specs.declared.otlp_http.stream_client.source.Source.{Source}
 
 -- the limits of a response: 64 KiB for its head, 16 KiB for its trailers, and for its chunks'
@@ -68,6 +72,11 @@ initial reader writer = record {
 }
 
 -- ---- the request
+-- the error of a request that can't be written
+abbrev pub refusal_of : WriteError → HttpError
+refusal_of OutOfMemory = Memory alloc_error
+refusal_of refused = Unreachable
+
 -- the URI's host with its port, without the user; empty if the URI has none
 abbrev pub host_of : Uri → List ℕ
 host_of uri = unwrap_or (option_map (λ a. rsplit_once_back at_sign a) (uri_authority uri)) []

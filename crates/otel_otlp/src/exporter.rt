@@ -1,7 +1,8 @@
 //! An exporter that writes a line of JSON for each batch of spans or of log records.
 ghost use Rattle.std.specs.Prelude.{◌≡◌, ℕ, List, [], ◌∷◌, ◌++◌, true, false};
-ghost use Rattle.std.specs.Prelude.{IsTrue, IsOk, IfOk, OnOk, OnErr, IsErrOf, alloc_error};
+ghost use Rattle.std.specs.Prelude.{IsTrue, IsOk, IfOk, IfErr, OnOk, OnErr, IsErrOf, alloc_error};
 ghost use Rattle.std.specs.Rc.{rc_value};
+ghost use Rattle.otel_sdk_base.specs.Writers.{IsWritersError};
 ghost use Rattle.otel_otlp.specs.Exporter.{initial, with_pending_newline, Writes};
 ghost use Rattle.otel_otlp.specs.Exporter.{IsLineOf, IsCutOffLineOf};
 ghost use Rattle.otel_otlp.specs.Exporter.{RefusesIfShutDown, ForceFlushes, ShutsDown};
@@ -10,7 +11,7 @@ use crate::groups::{Grouped, batch_text};
 use crate::lines::Lines;
 use otel_sdk_base::error::{OTelSdkError, OTelSdkResult};
 use otel_sdk_base::resource::Resource;
-use otel_sdk_base::{Accepted, Exporter};
+use otel_sdk_base::{Accepted, Exporter, WriterCalls};
 use otel_sdk_logs::LogData;
 use otel_sdk_span::SpanData;
 use std::alloc::{AllocError, Global};
@@ -68,7 +69,7 @@ impl<W, R> Model for OtlpJsonExporter<W, R> {
 }
 
 // Writes the line of the batch, if it has items.
-fn write_batch<W: Write, R: Grouped>(
+fn write_batch<W: WriterCalls, R: Grouped>(
     lines: &mut Lines<W>,
     alloc: Global,
     resource: &Resource,
@@ -83,6 +84,7 @@ fn write_batch<W: Write, R: Grouped>(
     ensures memory { IsErrOf result (OTelSdkError.Memory alloc_error)
         → lines.new ≡ lines.old }
     ensures open { IsErrOf result OTelSdkError.AlreadyShutdown → ⊥ }
+    ensures failed { IfErr result (IsWritersError W.may_write) }
     ensures empty { batch.now ≡ [] → IsOk result }
 {
     if batch.is_empty() {
@@ -135,12 +137,12 @@ impl<W: Write, R> OtlpJsonExporter<W, R> {
     }
 }
 
-impl<W: Write + Drop, R: Grouped> Exporter<R> for OtlpJsonExporter<W, R> {
+impl<W: WriterCalls + Drop, R: Grouped> Exporter<R> for OtlpJsonExporter<W, R> {
     ghost use Rattle.otel_otlp.specs.Exporter.{exporter_calls};
 
     ghost accepted = { λ e. e.accepted };
 
-    ghost calls = { exporter_calls W.contents };
+    ghost calls = { exporter_calls W.contents W.may_write W.may_flush };
 
     /// Writes the batch as a line. Writes nothing for an empty batch.
     ///
@@ -156,6 +158,8 @@ impl<W: Write + Drop, R: Grouped> Exporter<R> for OtlpJsonExporter<W, R> {
         ensures refused { RefusesIfShutDown result self.old self.new }
         ensures memory { IsErrOf result (OTelSdkError.Memory alloc_error)
             → self.new ≡ self.old }
+        ensures failed { self.old.is_shut_down ≡ false
+            → IfErr result (IsWritersError W.may_write) }
         ensures empty { self.old.is_shut_down ≡ false → batch.now ≡ [] → IsOk result }
         ensures line { OnOk result ((line : List ℕ)
             × IsLineOf R.form self.old.resource batch.now line
@@ -184,7 +188,8 @@ impl<W: Write + Drop, R: Grouped> Exporter<R> for OtlpJsonExporter<W, R> {
     /// - `InternalFailure` if the writer failed. Its text is empty if out of memory.
     fn force_flush(&mut self) -> OTelSdkResult
         ensures same { self.new.accepted ≡ self.old.accepted }
-        ensures flushes { ForceFlushes W.contents result self.old self.new }
+        ensures flushes { ForceFlushes W.contents W.may_write W.may_flush
+            result self.old self.new }
     {
         if self.is_shut_down {
             return Err(OTelSdkError::AlreadyShutdown);
@@ -204,13 +209,15 @@ impl<W: Write + Drop, R: Grouped> Exporter<R> for OtlpJsonExporter<W, R> {
           lines = self.new.lines;
           is_shut_down = true;
         } }
-        ensures flushes { ShutsDown W.contents result self.old self.new }
+        ensures flushes { ShutsDown W.contents W.may_write W.may_flush
+            result self.old self.new }
     {
         if self.is_shut_down {
             return Err(OTelSdkError::AlreadyShutdown);
         }
+        let flushed = self.lines.flush(self.alloc);
         self.is_shut_down = true;
-        self.lines.flush(self.alloc)
+        flushed
     }
 
     /// Sets the resource that is written with later batches.

@@ -167,12 +167,14 @@ fn is_own(name: &HeaderName) -> bool
 }
 
 /// Returns the name and the value as those of a header.
+#[tactic(auto, using(crate::proofs::HeaderLists::header_if))]
 fn header(alloc: Global, name: &str, value: &str) -> Result<(HeaderName, HeaderValue), ConfigError>
     ensures ok { IfOk result (λ h. (h.0 ≡ lowercase name.now) × (h.1 ≡ plain_value value.now)) }
     ensures own { spec.IsOwn (lowercase name.now) → IsErr result }
     ensures name { ¬ (IsFieldName name.now) → IsErr result }
     ensures value { ¬ (IsFieldValue value.now) → IsErr result }
     ensures err { IfErr result (spec.NamesHeader name.now) }
+    ensures refused { IfErr result (spec.IfHeader (spec.IsRefusedHeader name.now value.now)) }
 {
     let key = match HeaderName::from_bytes(alloc, name.as_bytes()) {
         Ok(key) => key,
@@ -190,6 +192,7 @@ fn header(alloc: Global, name: &str, value: &str) -> Result<(HeaderName, HeaderV
 }
 
 /// Sets the header, in place of an earlier one of that name.
+#[tactic(auto, using(crate::proofs::HeaderLists::header_if, crate::proofs::HeaderLists::header_or))]
 fn put_header(
     alloc: Global,
     headers: &mut HeaderMap,
@@ -202,6 +205,8 @@ fn put_header(
     ensures name { ¬ (IsFieldName name.now) → IsErr result }
     ensures value { ¬ (IsFieldValue value.now) → IsErr result }
     ensures err { IfErr result (spec.NamesHeader name.now) }
+    ensures refused { IfErr result
+        (spec.IfHeader (spec.IsRefusedBy headers.old name.now value.now)) }
 {
     let (key, field) = header(alloc, name, value)?;
     match headers.insert(key, field) {
@@ -282,6 +287,8 @@ impl OtlpHttpConfig {
         ensures name { ¬ (IsFieldName name.now) → IsErr result }
         ensures value { ¬ (IsFieldValue value.now) → IsErr result }
         ensures err { IfErr result (spec.NamesHeader name.now) }
+        ensures refused { IfErr result
+            (spec.IfHeader (spec.IsRefusedBy self.headers name.now value.now)) }
     {
         put_header(alloc, &mut self.headers, name, value)?;
         Ok(self)

@@ -1,5 +1,6 @@
 //! Reads the body of a collector's response.
 ghost use Rattle.std.specs.Prelude.{◌≡◌, [], Some, IfOk, IfSome, codes, option_and_then};
+ghost use Rattle.std.specs.Prelude.{is_some, true};
 ghost use Rattle.std.specs.Prelude.{string_bytes, option_map};
 ghost use Rattle.serde_json.specs.View.{view};
 ghost use Rattle.serde_json.specs.Find.{get, as_str};
@@ -91,7 +92,8 @@ fn read_object(alloc: Global, value: &Value, name: &str) -> Option<Partial>
 /// has the number of rejected items. `None` if the body isn't readable: if it is no JSON object, if
 /// the number is none, or if out of memory.
 pub(crate) fn read_partial(alloc: Global, body: &[u8], name: &str) -> Option<Partial>
-    ensures { IfSome result (spec.IsReadFrom name.now body.now) }
+    ensures read { IfSome result (spec.IsReadFrom name.now body.now) }
+    ensures empty { body.now ≡ [] → is_some result ≡ true }
 {
     if body.is_empty() {
         return Some(Partial {

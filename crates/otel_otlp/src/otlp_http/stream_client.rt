@@ -1,5 +1,5 @@
 //! A client over a reader and a writer, which together carry one connection.
-ghost use Rattle.std.specs.Prelude.{◌≡◌, ℕ, [], ◌∷◌, ◌++◌, take, false};
+ghost use Rattle.std.specs.Prelude.{◌≡◌, ℕ, [], ◌∷◌, ◌++◌, take, false, true};
 ghost use Rattle.std.specs.Prelude.{IsTrue, IsErr, IfOk, OnOk, OnErr};
 ghost use Rattle.std.specs.Io.KnownBytes.{Appends};
 ghost use Rattle.http.specs.Request.{head_of, body_of};
@@ -19,10 +19,10 @@ use crate::written::write_bytes;
 use bytes::BytesMut;
 use http::{Request, Response};
 use http1::{Client, Limits};
-use otel_sdk_base::Accepted;
+use otel_sdk_base::{Accepted, WriterCalls};
 use std::alloc::Global;
 use std::hash::RandomState;
-use std::io::{Read, Write};
+use std::io::Read;
 use std::marker::Model;
 
 /// The most bytes of a response's head.
@@ -117,8 +117,8 @@ impl<R, W> StreamClient<R, W> {
     }
 }
 
-// Writes the request. Returns the connection, which waits for the response.
-fn write<W: Write>(
+// Writes the request, and flushes the writer. Returns the connection, which waits for the response.
+fn write<W: WriterCalls>(
     alloc: Global,
     writer: &mut W,
     request: &Request<Vec<u8>>,
@@ -127,6 +127,7 @@ fn write<W: Write>(
         (take count (request_text (head_of request.now) (body_of request.now).items)) }
     ensures whole { OnOk result (Appends (W.contents writer.old) (W.contents writer.new)
         (request_text (head_of request.now) (body_of request.now).items)) }
+    ensures flushed { OnOk result (W.may_flush true) }
     ensures written { OnOk result
         (IsWritable (head_of request.now) (body_of request.now).items) }
     ensures asking { IfOk result (λ connection. connection
@@ -137,16 +138,16 @@ fn write<W: Write>(
 {
     let mut connection = Client::new(LIMITS);
     let text = write_request(alloc, &mut connection, request)?;
-    if write_bytes(writer, &text) < text.len() || writer.flush().is_err() {
+    if write_bytes(writer, &text) < text.len() || !writer.flush_all() {
         return Err(HttpError::Unreachable);
     }
     Ok(connection)
 }
 
-impl<R: Read + Drop, W: Write + Drop> HttpClient for StreamClient<R, W> {
+impl<R: Read + Drop, W: WriterCalls + Drop> HttpClient for StreamClient<R, W> {
     ghost sent = { λ c. c.sent };
 
-    /// Sends the request, and reads its response.
+    /// Sends the request, flushes the writer, and reads the response.
     ///
     /// # Errors
     ///
@@ -165,6 +166,7 @@ impl<R: Read + Drop, W: Write + Drop> HttpClient for StreamClient<R, W> {
         ensures whole { OnOk result
             (Appends (W.contents self.old.writer) (W.contents self.new.writer)
             (request_text (head_of request.now) (body_of request.now).items)) }
+        ensures flushed { OnOk result (W.may_flush true) }
         ensures message { OnOk result
             (IsRequest (head_of request.now) (body_of request.now).items
             (request_text (head_of request.now) (body_of request.now).items)) }

@@ -1,5 +1,7 @@
 //! The reason why a line wasn't read.
-ghost use Rattle.std.specs.Prelude.{◌≡◌, alloc_error};
+ghost use Rattle.std.specs.Prelude.{◌≡◌, alloc_error, string_bytes, IfOk};
+ghost use Rattle.otel_otlp.specs.ReadErrors.{IsWithin, item_step};
+ghost use Rattle.otel_otlp.specs.ReadErrors.{place_within as place_in, separator_of};
 ghost use Rattle.otel_otlp.specs.ReadMembers.{IsRefusal};
 ghost use Rattle.otel_otlp.specs.declared.read.error.ReadError.TheVariants.{Memory};
 
@@ -42,12 +44,23 @@ impl<T: Drop> From<AllocFailed<T>> for ReadError {
     }
 }
 
-/// Returns the place within the step that leads to it.
-fn place_within(alloc: Global, step: &str, place: &str) -> Result<String, AllocError> {
-    let mut text = String::from_str(alloc, step)?;
-    if !place.is_empty() && !place.starts_with('[') {
-        text.push_str(".")?;
+/// Returns the text between a step and the place within it: a dot, unless the place begins with the
+/// index of an item, or is empty.
+fn separator(place: &str) -> &'static str
+    ensures { result.now ≡ separator_of place.now }
+{
+    match place.as_bytes().first() {
+        Some(byte) => if *byte == b'[' { "" } else { "." },
+        None => "",
     }
+}
+
+/// Returns the place within the step that leads to it.
+fn place_within(alloc: Global, step: &str, place: &str) -> Result<String, AllocError>
+    ensures { IfOk result (λ text. string_bytes text ≡ place_in step.now place.now) }
+{
+    let mut text = String::from_str(alloc, step)?;
+    text.push_str(separator(place))?;
     text.push_str(place)?;
     Ok(text)
 }
@@ -68,7 +81,8 @@ pub(crate) fn no_object(alloc: Global) -> ReadError {
 impl ReadError {
     /// Returns the error with the step before its place.
     pub(crate) fn within(self, alloc: Global, step: &str) -> ReadError
-        ensures { IsRefusal result → IsRefusal self }
+        ensures refusal { IsRefusal result → IsRefusal self }
+        ensures place { IsWithin step.now self result }
     {
         match self {
             ReadError::Unexpected { place, wanted } => {
@@ -83,7 +97,8 @@ impl ReadError {
 
     /// Returns the error with the index of an item before its place.
     pub(crate) fn in_item(self, alloc: Global, index: usize) -> ReadError
-        ensures { IsRefusal result → IsRefusal self }
+        ensures refusal { IsRefusal result → IsRefusal self }
+        ensures place { IsWithin (item_step index) self result }
     {
         match format!(in alloc; "[{index}]") {
             Ok(step) => self.within(alloc, step.as_str()),

@@ -1,6 +1,7 @@
 //! An exporter over a client that answers from a table: which parts leave, which stay, for how
 //! long, and what is counted.
 mod answers;
+mod factors;
 mod told;
 
 use crate::batches::{root, scope};

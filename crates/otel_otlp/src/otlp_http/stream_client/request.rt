@@ -8,7 +8,7 @@ ghost use Rattle.http1.specs.Client.{new_client, reading};
 ghost use Rattle.http1.specs.declared.conn.Reading.TheVariants as Reading;
 ghost use Rattle.http1_typed.specs.Parts.{fields_of};
 ghost use Rattle.otel_otlp.specs.StreamClient.{limits, host_of, origin_form, request_text, asking};
-ghost use Rattle.otel_otlp.specs.StreamClient.{IsWritable};
+ghost use Rattle.otel_otlp.specs.StreamClient.{IsWritable, refusal_of};
 
 use crate::otlp_http::client::HttpError;
 use http::{HeaderMap, Request, Uri};
@@ -77,7 +77,9 @@ fn headers<'a>(
 }
 
 // Returns the error of a request that can't be written.
-fn refusal(error: WriteError) -> HttpError {
+fn refusal(error: WriteError) -> HttpError
+    ensures { result ≡ refusal_of error }
+{
     match error {
         WriteError::OutOfMemory => HttpError::Memory(AllocError),
         _ => HttpError::Unreachable,

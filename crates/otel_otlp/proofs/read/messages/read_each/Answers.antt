@@ -8,7 +8,7 @@ use Rattle.otel_otlp.proofs.read.messages.read_each.Goals as goal
 pub returns-in-Err-clause-err : goal.returns-in-Err-clause-err
 returns-in-Err-clause-err g c = λ no.
     none_at g.M.Message.says view c.args.values.now c.loop-index.index _ _ c.loop-index-test.true
-    c.index-values-index.is (c.in-Err.ensures.err (c.in_item.ensures no))
+    c.index-values-index.is (c.in-Err.ensures.err (c.in_item.ensures.refusal no))
 
 pub loop-index-preserved : goal.loop-index-preserved
 loop-index-preserved g c =

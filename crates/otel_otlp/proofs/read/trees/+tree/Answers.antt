@@ -26,7 +26,7 @@ read_list-returns-in_err-values-clause-err t c =
 pub read_list-returns-in-Err-clause-err : goal.read_list-returns-in-Err-clause-err
 read_list-returns-in-Err-clause-err t c = λ no u h.
     let is = list_items c.args.levels _ u c.if-levels-eq0.false h in
-    c.in-Err.ensures.err (c.within.ensures no) is.0
+    c.in-Err.ensures.err (c.within.ensures.refusal no) is.0
     (subst (λ vs. AllZip (IsTree (c.args.levels - 1)) vs is.0)
     (some_same _ _ (sym is.2.has_list ∙ c.in_ok-values.ensures.ok)) is.2.each)
 
@@ -45,7 +45,7 @@ read_map-returns-in_err-pairs-clause-err t c =
 pub read_trees-returns-in-Err-clause-err : goal.read_trees-returns-in-Err-clause-err
 read_trees-returns-in-Err-clause-err t c = λ no.
     none_at (IsTree c.args.levels) view c.args.values.now c.loop-index.index _ _
-    c.loop-index-test.true c.index-values-index.is (c.in-Err.ensures.err (c.in_item.ensures no))
+    c.loop-index-test.true c.index-values-index.is (c.in-Err.ensures.err (c.in_item.ensures.refusal no))
 
 pub read_trees-loop-index-preserved : goal.read_trees-loop-index-preserved
 read_trees-loop-index-preserved t c =
@@ -63,7 +63,7 @@ read_trees-loop-index-preserved t c =
 pub read_pairs-returns-in-Err-clause-err : goal.read_pairs-returns-in-Err-clause-err
 read_pairs-returns-in-Err-clause-err t c = λ no.
     none_at (IsPair c.args.levels) view c.args.values.now c.loop-index.index _ _
-    c.loop-index-test.true c.index-values-index.is (c.in-Err.ensures.err (c.in_item.ensures no))
+    c.loop-index-test.true c.index-values-index.is (c.in-Err.ensures.err (c.in_item.ensures.refusal no))
 
 pub read_pairs-loop-index-preserved : goal.read_pairs-loop-index-preserved
 read_pairs-loop-index-preserved t c =
