@@ -1,5 +1,7 @@
 -- The progress of a drawing.
-use Rattle.std.proofs.Common.{◌<◌, Bool, List, length, refl, ◌∙◌, arith}
+use Rattle.std.proofs.Common.{◌≡◌, ◌<◌, ◌^◌, ℕ, Bool, List, length, refl, ◌∙◌, arith}
+use Rattle.std.specs.Int.{w64, to_be_bytes, from_be_bytes}
+use Rattle.std.proofs.lemmas.Nat.{from_be_bytes-to_be_bytes_8}
 use Rattle.otel_waterfall.specs.Rows.{Draws, DrawsOn, IsDrawn}
 use Rattle.otel_waterfall.specs.declared.rows.Drawing.{Drawing}
 use Rattle.otel_waterfall.specs.declared.rows.Row.{Row}
@@ -22,3 +24,7 @@ draws_more p a q b r c first then = record {
 pub stays_drawn : (row : Row) (a : Drawing) (b : Drawing) → DrawsOn a b → IsDrawn row a → IsDrawn row b
 stays_drawn (Span place depth follows) a b more h = more.none_anew place h
 stays_drawn (Absent child) a b more h = h
+
+-- an id is the number that its bytes say
+pub id_back : (id : ℕ) → id < 2 ^ 64 → from_be_bytes w64 (to_be_bytes w64 id) ≡ id
+id_back id h = from_be_bytes-to_be_bytes_8 id h

@@ -1,10 +1,12 @@
 -- The spans that the rows of a trace draw. Not in the Rust crates.
 use Rattle.std.specs.Prelude.{◌≡◌, ℕ, ◌+◌, ◌<◌, ◌==◌, refl, Bool, true, false}
 use Rattle.std.specs.Prelude.{List, [], ◌∷◌, length}
-use Rattle.std.specs.Prelude.{count_by, slice_index_or, if◌then◌else◌}
+use Rattle.std.specs.Prelude.{count_by, slice_index_or, if◌then◌else◌, Option, Some, None}
 use Rattle.otel_waterfall.specs.declared.rows.Drawing.{Drawing}
 use Rattle.otel_waterfall.specs.declared.rows.Row.{Row}
 use Rattle.otel_waterfall.specs.declared.rows.Row.TheVariants.{Span, Absent}
+use Rattle.otel_waterfall.specs.declared.rows.Parent.{Parent}
+use Rattle.otel_waterfall.specs.declared.rows.Parent.TheVariants as parent
 
 -- whether the row is of the span at this place in the batch
 abbrev pub is_row_of : ℕ → Row → Bool
@@ -43,6 +45,23 @@ abbrev pub IsDrawn : Row → Drawing → Type 0
 IsDrawn (Span place depth follows) drawing =
     slice_index_or drawing.pending.items place false ≡ false
 IsDrawn (Absent child) drawing = Unit {0}
+
+-- ---- parents
+-- the parent with this id: the span at its place, if it has one
+abbrev pub parent_at : ℕ → Option ℕ → Parent
+parent_at id (Some place) = parent.At place
+parent_at id None = parent.Absent id
+
+-- the parent with this id, where 0 is none; `place_of` gives the first place of an id of the trace
+abbrev pub parent_in : (ℕ → Option ℕ) → ℕ → Parent
+parent_in place_of id = if id == 0 then parent.Root else parent_at id (place_of id)
+
+-- The top row for the span at this place with this parent, and the parent of the spans under that
+-- row. A span under another span of the batch has none.
+abbrev pub top_with : ℕ → Parent → Option (Row × Parent)
+top_with place parent.Root = Some (Span place 0 false, parent.At place)
+top_with place (parent.At above) = None
+top_with place (parent.Absent id) = Some (Absent place, parent.Absent id)
 
 -- ---- worked rows
 one_of_two : row_count 1 (Absent 0 ∷ Span 1 1 false ∷ Span 0 1 true ∷ []) ≡ 1

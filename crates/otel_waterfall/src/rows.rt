@@ -1,6 +1,8 @@
 //! The rows of a trace, in the order in which they are drawn.
 ghost use Rattle.std.specs.Prelude.{◌≡◌, ◌==◌, false, map, IfOk, OnOk, slice_index_or};
-ghost use Rattle.otel_waterfall.specs.Rows.{AreDrawnOnce, DrawsOn, IsDrawn};
+ghost use Rattle.std.specs.BTreeMap.{get};
+ghost use Rattle.std.specs.Ordering.{nat_cmp};
+ghost use Rattle.otel_waterfall.specs.Rows.{AreDrawnOnce, DrawsOn, IsDrawn, parent_in, top_with};
 
 use crate::span::Span;
 use otel_ids::{SpanId, TraceId};
@@ -53,7 +55,10 @@ struct Waiting {
 }
 
 /// Returns the id as a number, by which ids are ordered.
-fn number_of(id: SpanId) -> u64 {
+#[tactic(auto, using(crate::proofs::Draws::id_back))]
+fn number_of(id: SpanId) -> u64
+    ensures { result ≡ id }
+{
     u64::from_be_bytes(id.to_bytes())
 }
 
@@ -79,7 +84,9 @@ fn starts_of(alloc: Global, batch: &[Span], trace: TraceId) -> Result<Starts, Al
 }
 
 /// Returns the parent of a span: the first span with the parent's id.
-fn parent_of(places: &BTreeMap<u64, usize>, span: &Span) -> Parent {
+fn parent_of(places: &BTreeMap<u64, usize>, span: &Span) -> Parent
+    ensures { result ≡ parent_in (get nat_cmp places.now) span.now.parent_span_id }
+{
     if span.parent_span_id == SpanId::INVALID {
         return Parent::Root;
     }
@@ -222,7 +229,9 @@ fn draw_tree(
 
 /// Returns the top row for a root or a child of an absent parent, and the parent of the spans under
 /// that row.
-fn top_of(node: Node) -> Option<(Row, Parent)> {
+fn top_of(node: Node) -> Option<(Row, Parent)>
+    ensures { result ≡ top_with node.place node.parent }
+{
     match node.parent {
         Parent::Root => {
             let row = Row::Span {
