@@ -19,76 +19,71 @@ use std::io::{self, Read, Stderr, Write};
 /// The name of the service.
 pub const NAME: &str = "otel_service";
 
-/// How the program was called.
-#[derive(Clone, Copy)]
-pub struct Call<'a> {
+/// A log that writes its records to standard error, as lines of JSON.
+pub type Log = OpenTelemetryLogBridge<SimpleLogger<OtlpJsonLogExporter<Stderr>, HostRuntime>>;
+
+/// How the program was called, and what its requests share.
+#[derive(Drop)]
+pub struct Call<L> {
     /// The runtime.
     pub rt: HostRuntime,
     /// The configuration from the environment.
-    pub env: &'a EnvConfig,
-    /// Whether a request is lines of headers.
-    pub is_lines: bool,
-}
-
-/// Makes a logger that writes its records to standard error, as lines of JSON.
-///
-/// # Errors
-///
-/// Out of memory.
-pub fn logger(call: Call<'_>) -> Result<SimpleLogger<OtlpJsonLogExporter<Stderr>, HostRuntime>> {
-    let alloc = call.rt.alloc();
-    let lines = SimpleLogProcessor::new(alloc, OtlpJsonLogExporter::new(alloc, call.rt.stderr())?)?;
-    let loggers = SdkLoggerProvider::builder(call.rt).with_log_processor(lines);
-    let loggers = loggers.with_env(alloc, call.env)?.build(alloc)?;
-    Ok(loggers.logger(alloc, NAME.into())?)
-}
-
-/// A service that answers requests.
-#[derive(Drop)]
-pub struct Service<P, E: SpanExporter, L> {
-    /// The runtime.
-    pub rt: HostRuntime,
-    /// Starts and exports the spans.
-    pub tracing: Tracing<P, E>,
+    pub env: EnvConfig,
     /// Reads and writes the headers.
     pub propagator: ConfiguredPropagator,
     /// Writes the log lines.
     pub log: OpenTelemetryLogBridge<L>,
+    /// Whether a request is lines of headers.
+    pub is_lines: bool,
+}
+
+/// Makes the log.
+///
+/// # Errors
+///
+/// Out of memory.
+pub fn logger(rt: HostRuntime, env: &EnvConfig) -> Result<Log, AllocError> {
+    let alloc = rt.alloc();
+    let lines = SimpleLogProcessor::new(alloc, OtlpJsonLogExporter::new(alloc, rt.stderr())?)?;
+    let loggers = SdkLoggerProvider::builder(rt).with_log_processor(lines);
+    let loggers = loggers.with_env(alloc, env)?.build(alloc)?;
+    Ok(OpenTelemetryLogBridge::new(alloc, loggers.logger(alloc, NAME.into())?))
+}
+
+/// A service that answers requests.
+#[derive(Drop)]
+pub struct Service<'a, P, E: SpanExporter, L> {
+    /// How it was called.
+    pub call: &'a Call<L>,
+    /// Starts and exports the spans.
+    pub tracing: Tracing<P, E>,
     /// Whether a failed export was told.
     pub is_told: bool,
 }
 
-impl<P: Pipeline, E: SpanExporter, L: Logger + Drop> Service<P, E, L> {
+impl<'a, P: Pipeline, E: SpanExporter, L: Logger> Service<'a, P, E, L> {
     /// Answers the requests of standard input, exports their spans, and logs them.
     ///
     /// # Errors
     ///
     /// The reason why the input isn't read, an answer isn't written, or spans are lost.
-    pub fn serve(call: Call<'_>, tracing: Tracing<P, E>, log: L) -> Result<()> {
-        let propagator = call.env.propagator(call.rt.alloc())?;
+    pub fn serve(call: &'a Call<L>, tracing: Tracing<P, E>) -> Result<()> {
         let mut service = Service {
-            rt: call.rt,
+            call,
             tracing,
-            propagator,
-            log: OpenTelemetryLogBridge::new(call.rt.alloc(), log),
             is_told: false,
         };
-        service.run(call)
-    }
-
-    /// Answers the requests, and exports the last spans.
-    fn run(&mut self, call: Call<'_>) -> Result<()> {
-        let answered = match call.is_lines {
-            true => self.answer_lines(call.rt.stdin(), &mut call.rt.stdout()),
-            false => self.answer_http(call.rt),
-        };
+        let answered = service.answer_input(call.rt);
         let clock = SystemClock::new(call.rt);
-        finish(&mut self.tracing, &clock, &call.env.span_batches)?;
+        finish(&mut service.tracing, &clock, &call.env.span_batches)?;
         answered
     }
 
-    /// Answers the HTTP requests of standard input, until it ends or a request is refused.
-    fn answer_http(&mut self, rt: HostRuntime) -> Result<()> {
+    /// Answers the requests of standard input.
+    fn answer_input(&mut self, rt: HostRuntime) -> Result<()> {
+        if self.call.is_lines {
+            return self.answer_lines(rt.stdin(), &mut rt.stdout());
+        }
         let keys = std::hash::RandomState::new(&rt)?;
         let mut peer = Connection::new(rt.alloc(), keys, Config::default());
         self.answer_peer(rt, &mut peer)
@@ -110,16 +105,16 @@ impl<P: Pipeline, E: SpanExporter, L: Logger + Drop> Service<P, E, L> {
     ///
     /// The reason why the input isn't read, or an answer isn't written or made.
     pub fn answer_lines(&mut self, input: impl Read + Drop, output: &mut impl Write) -> Result<()> {
-        let text = io::read_to_string(self.rt.alloc(), input)?;
-        let mut headers = HeaderMap::new(self.rt.alloc());
+        let text = io::read_to_string(self.call.rt.alloc(), input)?;
+        let mut headers = HeaderMap::new(self.call.rt.alloc());
         for line in text.trim_ascii().lines() {
-            add_header_line(self.rt.alloc(), &mut headers, line)?;
+            add_header_line(self.call.rt.alloc(), &mut headers, line)?;
             if line.is_empty() && !headers.is_empty() {
                 writeln!(output, "{}", self.answer("/cart", &headers)?)?;
                 headers.clear();
             }
         }
-        Ok(write!(output, "{}", self.answer("/cart", &headers)?)?)
+        Ok(output.write_all(self.answer("/cart", &headers)?.as_bytes())?)
     }
 
     /// Answers the request under the span that its headers name. Returns the headers that are sent
@@ -129,8 +124,8 @@ impl<P: Pipeline, E: SpanExporter, L: Logger + Drop> Service<P, E, L> {
     ///
     /// The reason why the request isn't served, which its span shows.
     pub fn answer(&mut self, path: &str, headers: &HeaderMap) -> Result<String> {
-        let received = HeaderExtractor::new(self.rt.alloc(), headers)?;
-        let caller = self.tracing.receive(&self.propagator, &received)?;
+        let received = HeaderExtractor::new(self.call.rt.alloc(), headers)?;
+        let caller = self.tracing.receive(&self.call.propagator, &received)?;
         let builder = SpanBuilder::from_name("serve".into());
         let span = self.tracing.enter_with(builder.with_kind(SpanKind::Server));
         let lines = self.work(path).inspect_err(|error| drop(self.show(error)));
@@ -142,8 +137,8 @@ impl<P: Pipeline, E: SpanExporter, L: Logger + Drop> Service<P, E, L> {
 
     /// Shows in the log and in the current span why the request isn't served.
     fn show(&mut self, error: &Error) -> Result<()> {
-        let text = error.to_string(self.rt.alloc())?;
-        log::error!(self.log.sink(self.tracing.context()); target: NAME, "{text}");
+        let text = error.to_string(self.call.rt.alloc())?;
+        log::error!(self.call.log.sink(self.tracing.context()); target: NAME, "{text}");
         self.tracing.record_error(error)?;
         Ok(self.tracing.set_status(Status::error(text.into()))?)
     }
@@ -153,7 +148,7 @@ impl<P: Pipeline, E: SpanExporter, L: Logger + Drop> Service<P, E, L> {
         let is_full = self.tracing.ended_spans() >= 512;
         if is_full && let (Err(error), false) = (self.tracing.flush(), self.is_told) {
             self.is_told = true;
-            drop(eprintln!(self.rt; "{error}; the spans wait for another try"));
+            drop(eprintln!(self.call.rt; "{error}; the spans wait for another try"));
         }
     }
 
@@ -165,10 +160,10 @@ impl<P: Pipeline, E: SpanExporter, L: Logger + Drop> Service<P, E, L> {
         let price = self.tracing.enter("price")?;
         self.tracing.exit(price);
         ensure!(path == "/cart", "no price for {path}");
-        log::info!(self.log.sink(self.tracing.context()); target: NAME, "served /cart");
-        let mut sent = HeaderInjector::new(HeaderMap::new(self.rt.alloc()));
-        self.tracing.send(&self.propagator, &mut sent)?;
-        Ok(sent.to_string(self.rt.alloc())?)
+        log::info!(self.call.log.sink(self.tracing.context()); target: NAME, "served /cart");
+        let mut sent = HeaderInjector::new(HeaderMap::new(self.call.rt.alloc()));
+        self.tracing.send(&self.call.propagator, &mut sent)?;
+        Ok(sent.to_string(self.call.rt.alloc())?)
     }
 
     /// Loads the cart of the user that the baggage names.
@@ -178,12 +173,12 @@ impl<P: Pipeline, E: SpanExporter, L: Logger + Drop> Service<P, E, L> {
             let user = KeyValue::new("user.id".into(), Value::from(user.clone()?));
             self.tracing.set_attribute(user)?;
         }
-        let none = Vec::new(self.rt.alloc());
+        let none = Vec::new(self.call.rt.alloc());
         Ok(self.tracing.add_event("cache miss".into(), none)?)
     }
 }
 
-impl<P: Pipeline, E: SpanExporter, L: Logger + Drop> http_server::Service for Service<P, E, L> {
+impl<P: Pipeline, E: SpanExporter, L: Logger> http_server::Service for Service<'_, P, E, L> {
     ghost answers = { λ _ _ _ _. Unit {0} };
 
     fn call(&mut self, request: &Request<Bytes>, answer: &mut Response) -> Result<(), AllocError> {

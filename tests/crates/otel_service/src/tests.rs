@@ -1,16 +1,12 @@
 //! The headers that the service sends on, for good and bad headers, and its spans. A header that
 //! can't be read is no failure. The service starts a new trace (W3C trace-context-2, section 4.3),
 //! or keeps the parts that it can read.
-use crate::service::Service;
+use crate::service::{Call, Service, logger};
 use http::{HeaderMap, HeaderName, HeaderValue};
-use opentelemetry::logs::LoggerProvider;
+use opentelemetry::Value;
 use opentelemetry::trace::{SpanId, SpanKind, Status};
-use opentelemetry::{StringValue, Value};
-use otel_appender_log::OpenTelemetryLogBridge;
-use otel_otlp::OtlpJsonLogExporter;
 use otel_sdk::EnvConfig;
-use otel_sdk::logs::{SdkLoggerProvider, SimpleLogProcessor};
-use otel_sdk::trace::{CountedClock, FinishedSpans, InMemorySpanExporter, SpanData, Tracing};
+use otel_sdk::trace::{FinishedSpans, InMemorySpanExporter, SpanData, Tracing};
 use std::process::Abort;
 use std::test::Fail;
 
@@ -26,20 +22,21 @@ struct Outcome {
 /// counted ids and a counted clock.
 fn answered(rt: HostRuntime, given: &[u8], fails: bool) -> anyhow::Result<Outcome> {
     let alloc = rt.alloc();
-    let exporter = OtlpJsonLogExporter::new(alloc, rt.stderr())?;
-    let loggers = SdkLoggerProvider::builder(rt)
-        .with_log_processor(SimpleLogProcessor::new(alloc, exporter)?)
-        .with_clock(CountedClock::new(1))
-        .build(alloc)?;
+    let env = EnvConfig::from_vars(alloc, &[])?;
+    let call = Call {
+        rt,
+        propagator: env.propagator(alloc)?,
+        log: logger(rt, &env)?,
+        env,
+        is_lines: true,
+    };
     let tracing = Tracing::builder(rt)
         .with_exporter(InMemorySpanExporter::new(alloc))
         .counted(1)
         .build(alloc, "test")?;
     let mut service = Service {
-        rt,
+        call: &call,
         tracing,
-        propagator: EnvConfig::from_vars(alloc, &[])?.propagator(alloc)?,
-        log: OpenTelemetryLogBridge::new(alloc, loggers.logger(alloc, StringValue::from("test"))?),
         is_told: false,
     };
     let mut lines = Vec::new(alloc);
