@@ -54,7 +54,7 @@ pub fn remote(alloc: Global) -> Result<Context, AllocError> {
 
 /// A context with `size` entries, at least `name`.
 #[inline(never)]
-fn with_entries(alloc: Global, size: usize) -> Result<Context, AllocError> {
+pub fn with_entries(alloc: Global, size: usize) -> Result<Context, AllocError> {
     let mut context = named(alloc)?;
     for number in 1..size {
         let key = Key::from(name_of(alloc, number)?);

@@ -8,10 +8,13 @@ mod attacks;
 mod baggages;
 mod contexts;
 mod headers;
+mod https;
 mod ids;
 mod injections;
+mod lives;
 mod name_member;
 mod operation;
+mod pictures;
 mod random;
 mod requests;
 mod rounds;
@@ -21,6 +24,7 @@ mod spans;
 mod stacks;
 mod state_member;
 mod states;
+mod tables;
 
 use operation::Task;
 use std::alloc::AllocError;
@@ -44,9 +48,13 @@ fn play(task: &Task<'_>, rt: HostRuntime) -> Result<Option<u64>, AllocError> {
         "run" => runs::play(task, alloc),
         "sdk" => sdk::play(task, alloc, rt),
         "otlp" => requests::play(task, alloc, rt),
+        "live" => lives::play(task, alloc, rt),
+        "http" => https::play(task, alloc),
+        "picture" => pictures::play(task, alloc, rt),
         "id" => ids::play(task, alloc),
         "header" => headers::play(task, alloc),
-        "table" | "span" => spans::play(task, alloc),
+        "span" => spans::play(task, alloc),
+        "table" => tables::play(task, alloc),
         _ => Ok(None),
     }
 }

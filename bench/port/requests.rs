@@ -45,8 +45,9 @@ fn exporter(alloc: Global, rt: HostRuntime) -> Result<Sender, AllocError> {
         sent: Accepted::new(),
     };
     let config = OtlpHttpConfig::new(alloc).map_err(|_| AllocError)?;
-    OtlpHttpSpanExporter::new(alloc, client, config, rt, ManualClock::new(1))
-        .map_err(|_| AllocError)
+    OtlpHttpSpanExporter::new(alloc, client, config, rt, ManualClock::new(1)).map_err(
+        |_| AllocError,
+    )
 }
 
 #[inline(never)]

@@ -5,19 +5,37 @@ use opentelemetry::trace::{Span, Tracer, TracerProvider};
 use opentelemetry::{Context, Key, KeyValue, StringValue, Value};
 use otel_sdk::error::OTelSdkError;
 use otel_sdk::trace::{
-    BatchConfig, BatchSpanProcessor, CountedIdGenerator, FinishedSpans, InMemorySpanExporter,
-    LiveSpans, ManualClock, Sampler, SdkTracer, SdkTracerProvider, SpanData, SpanProcessor,
-    TracerPipeline,
+    BatchConfig, BatchSpanProcessor, Clock, CountedIdGenerator, FinishedSpans,
+    InMemorySpanExporter, LiveSpans, ManualClock, RandomIdGenerator, Sampler, SdkTracer,
+    SdkTracerProvider, SpanData, SpanProcessor, SystemClock, TracerPipeline,
 };
 use std::alloc::{AllocError, Global};
 
-type Pipeline = TracerPipeline<Sampler, CountedIdGenerator, ManualClock>;
+pub type Pipeline = TracerPipeline<Sampler, CountedIdGenerator, ManualClock>;
+
+type SystemPipeline = TracerPipeline<
+    Sampler,
+    RandomIdGenerator<HostRuntime>,
+    SystemClock<HostRuntime>,
+>;
 
 pub fn play(task: &Task<'_>, alloc: Global, rt: HostRuntime) -> Result<Option<u64>, AllocError> {
     match task.name {
         "sdk_span_sampled" => {
             let tracer = tracer(alloc, rt, Sampler::AlwaysOn)?;
             repeat(Recording { alloc, tracer }, task.times)
+        }
+        "sdk_span_system" => {
+            let tracer = system_tracer(alloc, rt)?;
+            let clock = SystemClock::new(rt);
+            repeat(
+                Timed {
+                    alloc,
+                    tracer,
+                    clock,
+                },
+                task.times,
+            )
         }
         "sdk_span_unsampled" => {
             let tracer = tracer(alloc, rt, Sampler::AlwaysOff)?;
@@ -35,7 +53,7 @@ pub fn play(task: &Task<'_>, alloc: Global, rt: HostRuntime) -> Result<Option<u6
 }
 
 /// A tracer with this sampler, with counted ids and a fixed clock.
-fn tracer(
+pub fn tracer(
     alloc: Global,
     rt: HostRuntime,
     sampler: Sampler,
@@ -44,6 +62,14 @@ fn tracer(
         .with_sampler(sampler)
         .with_id_generator(CountedIdGenerator::new())
         .with_clock(ManualClock::new(1))
+        .build(alloc)?;
+    provider.tracer(alloc, StringValue::from("bench"))
+}
+
+/// A tracer that samples each span, with random ids and the system's clock.
+fn system_tracer(alloc: Global, rt: HostRuntime) -> Result<SdkTracer<SystemPipeline>, AllocError> {
+    let provider = SdkTracerProvider::builder(rt)
+        .with_sampler(Sampler::AlwaysOn)
         .build(alloc)?;
     provider.tracer(alloc, StringValue::from("bench"))
 }
@@ -68,13 +94,13 @@ fn way(
 }
 
 #[inline(never)]
-fn start<T: Tracer>(alloc: Global, tracer: &T) -> Result<T::Span, AllocError> {
+pub fn start<T: Tracer>(alloc: Global, tracer: &T) -> Result<T::Span, AllocError> {
     tracer.start_with_context(alloc, StringValue::from("work"), &Context::new())
 }
 
 /// Sets two attributes and adds an event.
 #[inline(never)]
-fn fill<S: Span>(alloc: Global, span: &mut S) -> Result<(), AllocError> {
+pub fn fill<S: Span>(alloc: Global, span: &mut S) -> Result<(), AllocError> {
     let method = KeyValue::new(Key::from("http.request.method"), Value::from("GET"));
     let status = KeyValue::new(Key::from("http.response.status_code"), Value::I64(200));
     span.set_attribute(alloc, method)?;
@@ -83,9 +109,9 @@ fn fill<S: Span>(alloc: Global, span: &mut S) -> Result<(), AllocError> {
 }
 
 #[inline(never)]
-fn end<S: Span>(mut span: S, sum: &mut u64) {
+fn end<S: Span>(mut span: S, timestamp: u64, sum: &mut u64) {
     add(sum, 1 + usize::from(span.is_recording()));
-    span.end(3);
+    span.end(timestamp);
 }
 
 /// Ended spans in the table, each with two attributes and an event.
@@ -105,7 +131,7 @@ fn make(
     Ok(())
 }
 
-fn no_memory(_error: OTelSdkError) -> AllocError {
+pub fn no_memory(_error: OTelSdkError) -> AllocError {
     AllocError
 }
 
@@ -133,7 +159,12 @@ fn flush(
 /// Returns ended spans, as [`make`] makes them.
 pub fn ended(alloc: Global, rt: HostRuntime, size: usize) -> Result<Vec<SpanData>, AllocError> {
     let mut live = LiveSpans::new(alloc);
-    make(alloc, &tracer(alloc, rt, Sampler::AlwaysOn)?, size, &mut live)?;
+    make(
+        alloc,
+        &tracer(alloc, rt, Sampler::AlwaysOn)?,
+        size,
+        &mut live,
+    )?;
     let exporter = InMemorySpanExporter::new(alloc);
     let mut processor = BatchSpanProcessor::new(alloc, exporter, BatchConfig::default());
     live.collect(&mut processor).map_err(no_memory)?;
@@ -152,7 +183,24 @@ impl Operation for Recording {
     fn once(&mut self, sum: &mut u64) -> Result<(), AllocError> {
         let mut span = start(self.alloc, &self.tracer)?;
         fill(self.alloc, &mut span)?;
-        end(span, sum);
+        end(span, 3, sum);
+        Ok(())
+    }
+}
+
+/// The same with random ids, from one moment of the system's clock to another.
+#[derive(Drop)]
+struct Timed {
+    alloc: Global,
+    tracer: SdkTracer<SystemPipeline>,
+    clock: SystemClock<HostRuntime>,
+}
+
+impl Operation for Timed {
+    fn once(&mut self, sum: &mut u64) -> Result<(), AllocError> {
+        let mut span = start(self.alloc, &self.tracer)?;
+        fill(self.alloc, &mut span)?;
+        end(span, self.clock.now(), sum);
         Ok(())
     }
 }
@@ -167,7 +215,7 @@ struct Dropping {
 impl Operation for Dropping {
     fn once(&mut self, sum: &mut u64) -> Result<(), AllocError> {
         let span = start(self.alloc, &self.tracer)?;
-        end(span, sum);
+        end(span, 3, sum);
         Ok(())
     }
 }
@@ -182,7 +230,7 @@ struct Ignoring {
 impl Operation for Ignoring {
     fn once(&mut self, sum: &mut u64) -> Result<(), AllocError> {
         let span = start(self.alloc, &self.tracer)?;
-        end(span, sum);
+        end(span, 3, sum);
         Ok(())
     }
 }

@@ -1,5 +1,5 @@
-//! Operations on spans: their table, contexts with a span in it, and work in a span.
-use crate::contexts::remote;
+//! Operations on spans: contexts with a span in it, and work in a span.
+use crate::contexts::{remote, with_entries};
 use crate::operation::{Operation, Task, add, repeat};
 use opentelemetry::StringValue;
 use opentelemetry::context::{Context, ContextStack};
@@ -11,26 +11,24 @@ use opentelemetry::trace::{
 use otel_examples::recording::{RecordingSpan, RecordingTracer};
 use std::alloc::{AllocError, Global};
 
-type Table = Spans<RecordingSpan>;
+pub type Table = Spans<RecordingSpan>;
 
 pub fn play(task: &Task<'_>, alloc: Global) -> Result<Option<u64>, AllocError> {
     match task.name {
-        "table_insert_take" => {
-            let spans = table_of(alloc, task.size)?;
-            repeat(Taking { alloc, spans }, task.times)
-        }
-        "table_get" => {
-            let spans = table_of(alloc, task.size)?;
-            let number = (task.size / 2) as u64;
-            repeat(Getting { spans, number }, task.times)
-        }
         "span_into_context" => {
             let spans = table_of(alloc, task.size)?;
-            repeat(IntoContext { alloc, spans }, task.times)
+            into_context(alloc, spans, Context::new(), task.times)
+        }
+        "span_into_entries" => {
+            let context = match task.size {
+                0 => Context::new(),
+                size => with_entries(alloc, size)?,
+            };
+            into_context(alloc, Spans::new(alloc), context, task.times)
         }
         "span_is_recording" => {
             let mut spans = table_of(alloc, task.size.saturating_sub(1))?;
-            let context = with_span(alloc, &mut spans)?;
+            let context = with_span(alloc, &Context::new(), &mut spans)?;
             repeat(Asking { spans, context }, task.times)
         }
         "span_mark_active" => {
@@ -63,6 +61,20 @@ pub fn play(task: &Task<'_>, alloc: Global) -> Result<Option<u64>, AllocError> {
         }
         _ => Ok(None),
     }
+}
+
+fn into_context(
+    alloc: Global,
+    spans: Table,
+    context: Context,
+    times: u64,
+) -> Result<Option<u64>, AllocError> {
+    let into = IntoContext {
+        alloc,
+        spans,
+        context,
+    };
+    repeat(into, times)
 }
 
 fn no_spans(alloc: Global) -> Spans<NoopSpan> {
@@ -99,7 +111,7 @@ fn span_of(alloc: Global) -> RecordingSpan {
 
 /// A table with `size` spans.
 #[inline(never)]
-fn table_of(alloc: Global, size: usize) -> Result<Table, AllocError> {
+pub fn table_of(alloc: Global, size: usize) -> Result<Table, AllocError> {
     let mut spans = Spans::new(alloc);
     for _ in 0..size {
         insert(alloc, &mut spans)?;
@@ -108,27 +120,20 @@ fn table_of(alloc: Global, size: usize) -> Result<Table, AllocError> {
 }
 
 #[inline(never)]
-fn insert(alloc: Global, spans: &mut Table) -> Result<u64, AllocError> {
+pub fn insert(alloc: Global, spans: &mut Table) -> Result<u64, AllocError> {
     spans.insert(span_of(alloc)).map_err(|_| AllocError)
 }
 
 #[inline(never)]
-fn take<S: Drop>(spans: &mut Spans<S>, number: u64, sum: &mut u64) {
+pub fn take<S: Drop>(spans: &mut Spans<S>, number: u64, sum: &mut u64) {
     if spans.take(number).is_some() {
         add(sum, 1);
     }
 }
 
 #[inline(never)]
-fn look_up(spans: &Table, number: u64, sum: &mut u64) {
-    if let Some(span) = spans.get(number) {
-        add(sum, usize::from(span.is_recording()));
-    }
-}
-
-#[inline(never)]
-fn with_span(alloc: Global, spans: &mut Table) -> Result<Context, AllocError> {
-    Context::new()
+fn with_span(alloc: Global, context: &Context, spans: &mut Table) -> Result<Context, AllocError> {
+    context
         .with_span(alloc, spans, span_of(alloc))
         .map_err(|_| AllocError)
 }
@@ -170,44 +175,18 @@ fn work<T: Tracer>(
         .map_err(|_| AllocError)
 }
 
-#[derive(Drop)]
-struct Taking {
-    alloc: Global,
-    spans: Table,
-}
-
-impl Operation for Taking {
-    fn once(&mut self, sum: &mut u64) -> Result<(), AllocError> {
-        let number = insert(self.alloc, &mut self.spans)?;
-        take(&mut self.spans, number, sum);
-        Ok(())
-    }
-}
-
-#[derive(Drop)]
-struct Getting {
-    spans: Table,
-    number: u64,
-}
-
-impl Operation for Getting {
-    fn once(&mut self, sum: &mut u64) -> Result<(), AllocError> {
-        look_up(&self.spans, self.number, sum);
-        Ok(())
-    }
-}
-
 /// A span is inserted into the table and a context, and removed again.
 #[derive(Drop)]
 struct IntoContext {
     alloc: Global,
     spans: Table,
+    context: Context,
 }
 
 impl Operation for IntoContext {
     fn once(&mut self, sum: &mut u64) -> Result<(), AllocError> {
         let number = self.spans.next_number();
-        let context = with_span(self.alloc, &mut self.spans)?;
+        let context = with_span(self.alloc, &self.context, &mut self.spans)?;
         add(sum, usize::from(context.has_active_span()));
         take(&mut self.spans, number, sum);
         Ok(())

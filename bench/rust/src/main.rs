@@ -14,6 +14,7 @@ mod runs;
 mod spans;
 mod stacks;
 mod states;
+mod tables;
 mod task;
 
 use std::io::Read;
@@ -32,7 +33,8 @@ fn play(task: &Task<'_>) -> Option<u64> {
         "run" => runs::play(task),
         "id" => ids::play(task),
         "header" => headers::play(task),
-        "table" | "span" => spans::play(task),
+        "span" => spans::play(task),
+        "table" => tables::play(task),
         _ => None,
     }
 }

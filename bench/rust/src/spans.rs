@@ -1,6 +1,5 @@
-//! Operations on spans. The crate has no table of spans: a `HashMap` of `std` is used instead of
-//! the port's.
-use crate::contexts::remote;
+//! Operations on spans: contexts with a span in it, and work in a span.
+use crate::contexts::{remote, with_entries};
 use crate::task::Task;
 use opentelemetry::trace::noop::NoopTracer;
 use opentelemetry::trace::{
@@ -9,34 +8,25 @@ use opentelemetry::trace::{
 };
 use opentelemetry::{Context, KeyValue, SpanId, TraceFlags, TraceId};
 use std::borrow::Cow;
-use std::collections::HashMap;
 use std::hint::black_box;
 use std::time::SystemTime;
 
 pub fn play(task: &Task<'_>) -> Option<u64> {
     match task.name {
-        "table_insert_take" => {
-            let mut spans = table_of(task.size);
-            let mut next = task.size as u64;
-            task.repeat(|| {
-                black_box(&mut spans).insert(next, span_of());
-                let taken = black_box(&mut spans).remove(&next);
-                next += 1;
-                usize::from(black_box(taken).is_some())
-            })
-        }
-        "table_get" => {
-            let spans = table_of(task.size);
-            let number = (task.size / 2) as u64;
-            task.repeat(|| {
-                let found = black_box(&spans).get(&black_box(number));
-                usize::from(found.is_some_and(RecordingSpan::is_recording))
-            })
-        }
         "span_into_context" => task.repeat(|| {
             let context = black_box(Context::new()).with_span(span_of());
             1 + usize::from(black_box(&context).has_active_span())
         }),
+        "span_into_entries" => {
+            let context = match task.size {
+                0 => Context::new(),
+                size => with_entries(size),
+            };
+            task.repeat(|| {
+                let context = black_box(&context).with_span(span_of());
+                1 + usize::from(black_box(&context).has_active_span())
+            })
+        }
         "span_is_recording" => {
             let context = Context::new().with_span(span_of());
             task.repeat(|| usize::from(black_box(&context).span().is_recording()))
@@ -72,7 +62,7 @@ where
 }
 
 #[inline(never)]
-fn span_of() -> RecordingSpan {
+pub fn span_of() -> RecordingSpan {
     let context = SpanContext::new(
         TraceId::from(1),
         SpanId::from(1),
@@ -81,10 +71,6 @@ fn span_of() -> RecordingSpan {
         TraceState::NONE,
     );
     RecordingSpan::new(context, Cow::Borrowed("work"))
-}
-
-fn table_of(size: usize) -> HashMap<u64, RecordingSpan> {
-    (0..size as u64).map(|number| (number, span_of())).collect()
 }
 
 /// A recorded effect of a span.
@@ -96,7 +82,7 @@ enum Effect {
 }
 
 /// A span with the fields of the port's recording span.
-struct RecordingSpan {
+pub struct RecordingSpan {
     context: SpanContext,
     name: Cow<'static, str>,
     effects: Vec<Effect>,
