@@ -115,6 +115,22 @@ fn more_than_four_members_are_found(rt: HostRuntime) -> Result<(), Fail> {
 }
 
 #[test]
+fn the_order_stays_as_members_come_and_go(rt: HostRuntime) -> Result<(), Fail> {
+    let mut baggage = baggage_of(rt.alloc(), &SIX[..4])?;
+    drop(baggage.insert(Key::from("region"), StringValue::from("us"))?);
+    let four = "tenant=acme;m,tenants=2,region=us,user=7";
+    assert_eq!(rt; printed(rt.alloc(), &baggage)?.as_str(), four);
+    drop(baggage.insert(Key::from("plan"), StringValue::from("pro"))?);
+    drop(baggage.insert(Key::from("tenants"), StringValue::from("3"))?);
+    drop(baggage.remove("tenant"));
+    drop(baggage.remove("region"));
+    drop(baggage.insert(Key::from("tenant"), StringValue::from("4"))?);
+    let again = "tenants=3,user=7,plan=pro,tenant=4";
+    assert_eq!(rt; printed(rt.alloc(), &baggage)?.as_str(), again);
+    Ok(())
+}
+
+#[test]
 fn a_replacement_gives_the_old_pair(rt: HostRuntime) -> Result<(), Fail> {
     let mut baggage = baggage_of(rt.alloc(), &[("k", "1", "m")])?;
     let metadata = BaggageMetadata::new(rt.alloc(), "n")?;
