@@ -1,5 +1,5 @@
 -- The progress of a drawing.
-use Rattle.std.proofs.Common.{◌≡◌, ◌<◌, ◌^◌, ℕ, Bool, List, length, refl, ◌∙◌, arith}
+use Rattle.std.proofs.Common.{◌≡◌, ◌<◌, ◌^◌, ℕ, Bool, List, [], length, refl, sym, subst, ◌∙◌, arith}
 use Rattle.std.specs.Int.{w64, to_be_bytes, from_be_bytes}
 use Rattle.std.proofs.lemmas.Nat.{from_be_bytes-to_be_bytes_8}
 use Rattle.otel_waterfall.specs.Rows.{Draws, DrawsOn, IsDrawn}
@@ -10,6 +10,11 @@ use Rattle.otel_waterfall.specs.declared.rows.Row.TheVariants.{Span, Absent}
 -- nothing is drawn
 pub draws_nothing : (p : List Bool) (rows : List Row) → Draws p rows p rows
 draws_nothing p rows = record { same_length = refl; each = λ place h. refl; none_anew = λ place h. h }
+
+-- nothing is drawn at first
+pub draws_first : (wanted p : List Bool) (rows : List Row) → p ≡ wanted → rows ≡ [] → Draws wanted [] p rows
+draws_first wanted p rows e none =
+    subst (λ (q : List Bool). Draws wanted [] q rows) (sym e) (subst (λ (r : List Row). Draws wanted [] wanted r) (sym none) (draws_nothing wanted []))
 
 -- one after another
 pub draws_more : (p : List Bool) (a : List Row) (q : List Bool) (b : List Row) (r : List Bool) (c : List Row)

@@ -1,7 +1,14 @@
 pub mod Draws
+pub mod Forests
 pub mod Joins
 pub mod Lines
 pub mod Moments
+pub mod Nodes
+pub mod Order
 pub mod Pages
+pub mod Parents
+pub mod Siblings
+pub mod Starts
 pub mod Traces
+pub mod Trees
 pub mod Widths

@@ -1,21 +1,21 @@
 -- Pages of traces, one after another.
-use Rattle.std.proofs.Common.{◌≡◌, ℕ, Bool, List, [], ◌∷◌, ◌++◌, length, map, take, get_or, max, refl, sym, ap, ◌∙◌, ◌+◌, ◌<◌, append_assoc, subst, codes}
+use Rattle.std.proofs.Common.{◌≡◌, ℕ, Bool, List, [], ◌∷◌, ◌++◌, length, map, take, get_or, max, sym, ap, ◌∙◌, ◌+◌, ◌<◌, append_assoc, subst, codes}
 use Rattle.std.specs.Prelude.{◌==◌, count_by}
 use Rattle.std.specs.List.{flat_map}
 use Rattle.std.proofs.lemmas.Grind.{flat_map-append}
-use Rattle.std.proofs.lemmas.List.{append-nil, map-append, take_more}
+use Rattle.std.proofs.lemmas.List.{append-nil, take_more}
 use Rattle.std.proofs.lemmas.List.Elements.{All-append, All-nil, All-cons}
 use Rattle.otel_waterfall.specs.Drawn.{Look, look}
 use Rattle.otel_waterfall.specs.Page as spec
-use Rattle.otel_waterfall.specs.Picture.{spans_of, least_start, greatest_end}
-use Rattle.otel_waterfall.specs.Rows.{AreDrawnOnce}
+use Rattle.otel_waterfall.specs.Picture.{HasEachSpan, spans_of, least_start, greatest_end}
+use Rattle.otel_waterfall.specs.Rows.{AreDrawnOnce, rows_of}
 use Rattle.otel_waterfall.specs.declared.page.PageSpan.{PageSpan}
 use Rattle.otel_waterfall.specs.declared.page.PageTrace.{PageTrace}
 use Rattle.otel_waterfall.specs.declared.page.TheConstants.{CELLS}
 use Rattle.otel_waterfall.specs.declared.page.style.TheConstants.{HEAD}
 use Rattle.otel_waterfall.specs.declared.rows.Row.{Row}
 use Rattle.otel_waterfall.specs.declared.span.Span.{Span}
-use Rattle.otel_waterfall.proofs.Traces.{wanted_look}
+use Rattle.otel_waterfall.proofs.Traces.{has_each_span}
 
 -- ---- one trace
 joined : (old o h r d a b c new : List ℕ) → a ≡ old ++ o → b ≡ a ++ h → c ≡ b ++ r → new ≡ c ++ d → new ≡ old ++ (o ++ (h ++ (r ++ d)))
@@ -53,32 +53,30 @@ trace_shape alone trace spans rs ps from to top count errors first o old a b c n
 pub adds_trace : (alone : Bool) (trace : PageTrace) (drawn : List Span) (rs : List Row) (old new : List ℕ)
     → map look drawn ≡ spec.looks trace
     → AreDrawnOnce (map (λ (s : Span). s.trace_id == trace.trace_id) drawn) rs
+    → rs ≡ rows_of trace.trace_id (map look drawn)
     → new ≡ old ++ spec.trace_with alone trace (map look drawn) rs
     → spec.AddsTrace alone trace old new
-adds_trace alone trace drawn rs old new looks_are once grown = record {
-  items = rs;
-  once =
-      subst (λ (w : List Bool). AreDrawnOnce w rs)
-      (wanted_look trace.trace_id drawn ∙ ap (map (λ (s : Look). s.trace_id == trace.trace_id)) looks_are) once;
-  is = grown ∙ ap (λ (ss : List Look). old ++ spec.trace_with alone trace ss rs) looks_are;
+adds_trace alone trace drawn rs old new looks_are once rows_are grown = record {
+  once = subst (λ (ss : List Look). HasEachSpan ss trace.trace_id) looks_are (has_each_span trace.trace_id drawn rs once rows_are);
+  is =
+      grown ∙ ap (λ (xs : List Row). old ++ spec.trace_with alone trace (map look drawn) xs) rows_are
+      ∙ ap (λ (ss : List Look). old ++ spec.trace_with alone trace ss (rows_of trace.trace_id ss)) looks_are;
 }
 
 -- ---- traces
 pub no_traces : (alone : Bool) (text : List ℕ) → text ≡ HEAD.now → spec.AreTraces alone [] text
-no_traces alone text e = record { drawn = []; each = refl; once = All-nil _; is = e ∙ sym (append-nil HEAD.now) }
+no_traces alone text e = record { once = All-nil spec.HasEachSpan; is = e ∙ sym (append-nil HEAD.now) }
 
 pub traces_more : (alone : Bool) (traces : List PageTrace) (trace : PageTrace) (old new : List ℕ) → spec.AreTraces alone traces old → spec.AddsTrace alone trace old new → spec.AreTraces alone (traces ++ trace ∷ []) new
 traces_more alone traces trace old new p adds =
     let f = spec.trace_text alone in
     record {
-      drawn = p.drawn ++ (trace, adds.items) ∷ [];
-      each = map-append (λ (d : PageTrace × List Row). d.0) p.drawn ((trace, adds.items) ∷ []) ∙ ap (λ (l : List PageTrace). l ++ trace ∷ []) p.each;
-      once = All-append (λ (d : PageTrace × List Row). spec.AreRows d.0 d.1) p.drawn ((trace, adds.items) ∷ []) p.once (All-cons (λ (d : PageTrace × List Row). spec.AreRows d.0 d.1) (trace, adds.items) [] adds.once (All-nil _));
+      once = All-append spec.HasEachSpan traces (trace ∷ []) p.once (All-cons spec.HasEachSpan trace [] adds.once (All-nil spec.HasEachSpan));
       is =
-          adds.is ∙ ap (λ (x : List ℕ). x ++ f (trace, adds.items)) p.is
-          ∙ append_assoc HEAD.now (flat_map f p.drawn) (f (trace, adds.items))
+          adds.is ∙ ap (λ (x : List ℕ). x ++ f trace) p.is
+          ∙ append_assoc HEAD.now (flat_map f traces) (f trace)
           ∙ ap (λ (x : List ℕ). HEAD.now ++ x)
-          (ap (λ (x : List ℕ). flat_map f p.drawn ++ x) (sym (append-nil (f (trace, adds.items)))) ∙ sym (flat_map-append f p.drawn ((trace, adds.items) ∷ [])));
+          (ap (λ (x : List ℕ). flat_map f traces ++ x) (sym (append-nil (f trace))) ∙ sym (flat_map-append f traces (trace ∷ [])));
     }
 
 pub traces_turn : (alone : Bool) (traces : List PageTrace) (i : ℕ) (d : PageTrace) (old new : List ℕ) → i < length traces

@@ -1,6 +1,6 @@
 -- Pictures of traces, one after another.
 use Rattle.std.proofs.Common.{◌≡◌, ℕ, ◌+◌, ◌-◌, ◌^◌, ◌<◌, ◌||◌, Bool, true, false, List, [], ◌∷◌, ◌++◌, length, take, drop, get_or, map, min, max, refl, sym, ap, ◌∙◌, arith, cond, append_assoc, subst}
-use Rattle.std.specs.Prelude.{◌==◌, All, Option, Some, None, slice_get, option_map, Result, Ok, Err, OnOk}
+use Rattle.std.specs.Prelude.{◌==◌, Option, Some, None, slice_get, option_map, Result, Ok, Err, OnOk}
 use Rattle.std.specs.Option.{option_map_or}
 use Rattle.std.proofs.lemmas.Option.{slice_get-map}
 use Rattle.std.specs.List.{fold, join_by, list_any, flat_map}
@@ -10,8 +10,8 @@ use Rattle.std.proofs.lemmas.List.{append-nil, map-append, take_more, drop_more}
 use Rattle.std.proofs.lemmas.List.Elements.{filter-append, All-append, All-nil, All-cons}
 use Rattle.std.proofs.lemmas.List.Sums.{fold-append}
 use Rattle.otel_waterfall.specs.Drawn.{Look, look}
-use Rattle.otel_waterfall.specs.Picture.{spans_of, least_start, greatest_end, row_text, rows_text, follows_at, head_text, trace_text, AddsTrace, ArePictures, IsPicture, with_gap, new_trace, first_traces}
-use Rattle.otel_waterfall.specs.Rows.{AreDrawnOnce}
+use Rattle.otel_waterfall.specs.Picture.{spans_of, least_start, greatest_end, row_text, rows_text, follows_at, head_text, trace_text, HasEachSpan, AddsTrace, ArePictures, IsPicture, with_gap, new_trace, first_traces}
+use Rattle.otel_waterfall.specs.Rows.{AreDrawnOnce, rows_of}
 use Rattle.otel_waterfall.specs.declared.rows.Row.{Row}
 use Rattle.otel_waterfall.specs.declared.span.Span.{Span}
 
@@ -78,20 +78,20 @@ rows_turn ascii width from to spans rows i d f g t u all below whole moved grown
 -- ---- traces
 pub trace_shape : (ascii : Bool) (width : ℕ) (spans : List Look) (trace from to top count : ℕ) (rows rs : List Row) (old mid new : List ℕ)
     → count ≡ length (spans_of trace spans) → from ≡ least_start (spans_of trace spans) → to ≡ greatest_end (spans_of trace spans)
-    → top ≡ max to from → rs ≡ rows
+    → top ≡ max to from → rs ≡ rows → rows ≡ rows_of trace spans
     → mid ≡ old ++ head_text trace from to count
     → new ≡ mid ++ rows_text ascii width from top spans [] rs
-    → new ≡ old ++ trace_text ascii width spans (trace, rows)
-trace_shape ascii width spans trace from to top count rows rs old mid new count_is from_is to_is top_is rows_are head grown =
+    → new ≡ old ++ trace_text ascii width spans trace
+trace_shape ascii width spans trace from to top count rows rs old mid new count_is from_is to_is top_is rs_are rows_are head grown =
     grown
     ∙ ap (λ (x : List ℕ). x ++ rows_text ascii width from top spans [] rs) head
     ∙ append_assoc old (head_text trace from to count) (rows_text ascii width from top spans [] rs)
     ∙ ap (λ (x : List ℕ). old ++ x)
-    (ap (λ (x : List Row). head_text trace from to count ++ rows_text ascii width from top spans [] x) rows_are
-    ∙ ap (λ (x : ℕ). head_text trace from to count ++ rows_text ascii width from x spans [] rows) top_is
-    ∙ ap (λ (x : ℕ). head_text trace from to x ++ rows_text ascii width from (max to from) spans [] rows) count_is
-    ∙ ap (λ (x : ℕ). head_text trace from x (length (spans_of trace spans)) ++ rows_text ascii width from (max x from) spans [] rows) to_is
-    ∙ ap (λ (x : ℕ). head_text trace x (greatest_end (spans_of trace spans)) (length (spans_of trace spans)) ++ rows_text ascii width x (max (greatest_end (spans_of trace spans)) x) spans [] rows) from_is)
+    (ap (λ (x : List Row). head_text trace from to count ++ rows_text ascii width from top spans [] x) (rs_are ∙ rows_are)
+    ∙ ap (λ (x : ℕ). head_text trace from to count ++ rows_text ascii width from x spans [] (rows_of trace spans)) top_is
+    ∙ ap (λ (x : ℕ). head_text trace from to x ++ rows_text ascii width from (max to from) spans [] (rows_of trace spans)) count_is
+    ∙ ap (λ (x : ℕ). head_text trace from x (length (spans_of trace spans)) ++ rows_text ascii width from (max x from) spans [] (rows_of trace spans)) to_is
+    ∙ ap (λ (x : ℕ). head_text trace x (greatest_end (spans_of trace spans)) (length (spans_of trace spans)) ++ rows_text ascii width x (max (greatest_end (spans_of trace spans)) x) spans [] (rows_of trace spans)) from_is)
 
 -- the consequence of a fact that holds after success
 pub map_ok : {X E : Type 0} (P Q : Type 0) (r : Result X E) → (P → Q) → OnOk r P → OnOk r Q
@@ -101,6 +101,12 @@ map_ok P Q (Err e) f p = tt
 pub wanted_look : (trace : ℕ) (batch : List Span) → map (λ (s : Span). s.trace_id == trace) batch ≡ map (λ (s : Look). s.trace_id == trace) (map look batch)
 wanted_look trace [] = refl
 wanted_look trace (s ∷ more) = ap (λ (l : List Bool). (s.trace_id == trace) ∷ l) (wanted_look trace more)
+
+pub has_each_span : (trace : ℕ) (batch : List Span) (rows : List Row) → AreDrawnOnce (map (λ (s : Span). s.trace_id == trace) batch) rows → rows ≡ rows_of trace (map look batch)
+    → HasEachSpan (map look batch) trace
+has_each_span trace batch rows once is =
+    subst (λ (rs : List Row). AreDrawnOnce (map (λ (s : Look). s.trace_id == trace) (map look batch)) rs) is
+    (subst (λ (w : List Bool). AreDrawnOnce w rows) (wanted_look trace batch) once)
 
 pub any_look : (trace : ℕ) (batch : List Span) → list_any (λ (s : Span). s.trace_id == trace) batch ≡ list_any (λ (s : Look). s.trace_id == trace) (map look batch)
 any_look trace [] = refl
@@ -124,9 +130,9 @@ traces_turn batch i s below at =
     ∙ ap (λ (xs : List Span). first_traces [] (map look xs)) (sym (take_more batch i s below))
 
 -- ---- pictures
-join_more : (f : ℕ × List Row → List ℕ) (sep : List ℕ) (x : ℕ × List Row) (xs : List (ℕ × List Row)) (y : ℕ × List Row) → join_by f sep ((x ∷ xs) ++ y ∷ []) ≡ (join_by f sep (x ∷ xs) ++ sep) ++ f y
+join_more : (f : ℕ → List ℕ) (sep : List ℕ) (x : ℕ) (xs : List ℕ) (y : ℕ) → join_by f sep ((x ∷ xs) ++ y ∷ []) ≡ (join_by f sep (x ∷ xs) ++ sep) ++ f y
 join_more f sep x xs y =
-    let g = λ (z : ℕ × List Row). sep ++ f z in
+    let g = λ (z : ℕ). sep ++ f z in
     ap (λ (l : List ℕ). f x ++ l) (flat_map-append g xs (y ∷ []) ∙ ap (λ (l : List ℕ). flat_map g xs ++ l) (append-nil (sep ++ f y)))
     ∙ sym (append_assoc (f x) (flat_map g xs) (sep ++ f y))
     ∙ sym (append_assoc (f x ++ flat_map g xs) sep (f y))
@@ -138,43 +144,29 @@ gap_at : (xs : List ℕ) (b : ℕ) (bs : List ℕ) → xs ≡ b ∷ bs → with_
 gap_at xs b bs e = subst (λ (l : List ℕ). with_gap l ≡ l ++ 10 ∷ []) (sym e) (gap_after b bs)
 
 -- one more trace after these
-pictures_after : (ascii : Bool) (width : ℕ) (spans : List Look) (traces : List ℕ) (trace : ℕ) (old new : List ℕ) (drawn : List (ℕ × List Row))
-    → map (λ (d : ℕ × List Row). d.0) drawn ≡ traces
-    → All (λ (d : ℕ × List Row). AreDrawnOnce (map (λ (s : Look). s.trace_id == d.0) spans) d.1) drawn
-    → old ≡ join_by (trace_text ascii width spans) (10 ∷ []) drawn
-    → AddsTrace ascii width spans trace (with_gap old) new
-    → ArePictures ascii width spans (traces ++ trace ∷ []) new
-pictures_after ascii width spans traces trace old new [] each once is adds = record {
-  drawn = (trace, adds.rows) ∷ [];
-  each = ap (λ (l : List ℕ). l ++ trace ∷ []) each;
-  once = All-cons (λ (e : ℕ × List Row). AreDrawnOnce (map (λ (s : Look). s.trace_id == e.0) spans) e.1) (trace, adds.rows) [] adds.once (All-nil _);
-  is =
-      adds.is ∙ ap (λ (l : List ℕ). with_gap l ++ trace_text ascii width spans (trace, adds.rows)) is
-      ∙ sym (append-nil (trace_text ascii width spans (trace, adds.rows)));
-}
-pictures_after ascii width spans traces trace old new (d ∷ ds) each once is adds = record {
-  drawn = (d ∷ ds) ++ (trace, adds.rows) ∷ [];
-  each = map-append (λ (e : ℕ × List Row). e.0) (d ∷ ds) ((trace, adds.rows) ∷ []) ∙ ap (λ (l : List ℕ). l ++ trace ∷ []) each;
-  once = All-append (λ (e : ℕ × List Row). AreDrawnOnce (map (λ (s : Look). s.trace_id == e.0) spans) e.1) (d ∷ ds) ((trace, adds.rows) ∷ []) once (All-cons (λ (e : ℕ × List Row). AreDrawnOnce (map (λ (s : Look). s.trace_id == e.0) spans) e.1) (trace, adds.rows) [] adds.once (All-nil _));
-  is =
-      adds.is
-      ∙ ap (λ (l : List ℕ). with_gap l ++ trace_text ascii width spans (trace, adds.rows)) is
-      ∙ ap (λ (l : List ℕ). l ++ trace_text ascii width spans (trace, adds.rows)) (gap_at (join_by (trace_text ascii width spans) (10 ∷ []) (d ∷ ds)) 116 _ refl)
-      ∙ sym (join_more (trace_text ascii width spans) (10 ∷ []) d ds (trace, adds.rows));
-}
+text_after : (ascii : Bool) (width : ℕ) (spans : List Look) (traces : List ℕ) (trace : ℕ) (old new : List ℕ)
+    → old ≡ join_by (trace_text ascii width spans) (10 ∷ []) traces
+    → new ≡ with_gap old ++ trace_text ascii width spans trace
+    → new ≡ join_by (trace_text ascii width spans) (10 ∷ []) (traces ++ trace ∷ [])
+text_after ascii width spans [] trace old new is adds =
+    adds ∙ ap (λ (l : List ℕ). with_gap l ++ trace_text ascii width spans trace) is
+    ∙ sym (append-nil (trace_text ascii width spans trace))
+text_after ascii width spans (t ∷ ts) trace old new is adds =
+    adds
+    ∙ ap (λ (l : List ℕ). with_gap l ++ trace_text ascii width spans trace) is
+    ∙ ap (λ (l : List ℕ). l ++ trace_text ascii width spans trace) (gap_at (join_by (trace_text ascii width spans) (10 ∷ []) (t ∷ ts)) 116 _ refl)
+    ∙ sym (join_more (trace_text ascii width spans) (10 ∷ []) t ts trace)
 
 pub pictures_more : (ascii : Bool) (width : ℕ) (spans : List Look) (traces : List ℕ) (trace : ℕ) (old new : List ℕ)
     → ArePictures ascii width spans traces old → AddsTrace ascii width spans trace (with_gap old) new → ArePictures ascii width spans (traces ++ trace ∷ []) new
-pictures_more ascii width spans traces trace old new p adds =
-    pictures_after ascii width spans traces trace old new p.drawn p.each p.once p.is adds
+pictures_more ascii width spans traces trace old new p adds = record {
+  once = All-append (HasEachSpan spans) traces (trace ∷ []) p.once (All-cons (HasEachSpan spans) trace [] adds.once (All-nil (HasEachSpan spans)));
+  is = text_after ascii width spans traces trace old new p.is adds.is;
+}
 
 pub no_pictures : (ascii : Bool) (width : ℕ) (spans : List Look) → ArePictures ascii width spans [] []
-no_pictures ascii width spans = record { drawn = []; each = refl; once = All-nil _; is = refl }
+no_pictures ascii width spans = record { once = All-nil (HasEachSpan spans); is = refl }
 
 -- no spans have no text
-without_traces : (ascii : Bool) (width : ℕ) (spans : List Look) (drawn : List (ℕ × List Row)) → map (λ (d : ℕ × List Row). d.0) drawn ≡ [] → join_by (trace_text ascii width spans) (10 ∷ []) drawn ≡ []
-without_traces ascii width spans [] h = refl
-without_traces ascii width spans (d ∷ ds) h = absurd (omega (arith, ap length h))
-
 pub no_spans : (ascii : Bool) (width : ℕ) (text : List ℕ) → IsPicture ascii width [] text → text ≡ []
-no_spans ascii width text p = p.is ∙ without_traces ascii width [] p.drawn p.each
+no_spans ascii width text p = p.is

@@ -9,7 +9,8 @@ use Rattle.otel_waterfall.specs.Drawn.{Look, look_of}
 use Rattle.otel_waterfall.specs.Escape.{between}
 use Rattle.otel_waterfall.specs.PageRow.{names, duration, row}
 use Rattle.otel_waterfall.specs.Picture.{spans_of, least_start, greatest_end, spans_word}
-use Rattle.otel_waterfall.specs.Rows.{AreDrawnOnce}
+use Rattle.otel_waterfall.specs.Picture as picture
+use Rattle.otel_waterfall.specs.Rows.{rows_of}
 use Rattle.otel_waterfall.specs.declared.page.PageSpan.{PageSpan}
 use Rattle.otel_waterfall.specs.declared.page.PageTrace.{PageTrace}
 use Rattle.otel_waterfall.specs.declared.page.TheConstants.{CELLS}
@@ -103,26 +104,23 @@ module _ (alone : Bool) (trace : PageTrace) (spans : List Look) where
 abbrev pub looks : PageTrace → List Look
 looks trace = map look_of_span trace.spans.items
 
--- a trace with these rows
-abbrev pub trace_text : Bool → (PageTrace × List Row) → List ℕ
-trace_text alone drawn = trace_with alone drawn.0 (looks drawn.0) drawn.1
+abbrev pub trace_text : Bool → PageTrace → List ℕ
+trace_text alone trace =
+    trace_with alone trace (looks trace) (rows_of trace.trace_id (looks trace))
 
--- every span of the trace has one row, and no other span has one
-abbrev pub AreRows : PageTrace → List Row → Type 0
-AreRows trace items = AreDrawnOnce (map (λ s. s.trace_id == trace.trace_id) (looks trace)) items
+-- every span of the trace has one of its rows, and no other span has one
+abbrev pub HasEachSpan : PageTrace → Type 0
+HasEachSpan trace = picture.HasEachSpan (looks trace) trace.trace_id
 
 -- the text changed from `old` to `new` by a trace
 pub record AddsTrace (alone : Bool) (trace : PageTrace) (old new : List ℕ) : Type 0 where
-  pub items : List Row
-  pub once : AreRows trace items
-  pub is : new ≡ old ++ trace_text alone (trace, items)
+  pub once : HasEachSpan trace
+  pub is : new ≡ old ++ trace_text alone trace
 
 -- the text is the head of a page and these traces
 pub record AreTraces (alone : Bool) (traces : List PageTrace) (text : List ℕ) : Type 0 where
-  pub drawn : List (PageTrace × List Row)
-  pub each : map (λ d. d.0) drawn ≡ traces
-  pub once : All (λ d. AreRows d.0 d.1) drawn
-  pub is : text ≡ HEAD.now ++ flat_map (trace_text alone) drawn
+  pub once : All HasEachSpan traces
+  pub is : text ≡ HEAD.now ++ flat_map (trace_text alone) traces
 
 -- the text is the page of these traces, in this order
 abbrev pub IsPage : List PageTrace → List ℕ → Type 0

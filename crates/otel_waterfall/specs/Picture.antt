@@ -14,7 +14,7 @@ use Rattle.otel_waterfall.specs.Drawn.{Look, look_of}
 use Rattle.otel_waterfall.specs.Duration.{duration_text}
 use Rattle.otel_waterfall.specs.Line.{name_text, outcome_text}
 use Rattle.otel_waterfall.specs.Name.{fitted, shown_name}
-use Rattle.otel_waterfall.specs.Rows.{AreDrawnOnce}
+use Rattle.otel_waterfall.specs.Rows.{AreDrawnOnce, rows_of}
 use Rattle.otel_waterfall.specs.declared.bar.Scale.{Scale}
 use Rattle.otel_waterfall.specs.declared.columns.Style.{Style}
 use Rattle.otel_waterfall.specs.declared.rows.Row.{Row}
@@ -113,18 +113,21 @@ lines_of ascii width spans own trace rows =
     ++ rows_text ascii width (least_start own) (max (greatest_end own) (least_start own)) spans []
     rows
 
--- the picture of a trace of the spans with these rows
-abbrev pub trace_text : Bool → ℕ → List Look → (ℕ × List Row) → List ℕ
-trace_text ascii width spans drawn =
-    lines_of ascii width spans (spans_of drawn.0 spans) drawn.0 drawn.1
+-- the picture of a trace of the spans
+abbrev pub trace_text : Bool → ℕ → List Look → ℕ → List ℕ
+trace_text ascii width spans trace =
+    lines_of ascii width spans (spans_of trace spans) trace (rows_of trace spans)
 
--- the text changed from `old` to `new` by the picture of a trace of the spans: every span of the
--- trace has one row, and no other span has one
+-- every span of the trace has one of its rows, and no other span has one
+abbrev pub HasEachSpan : List Look → ℕ → Type 0
+HasEachSpan spans trace =
+    AreDrawnOnce (map (λ s. s.trace_id == trace) spans) (rows_of trace spans)
+
+-- the text changed from `old` to `new` by the picture of a trace of the spans
 pub record AddsTrace (ascii : Bool) (width : ℕ) (spans : List Look) (trace : ℕ)
     (old new : List ℕ) : Type 0 where
-  pub rows : List Row
-  pub once : AreDrawnOnce (map (λ s. s.trace_id == trace) spans) rows
-  pub is : new ≡ old ++ trace_text ascii width spans (trace, rows)
+  pub once : HasEachSpan spans trace
+  pub is : new ≡ old ++ trace_text ascii width spans trace
 
 -- ---- pictures
 -- the text and an empty line, unless it is empty
@@ -142,14 +145,11 @@ first_traces before [] = []
 first_traces before (s ∷ more) =
     new_trace before s.trace_id ++ first_traces (before ++ s ∷ []) more
 
--- the text is the pictures of these traces, separated by empty lines; in each, every span of the
--- trace has one row, and no other span has one
+-- the text is the pictures of these traces, separated by empty lines
 pub record ArePictures (ascii : Bool) (width : ℕ) (spans : List Look) (traces text : List ℕ)
     : Type 0 where
-  pub drawn : List (ℕ × List Row)
-  pub each : map (λ d. d.0) drawn ≡ traces
-  pub once : All (λ d. AreDrawnOnce (map (λ s. s.trace_id == d.0) spans) d.1) drawn
-  pub is : text ≡ join_by (trace_text ascii width spans) (10 ∷ []) drawn
+  pub once : All (HasEachSpan spans) traces
+  pub is : text ≡ join_by (trace_text ascii width spans) (10 ∷ []) traces
 
 -- A text of the pictures of some traces changed from `old` to `new` by the picture of one more,
 -- unless one of the spans `before` belongs to it.

@@ -1,7 +1,12 @@
 //! The rows of a trace, in the order in which they are drawn.
-ghost use Rattle.std.specs.Prelude.{◌≡◌, ◌==◌, false, map, IfOk, OnOk, slice_index_or};
+ghost use Rattle.std.specs.Prelude.{◌≡◌, ◌==◌, ℕ, ◌++◌, false, length, map, reverse};
+ghost use Rattle.std.specs.Prelude.{IfOk, OnOk, slice_get, slice_index_or, if◌then◌else◌};
 ghost use Rattle.std.specs.BTreeMap.{get};
+ghost use Rattle.std.specs.Option.{option_map_or, option_or};
 ghost use Rattle.std.specs.Ordering.{nat_cmp};
+ghost use Rattle.otel_waterfall.specs.Drawn.{look};
+ghost use Rattle.otel_waterfall.specs.Rows as spec;
+ghost use Rattle.otel_waterfall.specs.declared.rows.Parent.{Parent};
 ghost use Rattle.otel_waterfall.specs.Rows.{AreDrawnOnce, DrawsOn, IsDrawn, parent_in, top_with};
 
 use crate::span::Span;
@@ -69,14 +74,28 @@ struct Starts {
     places: BTreeMap<u64, usize>,
 }
 
+/// Adds the place of a span with this id, unless the id has a place.
+fn add_place(places: &mut BTreeMap<u64, usize>, id: u64, place: usize) -> Result<(), AllocError>
+    ensures { OnOk result ((other : ℕ) → get nat_cmp places.new other
+        ≡ option_or (get nat_cmp places.old other) (if id == other then Some place else None)) }
+{
+    places.entry(id)?.or_insert(place);
+    Ok(())
+}
+
 /// Returns the spans of a trace.
-fn starts_of(alloc: Global, batch: &[Span], trace: TraceId) -> Result<Starts, AllocError> {
+fn starts_of(alloc: Global, batch: &[Span], trace: TraceId) -> Result<Starts, AllocError>
+    ensures starts { IfOk result (λ spans.
+        spans.starts.items ≡ spec.in_order (spec.starts_from trace 0 (map look batch.now))) }
+    ensures places { IfOk result (λ spans. (id : ℕ) →
+        get nat_cmp spans.places id ≡ spec.place_of trace (map look batch.now) id) }
+{
     let mut starts = Vec::new(alloc);
     let mut places = BTreeMap::new(alloc);
     for (place, span) in batch.iter().enumerate() {
         if span.trace_id == trace {
             starts.push((span.start, place))?;
-            places.entry(number_of(span.span_id))?.or_insert(place);
+            add_place(&mut places, number_of(span.span_id), place)?;
         }
     }
     starts.sort()?;
@@ -97,23 +116,40 @@ fn parent_of(places: &BTreeMap<u64, usize>, span: &Span) -> Parent
     }
 }
 
-/// Returns the spans of a trace, ordered by start and then by place.
-fn nodes_of(alloc: Global, batch: &[Span], trace: TraceId) -> Result<Vec<Node>, AllocError> {
+/// Returns the parent of the span at a place.
+fn parent_at(places: &BTreeMap<u64, usize>, batch: &[Span], place: usize) -> Parent
+    ensures { result ≡ option_map_or
+        (λ span. parent_in (get nat_cmp places.now) span.parent_span_id)
+        (slice_get batch.now place) Parent.Root }
+{
+    match batch.get(place) {
+        Some(span) => parent_of(places, span),
+        None => Parent::Root,
+    }
+}
+
+/// Returns the spans of a trace with their parents, ordered by start and then by place.
+fn nodes_of(alloc: Global, batch: &[Span], trace: TraceId) -> Result<Vec<Node>, AllocError>
+    ensures { IfOk result (λ nodes. nodes.items ≡ spec.nodes_of trace (map look batch.now)) }
+{
     let Starts { starts, places } = starts_of(alloc, batch, trace)?;
     let mut nodes = Vec::new(alloc);
-    for (_, place) in starts {
-        if let Some(span) = batch.get(place) {
-            nodes.push(Node {
-                place,
-                parent: parent_of(&places, span),
-            })?;
-        }
+    for (_, place) in &starts {
+        nodes.push(Node {
+            place: *place,
+            parent: parent_at(&places, batch, *place),
+        })?;
     }
     Ok(nodes)
 }
 
 /// Returns the nodes ordered by parent, and under each parent as before.
-fn children_of(alloc: Global, nodes: &[Node]) -> Result<Vec<Node>, AllocError> {
+fn children_of(alloc: Global, nodes: &[Node]) -> Result<Vec<Node>, AllocError>
+    ensures len { IfOk result (λ children. length children.items ≡ length nodes.now) }
+    ensures sorted { IfOk result (λ children. spec.AreByParent children.items) }
+    ensures same { IfOk result (λ children. (above : Parent) →
+        spec.children_in children.items above ≡ spec.children_in nodes.now above) }
+{
     let mut children = Vec::from_slice(alloc, nodes)?;
     children.sort_by_key(|node| node.parent)?;
     Ok(children)
@@ -138,6 +174,8 @@ impl Drawing {
     fn draw(&mut self, row: Row) -> Result<(), AllocError>
         ensures draws { OnOk result (DrawsOn self.old self.new) }
         ensures drawn { OnOk result (IsDrawn row self.new) }
+        ensures progress { OnOk result
+            (spec.progress self.new ≡ spec.draw row (spec.progress self.old)) }
     {
         match row {
             Row::Span {
@@ -163,6 +201,17 @@ impl Drawing {
     }
 }
 
+/// Returns the nodes under a parent. `children` has all spans of the trace, ordered by parent.
+fn children_under(children: &[Node], parent: Parent) -> &[Node]
+    requires { spec.AreByParent children.now }
+    ensures { result.now ≡ spec.children_in children.now parent }
+{
+    let end = children.partition_point(|node| node.parent <= parent);
+    let up_to = &children[..end];
+    let start = up_to.partition_point(|node| node.parent < parent);
+    &up_to[start..]
+}
+
 /// Pushes the children of a parent that are still to be drawn, the first on top. `children` has all
 /// spans of the trace, ordered by parent.
 fn push_children(
@@ -171,13 +220,14 @@ fn push_children(
     waiting: &mut Vec<Waiting>,
     parent: Parent,
     depth: usize,
-) -> Result<(), AllocError> {
-    let end = children.partition_point(|node| node.parent <= parent);
+) -> Result<(), AllocError>
+    requires { spec.AreByParent children.now }
+    ensures { OnOk result (waiting.new.items ≡ waiting.old.items ++ reverse (spec.siblings depth
+        (spec.undrawn (spec.progress drawing.now) (spec.children_in children.now parent)))) }
+{
     let mut follows = false;
-    for node in children[..end].iter().rev() {
-        if node.parent != parent {
-            break;
-        }
+    let siblings = children_under(children, parent);
+    for node in siblings.iter().rev() {
         if drawing.is_pending(node.place) {
             waiting.push(Waiting {
                 place: node.place,
@@ -200,13 +250,17 @@ fn draw_tree(
     top: Row,
     parent: Parent,
 ) -> Result<(), AllocError>
+    requires { spec.AreByParent children.now }
     ensures draws { OnOk result (DrawsOn drawing.old drawing.new) }
     ensures drawn { OnOk result (IsDrawn top drawing.new) }
+    ensures progress { OnOk result (spec.progress drawing.new ≡ spec.draw_tree
+        (length children.now) (spec.children_in children.now) top parent
+        (spec.progress drawing.old)) }
 {
     drawing.draw(top)?;
     let mut waiting = Vec::new(alloc);
     push_children(children, drawing, &mut waiting, parent, 1)?;
-    for _ in 0..children.len() {
+    for _row in 0..children.len() {
         let Some(next) = waiting.pop() else {
             break;
         };
@@ -215,13 +269,12 @@ fn draw_tree(
             depth: next.depth,
             follows: next.follows,
         })?;
-        let depth = next.depth.saturating_add(1);
         push_children(
             children,
             drawing,
             &mut waiting,
             Parent::At(next.place),
-            depth,
+            next.depth + 1,
         )?;
     }
     Ok(())
@@ -246,6 +299,55 @@ fn top_of(node: Node) -> Option<(Row, Parent)>
     }
 }
 
+/// Draws the tree of a node that is a root, or whose parent is absent, unless the node is drawn.
+/// `children` has all spans of the trace, ordered by parent.
+#[tactic(auto, using(crate::proofs::Draws::draws_nothing))]
+fn draw_top(
+    alloc: Global,
+    children: &[Node],
+    drawing: &mut Drawing,
+    node: Node,
+) -> Result<(), AllocError>
+    requires { spec.AreByParent children.now }
+    ensures draws { OnOk result (DrawsOn drawing.old drawing.new) }
+    ensures progress { OnOk result (spec.progress drawing.new ≡ spec.draw_top
+        (length children.now) (spec.children_in children.now) (spec.progress drawing.old) node) }
+{
+    if !drawing.is_pending(node.place) {
+        return Ok(());
+    }
+    let Some((row, parent)) = top_of(node) else {
+        return Ok(());
+    };
+    draw_tree(alloc, children, drawing, row, parent)
+}
+
+/// Draws the span at a place as a root, with its tree, unless it is drawn. `children` has all spans
+/// of the trace, ordered by parent.
+#[tactic(auto, using(crate::proofs::Draws::draws_nothing))]
+fn draw_left(
+    alloc: Global,
+    children: &[Node],
+    drawing: &mut Drawing,
+    place: usize,
+) -> Result<(), AllocError>
+    requires { spec.AreByParent children.now }
+    ensures draws { OnOk result (DrawsOn drawing.old drawing.new) }
+    ensures drawn { OnOk result (slice_index_or drawing.new.pending.items place false ≡ false) }
+    ensures progress { OnOk result (spec.progress drawing.new ≡ spec.draw_left
+        (length children.now) (spec.children_in children.now) place (spec.progress drawing.old)) }
+{
+    if !drawing.is_pending(place) {
+        return Ok(());
+    }
+    let row = Row::Span {
+        place,
+        depth: 0,
+        follows: false,
+    };
+    draw_tree(alloc, children, drawing, row, Parent::At(place))
+}
+
 /// Returns, for each span of the batch, whether it belongs to the trace.
 fn spans_of(alloc: Global, batch: &[Span], trace: TraceId) -> Result<Vec<bool>, AllocError>
     ensures { IfOk result (λ flags. flags.items ≡ map (λ span. span.trace_id == trace) batch.now) }
@@ -264,10 +366,10 @@ fn spans_of(alloc: Global, batch: &[Span], trace: TraceId) -> Result<Vec<bool>, 
 /// # Errors
 ///
 /// Returns an error if out of memory.
-#[tactic(auto, using(crate::proofs::Draws::draws_more, crate::proofs::Draws::draws_nothing))]
 pub(crate) fn rows_of(alloc: Global, batch: &[Span], trace: TraceId) -> Result<Vec<Row>, AllocError>
     ensures once { IfOk result (λ rows.
         AreDrawnOnce (map (λ span. span.trace_id == trace) batch.now) rows.items) }
+    ensures rows { IfOk result (λ rows. rows.items ≡ spec.rows_of trace (map look batch.now)) }
 {
     let nodes = nodes_of(alloc, batch, trace)?;
     let children = children_of(alloc, nodes.as_slice())?;
@@ -276,30 +378,10 @@ pub(crate) fn rows_of(alloc: Global, batch: &[Span], trace: TraceId) -> Result<V
         rows: Vec::new(alloc),
     };
     for node in &nodes {
-        if !drawing.is_pending(node.place) {
-            continue;
-        }
-        let Some((row, parent)) = top_of(*node) else {
-            continue;
-        };
-        draw_tree(alloc, children.as_slice(), &mut drawing, row, parent)?;
+        draw_top(alloc, children.as_slice(), &mut drawing, *node)?;
     }
     for place in 0..batch.len() {
-        if !drawing.is_pending(place) {
-            continue;
-        }
-        let row = Row::Span {
-            place,
-            depth: 0,
-            follows: false,
-        };
-        draw_tree(
-            alloc,
-            children.as_slice(),
-            &mut drawing,
-            row,
-            Parent::At(place),
-        )?;
+        draw_left(alloc, children.as_slice(), &mut drawing, place)?;
     }
     Ok(drawing.rows)
 }
