@@ -3,6 +3,7 @@ mod ApplyLemmas
 mod DrawLemmas
 pub mod EndLemmas
 mod EnvLemmas
+mod EnvVariableLemmas
 mod JournalLemmas
 mod KinLemmas
 mod KinRuns
@@ -15,4 +16,5 @@ mod Rising
 mod RunLemmas
 mod Scaling
 mod Starts
+mod TimerLemmas
 mod TracingLemmas

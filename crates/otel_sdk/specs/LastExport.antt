@@ -1,5 +1,6 @@
 -- The last export of a `Tracing`, which is tried again for some time. Not in the Rust crate.
-use Rattle.std.specs.Prelude.{◌≡◌, ◌*◌, ◌==◌, ℕ, List, Result, Ok, Err, false, if◌then◌else◌, refl}
+use Rattle.std.specs.Prelude.{◌≡◌, ◌≢◌, ◌⊎◌, ◌<◌, ◌≤◌, ◌-◌, ◌*◌, ◌==◌, ℕ, zero, suc, List}
+use Rattle.std.specs.Prelude.{Result, Ok, Err, OnErr, false, if◌then◌else◌, refl}
 use Rattle.otel_sdk.specs.Tracing.{TracingState, ShutsDown}
 use Rattle.otel_sdk.specs.declared.trace.tracing.last_export.Unfinished.{Unfinished}
 use Rattle.otel_sdk.specs.declared.trace.tracing.last_export.Unfinished.TheVariants.{Dropped}
@@ -12,34 +13,93 @@ use Rattle.otel_sdk_span.specs.SpanData.{SpanRecord}
 abbrev pub nanos_of : ℕ → ℕ
 nanos_of millis = millis * 1000000
 
+-- the nanoseconds between two tries
+abbrev pub pause : ℕ
+pause = 100000000
+
+-- a clock that shows no later moment so often in a row has stopped
+abbrev pub still : ℕ
+still = 10000000
+
 -- the outcome of the last shutdown, before which a full queue had dropped this many spans
 abbrev pub outcome_of : Result ℕ OTelSdkError → ℕ → Result (Unit {0}) Unfinished
 outcome_of (Err error) dropped = Err (Refused error)
 outcome_of (Ok count) dropped = if dropped == 0 then Ok tt else Err (Dropped dropped)
 
+-- ---- time
+
+-- the moment that a clock showed last, and the nanoseconds that are left
+pub record TimeLeft : Type 0 where
+  pub last : ℕ
+  pub left : ℕ
+
+-- The clock showed this moment. The time is no longer if the clock was set back.
+abbrev pub with_moment : ℕ → TimeLeft → TimeLeft
+with_moment now time = record { last = now; left = time.left - (now - time.last) }
+
+-- Only a reading of the clock shows that `reads` holds of a moment.
+module _ (reads : ℕ → Type 0) where
+  -- the clock was read, none or more times, each time while more than `due` was left
+  pub data Waits (due : ℕ) : TimeLeft → TimeLeft → Type 0 where
+    unread : (time : TimeLeft) → Waits due time time
+    read_again : (old time : TimeLeft) (now : ℕ) → Waits due old time → due < time.left
+        → reads now → Waits due old (with_moment now time)
+
+  -- each of the last readings, of this number, showed no later moment than the one before it
+  unfoldable pub StoodStill : ℕ → ℕ → Type 0
+  StoodStill zero last = Unit {0}
+  StoodStill (suc count) last =
+      reads last × (before : ℕ) × (last ≤ before) × StoodStill count before
+
+  -- some time was left, and the clock was read until the pause was over, or the time
+  pub record HasWaited (old new : TimeLeft) : Type 0 where
+    pub some : old.left ≢ 0
+    pub read : Waits (old.left - pause) old new
+    pub over : new.left ≤ old.left - pause
+
+  -- no time is left, or the clock stopped before the pause was over
+  abbrev pub HasGivenUp : TimeLeft → Type 0
+  HasGivenUp time = (time.left ≡ 0)
+      ⊎ ((stopped : TimeLeft) × Waits (time.left - pause) time stopped
+      × StoodStill still stopped.last)
+
+-- ---- tries
+
 module _ {P E : Type 0} where
-  -- Shutdowns were tried, none or more. Each failed, and left the processor open.
-  pub data Tries (accepted : E → List (List SpanRecord)) (calls : Calls E)
-      : TracingState P E → TracingState P E → Type 0 where
-    none : (t : TracingState P E) → Tries accepted calls t t
-    again : (old before new : TracingState P E) (error : OTelSdkError)
-        → Tries accepted calls old before
+  -- Shutdowns were tried, none or more. Each failed, and left the processor open, and then the
+  -- clock was read until the next one was due.
+  pub data Tries (accepted : E → List (List SpanRecord)) (calls : Calls E) (reads : ℕ → Type 0)
+      : TracingState P E → TimeLeft → TracingState P E → TimeLeft → Type 0 where
+    none : (t : TracingState P E) (time : TimeLeft) → Tries accepted calls reads t time t time
+    again : (old before new : TracingState P E) (start time next : TimeLeft) (error : OTelSdkError)
+        → Tries accepted calls reads old start before time
         → ShutsDown accepted calls (Err error) before new
         → new.processor.is_shut_down ≡ false
-        → Tries accepted calls old new
+        → HasWaited reads time next
+        → Tries accepted calls reads old start new next
 
   -- This is the answer of the last shutdown; each one before failed, and left the processor open.
-  pub record IsLast (accepted : E → List (List SpanRecord)) (calls : Calls E)
-      (answer : Result ℕ OTelSdkError) (old new : TracingState P E) : Type 0 where
+  -- If this one did too, the time is over, or the clock stopped.
+  pub record IsLast (accepted : E → List (List SpanRecord)) (calls : Calls E) (reads : ℕ → Type 0)
+      (start : TimeLeft) (answer : Result ℕ OTelSdkError) (old new : TracingState P E)
+      : Type 0 where
     pub before : TracingState P E
-    pub tries : Tries accepted calls old before
+    pub time : TimeLeft
+    pub tries : Tries accepted calls reads old start before time
     pub last : ShutsDown accepted calls answer before new
+    pub gave_up : OnErr answer
+        (new.processor.is_shut_down ≡ false → HasGivenUp reads time)
 
-  -- The shutdown was tried until one succeeded, or the last one failed (`finish`).
+  -- The clock was read, and then the shutdown was tried until one succeeded, or the last one
+  -- failed (`finish`).
   pub record Finishes (accepted : E → List (List SpanRecord)) (calls : Calls E)
-      (answer : Result (Unit {0}) Unfinished) (old new : TracingState P E) : Type 0 where
+      (reads : ℕ → Type 0) (millis : ℕ) (answer : Result (Unit {0}) Unfinished)
+      (old new : TracingState P E) : Type 0 where
+    pub moment : ℕ
+    pub shown : reads moment
     pub shutdown : Result ℕ OTelSdkError
-    pub last : IsLast accepted calls shutdown old new
+    pub last : IsLast accepted calls reads (record { last = moment; left = nanos_of millis })
+        shutdown old new
     pub outcome : answer ≡ outcome_of shutdown new.processor.dropped
 
 -- ---- worked rows
@@ -48,3 +108,12 @@ dropped_example = refl
 
 all_arrived_example : outcome_of (Ok 2) 0 ≡ Ok tt
 all_arrived_example = refl
+
+-- a clock that was set back by 5 doesn't make the time longer
+set_back_example : with_moment 15 (record { last = 20; left = 7 })
+    ≡ record { last = 15; left = 7 }
+set_back_example = refl
+
+time_over_example : with_moment 30 (record { last = 20; left = 7 })
+    ≡ record { last = 30; left = 0 }
+time_over_example = refl

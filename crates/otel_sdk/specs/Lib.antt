@@ -7,6 +7,7 @@ pub mod EnvPropagators
 pub mod ConfiguredPropagator
 pub mod EnvSampler
 pub mod EnvTexts
+pub mod EnvVariables
 pub mod EnvWarnings
 pub mod IdGenerator
 pub mod Journal

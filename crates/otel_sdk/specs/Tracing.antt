@@ -98,6 +98,10 @@ abbrev pub after_reading : Bool → ℕ → List ℕ → List ℕ
 after_reading is_disabled moment moments =
     if is_disabled then moments else moments ++ moment ∷ []
 
+-- the clock gave no moment, or one more
+abbrev pub IsReadAtMostOnce : List ℕ → List ℕ → Type 0
+IsReadAtMostOnce old new = (new ≡ old) ⊎ ((moment : ℕ) × (new ≡ old ++ moment ∷ []))
+
 -- the current context, with the span as its active one, under the next number
 abbrev pub context_with : SpanState → LiveState → Live → ContextRecord
 context_with span spans contexts =
@@ -158,11 +162,12 @@ module _ {P E : Type 0} where
     pub span : UnlessDisabled old new (EntersSpan may_start builder old new entered)
     pub disabled : IsTrue old.is_disabled → entered ≡ no_entered
 
-  -- No span was entered. At most one more number was used, and the clock may have been read.
+  -- No span was entered. At most one more number was used, and the clock was read at most once.
   pub record EntersNone (old new : TracingState P E) : Type 0 where
     pub enabled : old.is_disabled ≡ false
     pub same : new ≡ record old { spans = new.spans; moments = new.moments }
     pub spans : SameSpans old.spans new.spans
+    pub clock : IsReadAtMostOnce old.moments new.moments
 
   -- the innermost span ended at the moment, and was detached; these are the ones outside it
   abbrev pub without_innermost : ℕ → Entered → List Entered → TracingState P E → TracingState P E

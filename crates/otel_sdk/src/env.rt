@@ -15,6 +15,7 @@ mod propagators;
 mod read;
 mod sampler;
 mod texts;
+mod variables;
 mod warning;
 
 use crate::trace::Sampler;
@@ -29,8 +30,10 @@ use otel_sdk_base::resource::Resource;
 use otel_sdk_logs::LogRecordLimits;
 use otel_sdk_span::SpanLimits;
 pub use propagators::EnvPropagator;
+pub use read::WarningSink;
 pub use sampler::EnvSampler;
 use std::alloc::{AllocError, Global};
+pub use variables::VariableSource;
 pub use warning::{EnvWarning, Instead};
 
 /// The configuration that environment variables give.

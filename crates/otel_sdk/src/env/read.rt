@@ -1,49 +1,45 @@
 //! A configuration from the environment of the process.
-ghost use Rattle.std.specs.Prelude.{◌≡◌, IfOk};
+ghost use Rattle.std.specs.Prelude.{◌≡◌, All, IfOk};
 ghost use Rattle.otel_sdk.specs.EnvConfig as spec;
 ghost use Rattle.otel_sdk.specs.EnvConfig.{config_of};
 ghost use Rattle.otel_sdk.specs.EnvTexts.{Variables};
+ghost use Rattle.otel_sdk.specs.EnvVariables.{AreRead, names_in};
+ghost use Rattle.otel_sdk.specs.declared.env.help.TheConstants.{HELP};
 
+use super::help::HELP;
+use super::variables::{VariableSource, variables};
 use super::{EnvConfig, EnvWarning};
 use std::alloc::{AllocError, AllocGlobal};
-use std::env::{Env, VarError, var};
 use std::io::Eprint;
 
-/// Reads the text of a variable. Returns `None` if the variable isn't set.
+/// An output for warnings. Every runtime with a standard error is one. Not in the Rust crate.
 ///
-/// # Errors
-///
-/// `AllocError` if out of memory.
-fn text_of(rt: &(impl Env + AllocGlobal), name: &str) -> Result<Option<String>, AllocError> {
-    match var(rt, name) {
-        Ok(text) => Ok(Some(text)),
-        Err(VarError::NotPresent) => Ok(None),
-        Err(VarError::NotUnicode) => Ok(Some(String::from_str(rt.alloc(), "\u{fffd}")?)),
-        Err(VarError::OutOfMemory) => Err(AllocError),
+/// No contract says what an output gets. So a call ensures a ghost relation of which code that is
+/// generic over this trait knows nothing: only the call shows that the warning was told.
+pub trait WarningSink {
+    ghost use Rattle.otel_sdk.specs.declared.env.warning.EnvWarning.{EnvWarning};
+
+    ghost is_told: { EnvWarning → Type 0 };
+
+    /// Writes the warning, as a line. An error is ignored.
+    fn tell(&self, warning: &EnvWarning)
+        ensures { is_told warning.now };
+}
+
+impl<R: Eprint> WarningSink for R {
+    ghost is_told = { λ _. Unit {0} };
+
+    fn tell(&self, warning: &EnvWarning) {
+        drop(eprintln!(self; "{warning}"));
     }
 }
 
-/// Reads the variables that are set.
-///
-/// # Errors
-///
-/// `AllocError` if out of memory.
-fn variables(rt: &(impl Env + AllocGlobal)) -> Result<Vec<(String, String)>, AllocError> {
-    let mut vars = Vec::new(rt.alloc());
-    for line in EnvConfig::HELP.lines() {
-        if let Some((name, _)) = line.split_once(' ')
-            && let Some(text) = text_of(rt, name)?
-        {
-            vars.push((String::from_str(rt.alloc(), name)?, text))?;
-        }
-    }
-    Ok(vars)
-}
-
-/// Writes the warnings to standard error, a line each.
-fn tell(rt: &impl Eprint, warnings: &[EnvWarning]) {
+/// Tells each warning, in order.
+fn tell_each<S: WarningSink>(sink: &S, warnings: &[EnvWarning])
+    ensures { All S.is_told warnings.now }
+{
     for warning in warnings {
-        drop(eprintln!(rt; "{warning}"));
+        sink.tell(warning);
     }
 }
 
@@ -52,16 +48,22 @@ impl EnvConfig {
     /// does from its variables, and writes each warning to standard error, as a line. A text that
     /// isn't UTF-8 counts as U+FFFD.
     ///
+    /// Reads the variables of [`EnvConfig::HELP`].
+    ///
     /// # Errors
     ///
     /// `AllocError` if out of memory.
-    pub fn from_env(rt: &(impl Env + AllocGlobal + Eprint)) -> Result<EnvConfig, AllocError>
-        ensures { IfOk result (λ config. (vars : Variables)
+    pub fn from_env<R>(rt: &R) -> Result<EnvConfig, AllocError>
+    where
+        R: VariableSource + WarningSink + AllocGlobal,
+        ensures read { IfOk result (λ config. (vars : Variables)
+            × AreRead R.VariableSource.may_be (names_in HELP.now) vars
             × (config_of config ≡ spec.env_config vars)) }
+        ensures told { IfOk result (λ config. All R.WarningSink.is_told config.warnings.items) }
     {
-        let vars = variables(rt)?;
+        let vars = variables(rt, HELP)?;
         let config = EnvConfig::from_vars(rt.alloc(), vars.as_slice())?;
-        tell(rt, config.warnings.as_slice());
+        tell_each(rt, config.warnings.as_slice());
         Ok(config)
     }
 }

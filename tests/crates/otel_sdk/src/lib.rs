@@ -10,6 +10,7 @@ mod ended;
 mod env;
 mod errors;
 mod exporter;
+mod from_env;
 mod id_generator;
 mod last_export;
 mod processor;

@@ -1,7 +1,7 @@
 //! The configuration by environment variables.
 use crate::lines::Lines;
 use otel_sdk::EnvConfig;
-use otel_sdk::env::{EnvSampler, WithEnv};
+use otel_sdk::env::{EnvSampler, VariableSource, WithEnv};
 use otel_sdk::logs::SdkLoggerProvider;
 use otel_sdk::trace::{Sampler, SdkTracerProvider, ShouldSample, Tracing};
 use std::alloc::{AllocError, Global};
@@ -14,6 +14,9 @@ pub fn play<R: Print>(rt: HostRuntime, lines: &Lines<'_, R>) {
     if lines.begin("env-of-the-process") {
         let config = EnvConfig::from_env(&rt);
         lines.answer_of(config.map(|config| config.warnings.len()));
+    }
+    if lines.begin("env-variable") {
+        lines.answer_of(rt.variable("OTEL_NO_SUCH").map(|text| text.is_some()));
     }
     if lines.begin("env-resource") {
         lines.end(resource(alloc, lines));

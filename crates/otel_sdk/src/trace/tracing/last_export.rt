@@ -1,7 +1,7 @@
 //! The last export of a `Tracing`, which is tried again for some time.
-ghost use Rattle.std.specs.Prelude.{◌≡◌, ◌≢◌, ◌-◌, ◌<◌, ◌≤◌, ℕ, IsTrue, OnOk, false};
+ghost use Rattle.std.specs.Prelude.{◌≡◌, ◌≢◌, ◌-◌, ◌<◌, ◌≤◌, IsTrue, OnOk, false};
 ghost use Rattle.otel_sdk.specs.LastExport as spec;
-ghost use Rattle.otel_sdk.specs.LastExport.{Finishes, IsLast};
+ghost use Rattle.otel_sdk.specs.LastExport.{Finishes, HasGivenUp, HasWaited, IsLast, with_moment};
 ghost use Rattle.otel_sdk.specs.Tracing.{HasArrived, IsDone};
 
 use super::Tracing;
@@ -10,6 +10,7 @@ use crate::trace::tracer::Pipeline;
 use otel_sdk_base::Clock;
 use otel_sdk_base::error::OTelSdkError;
 use otel_sdk_span::SpanExporter;
+use std::marker::Model;
 use thiserror::Error;
 
 /// The time between two tries, in nanoseconds.
@@ -39,6 +40,14 @@ struct Timer {
     left: u64,
 }
 
+impl Model for Timer {
+    ghost use Rattle.otel_sdk.specs.LastExport.{TimeLeft};
+
+    ghost Value = { TimeLeft };
+
+    ghost view = { λ t. record { last = t.last; left = t.left } };
+}
+
 impl Timer {
     /// Returns a timer that starts now.
     fn new<C: Clock>(clock: &C, millis: u32) -> Timer
@@ -54,7 +63,7 @@ impl Timer {
     /// Reads the clock. Returns `true` if it shows a later moment than before.
     fn read<C: Clock>(&mut self, clock: &C) -> bool
         ensures shown { C.reads clock.now self.new.last }
-        ensures passed { self.new.left ≡ self.old.left - (self.new.last - self.old.last) }
+        ensures passed { self.new ≡ with_moment self.new.last self.old }
         ensures later { IsTrue result → self.old.last < self.new.last }
         ensures still { result ≡ false → self.new.last ≤ self.old.last }
     {
@@ -68,10 +77,11 @@ impl Timer {
     /// Reads the clock until [`PAUSE`] has passed, or the time is over. Returns `false` if the time
     /// was over before, or if the clock has stopped.
     fn wait<C: Clock>(&mut self, clock: &C) -> bool
-        ensures waited { IsTrue result → self.new.left ≤ self.old.left - PAUSE }
+        ensures waited { IsTrue result → HasWaited (C.reads clock.now) self.old self.new }
         ensures less { IsTrue result → self.new.left < self.old.left }
         ensures stopped { result ≡ false → self.old.left ≢ 0
             → self.old.left - PAUSE < self.new.left }
+        ensures gave_up { result ≡ false → HasGivenUp (C.reads clock.now) self.old }
     {
         if self.left == 0 {
             return false;
@@ -91,7 +101,8 @@ fn shut_down<P: Pipeline, E: SpanExporter, C: Clock>(
     clock: &C,
     mut timer: Timer,
 ) -> Result<usize, OTelSdkError>
-    ensures last { IsLast E.accepted E.calls result tracing.old tracing.new }
+    ensures last { IsLast E.accepted E.calls (C.reads clock.now) timer result
+        tracing.old tracing.new }
     ensures done { OnOk result (IsDone tracing.new) }
     ensures arrived { OnOk result (HasArrived E.accepted E.calls tracing.new) }
 {
@@ -121,7 +132,8 @@ pub fn finish<P: Pipeline, E: SpanExporter, C: Clock>(
     clock: &C,
     batches: &EnvBatches,
 ) -> Result<(), Unfinished>
-    ensures finishes { Finishes E.accepted E.calls result tracing.old tracing.new }
+    ensures finishes { Finishes E.accepted E.calls (C.reads clock.now)
+        batches.now.export_timeout_millis result tracing.old tracing.new }
     ensures done { OnOk result (IsDone tracing.new) }
     ensures arrived { OnOk result (HasArrived E.accepted E.calls tracing.new) }
     ensures none_dropped { OnOk result (tracing.new.processor.dropped ≡ 0) }

@@ -1,25 +1,13 @@
-use Rattle.std.proofs.Common.{◌≡◌, ℕ, List, Result, Ok, Err, IsErr, false, true, rules}
-use Rattle.otel_sdk.specs.LastExport.{IsLast, Tries, again, none}
-use Rattle.otel_sdk.specs.Tracing.{TracingState}
-use Rattle.otel_sdk_base.specs.Export.{Calls}
-use Rattle.otel_sdk_base.specs.declared.error.OTelSdkError.{OTelSdkError}
-use Rattle.otel_sdk_span.specs.SpanData.{SpanRecord}
+use Rattle.std.proofs.Common.{rules}
+use Rattle.otel_sdk.specs.LastExport.{none}
+use Rattle.otel_sdk.proofs.TimerLemmas.{is_last, one_try_more}
 use Rattle.otel_sdk.proofs.trace.tracing.last_export.shut_down.Goals as goal
-
--- a last shutdown that failed and left the processor open is one of the tries
-one-more : {P E : Type 0} (accepted : E → List (List SpanRecord)) (calls : Calls E)
-    (answer : Result ℕ OTelSdkError) (old new : TracingState P E) → IsErr answer
-    → new.processor.is_shut_down ≡ false → IsLast accepted calls answer old new
-    → Tries accepted calls old new
-one-more accepted calls (Ok count) old new failed stays last = let h : false ≡ true = failed in cc
-one-more accepted calls (Err error) old new failed stays last =
-    again old last.before new error last.tries last.last stays
 
 pub loop-tracing-init : goal.loop-tracing-init
 loop-tracing-init g c = record {
-  last = record {
+  tried = record {
     before = c.args.tracing.now;
-    tries = none c.args.tracing.now;
+    tries = none c.args.tracing.now c.args.timer;
     last = c.shutdown-answer.ensures.shuts_down;
   };
   done = c.shutdown-answer.ensures.done;
@@ -28,12 +16,28 @@ loop-tracing-init g c = record {
 
 pub loop-tracing-preserved : goal.loop-tracing-preserved
 loop-tracing-preserved g c = record {
-  last = record {
+  tried = record {
     before = c.loop-tracing.tracing;
-    tries = one-more g.E.Exporter.accepted g.E.Exporter.calls c.loop-tracing.answer
-        c.args.tracing.now c.loop-tracing.tracing (search rules) (search rules) c.loop-tracing.invariant.last;
+    tries = one_try_more g.E.Exporter.accepted g.E.Exporter.calls (g.C.Clock.reads c.args.clock.now) c.args.timer
+        c.loop-tracing.timer c.wait.new.self c.loop-tracing.answer c.args.tracing.now c.loop-tracing.tracing
+        (search rules) (search rules) (search rules) c.loop-tracing.invariant.tried;
     last = c.shutdown-answer-in-loop-tracing.ensures.shuts_down;
   };
   done = c.shutdown-answer-in-loop-tracing.ensures.done;
   arrived = c.shutdown-answer-in-loop-tracing.ensures.arrived;
 }
+
+pub returns-else-wait-clause-last : goal.returns-else-wait-clause-last
+returns-else-wait-clause-last g c =
+    is_last g.E.Exporter.accepted g.E.Exporter.calls (g.C.Clock.reads c.args.clock.now) c.args.timer c.loop-tracing.timer
+    c.loop-tracing.answer c.args.tracing.now c.loop-tracing.tracing c.loop-tracing.invariant.tried (search rules)
+
+pub returns-else-not-is_shut_down-clause-last : goal.returns-else-not-is_shut_down-clause-last
+returns-else-not-is_shut_down-clause-last g c =
+    is_last g.E.Exporter.accepted g.E.Exporter.calls (g.C.Clock.reads c.args.clock.now) c.args.timer c.loop-tracing.timer
+    c.loop-tracing.answer c.args.tracing.now c.loop-tracing.tracing c.loop-tracing.invariant.tried (search rules)
+
+pub returns-after-loop-tracing-clause-last : goal.returns-after-loop-tracing-clause-last
+returns-after-loop-tracing-clause-last g c =
+    is_last g.E.Exporter.accepted g.E.Exporter.calls (g.C.Clock.reads c.args.clock.now) c.args.timer c.loop-tracing.timer
+    c.loop-tracing.answer c.args.tracing.now c.loop-tracing.tracing c.loop-tracing.invariant.tried (search rules)

@@ -1,12 +1,12 @@
 use Rattle.std.proofs.Common.{OnOk}
-use Rattle.otel_sdk.specs.LastExport.{IsLast}
 use Rattle.otel_sdk.specs.Tracing.{HasArrived, IsDone}
+use Rattle.otel_sdk.proofs.TimerLemmas.{Tried}
 use Rattle.otel_sdk.proofs.trace.tracing.last_export.shut_down.Given as goal
 
 -- the answer is that of the last shutdown
 abbrev pub invariant-loop-tracing : goal.invariant-loop-tracing
 invariant-loop-tracing g l = record {
-  last : IsLast g.E.Exporter.accepted g.E.Exporter.calls l.answer l.fn.tracing l.tracing;
+  tried : Tried g.E.Exporter.accepted g.E.Exporter.calls (g.C.Clock.reads l.clock) l.fn.timer l.timer l.answer l.fn.tracing l.tracing;
   done : OnOk l.answer (IsDone l.tracing);
   arrived : OnOk l.answer (HasArrived g.E.Exporter.accepted g.E.Exporter.calls l.tracing);
 }
