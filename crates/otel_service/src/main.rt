@@ -17,7 +17,7 @@ use std::process::ExitCode;
 /// Answers the requests, and hands their spans to the exporter.
 fn run<E: SpanExporter, L: Logger>(call: &Call<L>, matches: &ArgMatches<'_>, to: E) -> Result<()> {
     let spans = Tracing::builder(call.rt).with_exporter(to);
-    let spans = spans.with_env(call.rt.alloc(), &call.env)?;
+    let spans = spans.with_env(call.rt.alloc(), call.env)?;
     if matches.get_flag("fixed") {
         // A millisecond from one reading of the clock to the next.
         return Service::serve(call, spans.counted(1_000_000).build(call.rt.alloc(), NAME)?);
@@ -58,22 +58,21 @@ fn export<L: Logger>(call: &Call<L>, matches: &ArgMatches<'_>) -> Result<()> {
 }
 
 /// Answers the requests as the environment and the arguments say.
-fn start(rt: HostRuntime, matches: &ArgMatches<'_>) -> Result<()> {
-    let env = EnvConfig::from_env(&rt)?;
+fn start(rt: HostRuntime, env: &EnvConfig, matches: &ArgMatches<'_>) -> Result<ExitCode> {
     let call = Call {
         rt,
-        propagator: env.propagator(rt.alloc())?,
-        log: logger(rt, &env)?,
         env,
+        propagator: &env.propagator(rt.alloc())?,
+        log: &logger(rt, env)?,
         is_lines: matches.get_flag("headers"),
     };
-    export(&call, matches)
+    export(&call, matches).map(|_| ExitCode::SUCCESS)
 }
 
 fn main(rt: HostRuntime) -> Result<ExitCode> {
     let words: Vec<String> = std::env::args(&rt)?.collect(rt.alloc())?;
     match command(rt.alloc())?.try_get_matches_from(words.as_slice()) {
-        Ok(matches) => start(rt, &matches).map(|_| ExitCode::SUCCESS),
+        Ok(matches) => start(rt, &EnvConfig::from_env(&rt)?, &matches),
         Err(error) => {
             error.print(&rt)?;
             Ok(ExitCode::from(error.exit_code() as u8))

@@ -24,15 +24,15 @@ pub type Log = OpenTelemetryLogBridge<SimpleLogger<OtlpJsonLogExporter<Stderr>, 
 
 /// How the program was called, and what its requests share.
 #[derive(Drop)]
-pub struct Call<L> {
+pub struct Call<'a, L> {
     /// The runtime.
     pub rt: HostRuntime,
     /// The configuration from the environment.
-    pub env: EnvConfig,
+    pub env: &'a EnvConfig,
     /// Reads and writes the headers.
-    pub propagator: ConfiguredPropagator,
+    pub propagator: &'a ConfiguredPropagator,
     /// Writes the log lines.
-    pub log: OpenTelemetryLogBridge<L>,
+    pub log: &'a OpenTelemetryLogBridge<L>,
     /// Whether a request is lines of headers.
     pub is_lines: bool,
 }
@@ -54,7 +54,7 @@ pub fn logger(rt: HostRuntime, env: &EnvConfig) -> Result<Log, AllocError> {
 #[derive(Drop)]
 pub struct Service<'a, P, E: SpanExporter, L> {
     /// How it was called.
-    pub call: &'a Call<L>,
+    pub call: &'a Call<'a, L>,
     /// Starts and exports the spans.
     pub tracing: Tracing<P, E>,
     /// Whether a failed export was told.
@@ -67,7 +67,7 @@ impl<'a, P: Pipeline, E: SpanExporter, L: Logger> Service<'a, P, E, L> {
     /// # Errors
     ///
     /// The reason why the input isn't read, an answer isn't written, or spans are lost.
-    pub fn serve(call: &'a Call<L>, tracing: Tracing<P, E>) -> Result<()> {
+    pub fn serve(call: &'a Call<'a, L>, tracing: Tracing<P, E>) -> Result<()> {
         let mut service = Service {
             call,
             tracing,
@@ -125,7 +125,7 @@ impl<'a, P: Pipeline, E: SpanExporter, L: Logger> Service<'a, P, E, L> {
     /// The reason why the request isn't served, which its span shows.
     pub fn answer(&mut self, path: &str, headers: &HeaderMap) -> Result<String> {
         let received = HeaderExtractor::new(self.call.rt.alloc(), headers)?;
-        let caller = self.tracing.receive(&self.call.propagator, &received)?;
+        let caller = self.tracing.receive(self.call.propagator, &received)?;
         let builder = SpanBuilder::from_name("serve".into());
         let span = self.tracing.enter_with(builder.with_kind(SpanKind::Server));
         let lines = self.work(path).inspect_err(|error| drop(self.show(error)));
@@ -162,7 +162,7 @@ impl<'a, P: Pipeline, E: SpanExporter, L: Logger> Service<'a, P, E, L> {
         ensure!(path == "/cart", "no price for {path}");
         log::info!(self.call.log.sink(self.tracing.context()); target: NAME, "served /cart");
         let mut sent = HeaderInjector::new(HeaderMap::new(self.call.rt.alloc()));
-        self.tracing.send(&self.call.propagator, &mut sent)?;
+        self.tracing.send(self.call.propagator, &mut sent)?;
         Ok(sent.to_string(self.call.rt.alloc())?)
     }
 

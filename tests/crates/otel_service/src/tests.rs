@@ -25,9 +25,9 @@ fn answered(rt: HostRuntime, given: &[u8], fails: bool) -> anyhow::Result<Outcom
     let env = EnvConfig::from_vars(alloc, &[])?;
     let call = Call {
         rt,
-        propagator: env.propagator(alloc)?,
-        log: logger(rt, &env)?,
-        env,
+        env: &env,
+        propagator: &env.propagator(alloc)?,
+        log: &logger(rt, &env)?,
         is_lines: true,
     };
     let tracing = Tracing::builder(rt)
