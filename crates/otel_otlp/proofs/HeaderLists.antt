@@ -1,8 +1,9 @@
 -- One turn of the loop over the pieces of a list of headers.
-use Rattle.std.proofs.Common.{◌≡◌, ◌⊎◌, inl, Bool, true, false, ℕ, ◌+◌, ◌<◌, ◌≤◌, List, length, take, get_or, fold, map, Option, Some, None, sym, ap, ◌∙◌, subst, Bor, Iter}
+use Rattle.std.proofs.Common.{◌≡◌, ◌⊎◌, inl, Bool, true, false, ℕ, ◌+◌, ◌<◌, ◌≤◌, List, ◌∷◌, ◌++◌, length, take, drop, get_or, fold, add-one, map, Option, Some, None, sym, ap, ◌∙◌, subst, Bor, Iter}
 use Rattle.std.specs.Prelude.{All, option_map}
 use Rattle.std.specs.Slice.Iter.{iter_rest, iter_steps}
-use Rattle.std.proofs.lemmas.List.{take_all, nil_from_length}
+use Rattle.std.proofs.lemmas.List.{take_all, nil_from_length, take-append-drop}
+use Rattle.std.proofs.Math.Seq.{drop-cons}
 use Rattle.std.proofs.lemmas.List.Elements.{All-more}
 use Rattle.http_header.specs.FieldValue.{FieldValue}
 use Rattle.http_header.specs.HeaderMap.{Entries}
@@ -12,7 +13,7 @@ use Rattle.otel_base.specs.declared.key_value.KeyValue.{KeyValue}
 use Rattle.otel_base.proofs.shared.Steps.{fold-take_more}
 use Rattle.otel_sdk_base.specs.ResourceTexts.{pieces}
 use Rattle.otel_otlp.specs.HttpConfig.{IfHeader}
-use Rattle.otel_otlp.specs.HttpTexts.{first, read, with_piece, IsRefused, NamesRead, NamesPiece}
+use Rattle.otel_otlp.specs.HttpTexts.{first, read, with_piece, IsRefused, NamesRead, NamesPiece, IsReadRefusedBy, OneIsRefused}
 use Rattle.otel_otlp.specs.declared.otlp_http.config.ConfigError.{ConfigError}
 use Rattle.otel_otlp.specs.declared.otlp_http.config.ConfigError.TheVariants as error
 
@@ -62,3 +63,23 @@ header_or P Q (error.Endpoint text) h = tt
 header_or P Q (error.Header text) h = inl h
 header_or P Q (error.HeaderList piece) h = tt
 header_or P Q (error.Memory failed) h = tt
+
+-- ---- the piece of a list that is refused
+-- the list around an element
+around : {A : Type 0} (xs : List A) (n : ℕ) (d x : A) → n < length xs → x ≡ get_or xs n d → xs ≡ take n xs ++ x ∷ drop (n + 1) xs
+around xs n d x lt is =
+    sym (take-append-drop n xs) ∙ ap (λ ys. take n xs ++ ys) (rw add-one (drop-cons xs n d lt) ∙ ap (λ y. y ∷ drop (n + 1) xs) (sym is))
+
+pub one_refused : (list : List ℕ) (n : ℕ) (piece : List ℕ) → (n < length (pieces list)) × (piece ≡ get_or (pieces list) n piece)
+    → (old now : Entries FieldValue) → IsSet (pieces list) n old now
+    → (e : ConfigError) → IfHeader (IsReadRefusedBy now (read piece)) e → IfHeader (OneIsRefused old list) e
+one_refused list n piece turn old now set (error.Endpoint text) is = tt
+one_refused list n piece turn old now set (error.Header text) is = record {
+  before = take n (pieces list);
+  piece = piece;
+  after = drop (n + 1) (pieces list);
+  whole = around (pieces list) n piece piece turn.0 turn.1;
+  refused = subst (λ h. IsReadRefusedBy h (read piece)) set.headers is;
+}
+one_refused list n piece turn old now set (error.HeaderList number) is = tt
+one_refused list n piece turn old now set (error.Memory failed) is = tt

@@ -4,7 +4,7 @@ use Rattle.std.proofs.lemmas.Grind.{flat_map-append, common_steps}
 use Rattle.std.proofs.lemmas.List.Sums.{sum_by-append}
 use Rattle.std.specs.Bool.{⊤}
 use Rattle.std.specs.List.{flat_map, sum_by}
-use Rattle.std.specs.Result.{IsErrAnd}
+use Rattle.std.specs.Result.{IsErrAnd, result_unwrap_or}
 use Rattle.otel_sdk_base.specs.Clock.{within_u64}
 use Rattle.otel_sdk_base.specs.Export.{items_of}
 use Rattle.otel_sdk_base.specs.declared.error.OTelSdkError.{OTelSdkError}
@@ -127,15 +127,15 @@ module _ {C R : Type 0} where
 module _ {C R : Type 0} (sent : C → List Sent) (answers : C → Sent → Answer → C → Type 0) (shows : List ℕ → Option Answer → ℕ → Type 0) (name : List ℕ) where
   -- a part that leaves after an answer
   pub end_left : (f : Fate) (part : PartOf R) (now : ℕ) (client : C) (old new : Sending C R) → old.outbox.waiting ≡ part ∷ new.outbox.waiting → Ends part f (at now (record old { client = client })) new → HasLeft old new
-  end_left (fate.Taken partial) part now client old new first e = record {
+  end_left (fate.Taken told) part now client old new first e = record {
     part = part;
-    end = Taken (rejected_in partial);
+    end = Taken (rejected_in (result_unwrap_or told None));
     first = first;
     outbox = ap (λ s. s.outbox) e;
     accepted = ap (λ s. s.accepted) e;
     closed = ap (λ s. s.is_shut_down) e;
-    given_up = λ is. ap (λ s. s.tally.given_up) e ∙ taken_given_up partial old.tally ∙ counts_none old.tally.given_up (count_given_up old.outbox.left) is.given_up;
-    rejected = λ is. ap (λ s. s.tally.rejected) e ∙ taken_rejected partial old.tally (count_rejected old.outbox.left) is.rejected;
+    given_up = λ is. ap (λ s. s.tally.given_up) e ∙ taken_given_up (result_unwrap_or told None) old.tally ∙ counts_none old.tally.given_up (count_given_up old.outbox.left) is.given_up;
+    rejected = λ is. ap (λ s. s.tally.rejected) e ∙ taken_rejected (result_unwrap_or told None) old.tally (count_rejected old.outbox.left) is.rejected;
   }
   end_left (fate.GivenUp message) part now client old new first e = record {
     part = part;

@@ -42,3 +42,7 @@ pub mod ReadBackTrees
 pub mod LogMembers
 pub mod ReadBackGiven
 pub mod ReadBackEntries
+pub mod Responses
+pub mod Targets
+pub mod FileReads
+pub mod StreamErrors

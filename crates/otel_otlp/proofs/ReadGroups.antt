@@ -1,11 +1,14 @@
 -- Items joined group by group, and lines that are refused.
 use Rattle.std.proofs.Common.{◌≡◌, refl, sym, ap, ◌∙◌, List, [], ◌∷◌, ◌++◌, map, append-nil}
-use Rattle.std.proofs.Common.{ℕ, Some, subst, Result, Ok, Err, IfErr}
+use Rattle.std.proofs.Common.{ℕ, Option, Some, None, subst, Result, Ok, Err, IfErr}
+use Rattle.std.specs.Prelude.{codes}
 use Rattle.std.proofs.lemmas.Grind.{flat_map-append}
 use Rattle.std.proofs.lemmas.List.{map-append}
 use Rattle.otel_otlp.specs.ReadGroups.{ResourceItems, joined, AreInLine}
 use Rattle.otel_otlp.specs.ReadMembers.{IsRefusal, IsObject, AreIn}
+use Rattle.otel_otlp.specs.ReadErrors.{NamesPlace, NamesLine, IsNoJson}
 use Rattle.otel_otlp.specs.declared.read.error.ReadError.{ReadError}
+use Rattle.otel_otlp.specs.declared.read.error.ReadError.TheVariants as error
 use Rattle.otel_otlp.proofs.ReadErrors.{some_same}
 use Rattle.serde_json.specs.Data.{Data}
 use Rattle.serde_json.specs.Read.{read}
@@ -32,3 +35,32 @@ line_refused Says name (Ok x) line d is h = tt
 line_refused Says name (Err e) line d is h = λ no xs from.
     let same = some_same _ _ (sym from.is_json ∙ is) in
     h no xs (subst IsObject same from.is_object) (subst (λ f. AreIn Says name f xs) same from.are)
+
+-- ---- the error of a line
+some_none : {A : Type 0} (o : Option A) (x : A) → o ≡ Some x → o ≡ None → ⊥
+some_none o x is none = let no : Some x ≡ None = sym is ∙ none in cc
+
+-- a line that is JSON
+pub line_named : {T : Type 0} (line : List ℕ) (r : Result T ReadError) (d : Data)
+    → read line ≡ Some d
+    → (¬ (IsObject d) → IfErr r (NamesPlace (codes "line") (codes "an object")))
+    → IfErr r (NamesLine line)
+line_named line (Ok x) d is object = tt
+line_named line (Err e) d is object = record {
+  no_json = λ none. absurd (some_none (read line) d is none);
+  no_object = λ f of not.
+      object (λ known. not (subst IsObject (some_same d f (sym is ∙ of)) known));
+}
+
+-- a line that isn't read as JSON
+pub line_unread : (line : List ℕ) (e : ReadError) → IsNoJson e
+    → (IsRefusal e → read line ≡ None) → NamesLine line e
+line_unread line error.Json told none = record {
+  no_json = λ _. tt;
+  no_object = λ d is not. absurd (some_none (read line) d is (none tt));
+}
+line_unread line (error.Unexpected place wanted) told none = absurd told
+line_unread line (error.Memory failed) told none = record {
+  no_json = λ _. tt;
+  no_object = λ d is not. tt;
+}

@@ -62,6 +62,13 @@ module _ (p : Request.Parts) (body : List ℕ) where
         );
       }
 
+  -- a request that is writable isn't refused
+  pub takes_head : IsWritable p body → plan_refusal plan_of (is_request_line p.method (origin_form p.uri) 1) (headers_of p) ≡ None
+  takes_head w = ap (λ r. plan_refusal r (is_request_line p.method (origin_form p.uri) 1) (headers_of p)) w.planned ∙ w.head
+
+  pub takes_end : IsWritable p body → finish_refusal (after_data (begun plan_of) (length body)) [] ≡ None
+  takes_end w = subst (λ r. finish_refusal (after_data (begun r) (length body)) [] ≡ None) (sym w.planned) w.content.2
+
 -- ---- the parts of the request
 may_follow : (f : Framing) → MayFollow f []
 may_follow Framed.NoBody = tt

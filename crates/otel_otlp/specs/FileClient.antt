@@ -1,8 +1,13 @@
 -- What a client over two files was asked to send, and its answers.
-use Rattle.std.specs.Prelude.{ℕ, List, []}
+use Rattle.std.specs.Prelude.{◌≡◌, ◌⊎◌, ℕ, List, [], ◌∷◌, ◌++◌, codes, Option, Some, None, ⊤}
+use Rattle.std.specs.Io.KnownBytes.{Appends}
 use Rattle.http.specs.declared.request.Parts as Request
 use Rattle.otel_otlp.specs.HttpClient.{Sent, Received}
-use Rattle.otel_otlp.specs.StreamClient.{Answers}
+use Rattle.otel_otlp.specs.StreamClient.{Streaming, Answers, ReadsAnswer, request_text}
+use Rattle.otel_otlp.specs.StreamClient as stream
+use Rattle.otel_otlp.specs.declared.otlp_http.client.HttpError.{HttpError}
+use Rattle.otel_otlp.specs.declared.otlp_http.client.HttpError.TheVariants.{Memory, Unreachable}
+use Rattle.otel_otlp.specs.declared.otlp_http.client.HttpError.TheVariants.{Malformed}
 
 -- the requests that it was asked to send, and the path of its folder
 pub record Filing : Type 0 where
@@ -18,3 +23,39 @@ pub record IsAnswered (p : Request.Parts) (answer : Received) : Type 0 where
   pub came : List ℕ
   pub rest : List ℕ
   pub answers : Answers p came answer rest
+
+-- the path of the folder's file with this name
+abbrev pub file_in : List ℕ → List ℕ → List ℕ
+file_in folder name = folder ++ codes "/" ++ name
+
+-- the file of the folder with this name couldn't be opened, or memory ran out
+abbrev pub IsUnopened : {F : Type 0} → (List ℕ → Option F → Type 0) → List ℕ → List ℕ
+    → HttpError → Type 0
+IsUnopened opens folder name Unreachable = opens (file_in folder name) None
+IsUnopened opens folder name Malformed = ⊥
+IsUnopened opens folder name (Memory failed) = ⊤
+
+-- `outputs` and `inputs` relate a path and the file that was opened there, or `None` if that failed
+module _ {F : Type 0} (outputs inputs : List ℕ → Option F → Type 0) where
+  -- both files of the folder were opened
+  pub record Opens (folder : List ℕ) (input output : F) : Type 0 where
+    pub written : outputs (file_in folder (codes "request")) (Some output)
+    pub read : inputs (file_in folder (codes "response")) (Some input)
+
+  -- there is no answer: a file couldn't be opened, or memory ran out, or both were opened
+  abbrev pub IsUnanswered : List ℕ → HttpError → Type 0
+  IsUnanswered folder error =
+      (IsUnopened outputs folder (codes "request") error
+      ⊎ IsUnopened inputs folder (codes "response") error)
+      ⊎ ((input : F) × (output : F) × Opens folder input output)
+
+  -- Both files were opened, the request was written to the one, and its answer was read from the
+  -- other. `contents` are the bytes that a file holds, and `remaining` those that it will give.
+  pub record Reads (contents remaining : F → Option (List ℕ)) (p : Request.Parts)
+      (body folder : List ℕ) (answer : Received) : Type 0 where
+    pub input : F
+    pub output : F
+    pub opens : Opens folder input output
+    pub left : Streaming F F
+    pub writes : Appends (contents output) (contents left.writer) (request_text p body)
+    pub reads : ReadsAnswer remaining p (stream.initial input output) answer left

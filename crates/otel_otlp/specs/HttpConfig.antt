@@ -95,6 +95,16 @@ pub record IsTarget (endpoint path : List ℕ) (uri : Uri) : Type 0 where
   pub end : ends_with eqb (uri_path uri) path ≡ true
   pub plain : path ≢ [] → IsPlain endpoint
 
+-- no URI is the endpoint with the path added: the text spells none, or one without a scheme, and so
+-- without a host, or the path isn't the end of its own
+abbrev pub HasNoTarget : List ℕ → List ℕ → Type 0
+HasNoTarget endpoint path = (uri : Uri) → ¬ (IsTarget endpoint path uri)
+
+-- an error that names the endpoint says so
+abbrev pub IfEndpoint : Type 0 → ConfigError → Type 0
+IfEndpoint P (error.Endpoint text) = P
+IfEndpoint P other = ⊤
+
 -- ---- the head
 -- the headers with the content type of JSON, in place of any other
 abbrev pub with_json : Entries FieldValue → Entries FieldValue

@@ -4,6 +4,7 @@ use Rattle.std.specs.Prelude.{Option, Some, None, Result, Ok, Err, ⊤, IsTrue, 
 use Rattle.std.specs.Prelude.{option_map}
 use Rattle.std.specs.Prelude.{string_bytes, ◌/◌}
 use Rattle.std.specs.List.{flat_map}
+use Rattle.std.specs.Result.{result_unwrap_or}
 use Rattle.http.specs.Request.{head_of, body_of}
 use Rattle.http.specs.declared.request.Parts as http
 use Rattle.otel_sdk_base.specs.Clock.{within_u64}
@@ -102,9 +103,9 @@ module _ {C R : Type 0} where
 
   -- the part leaves, after an answer with this meaning
   abbrev pub Ends : PartOf R → Fate → Sending C R → Sending C R → Type 0
-  Ends part (fate.Taken partial) old new = new ≡ taken part partial old
+  Ends part (fate.Taken told) old new = new ≡ taken part (result_unwrap_or told None) old
   Ends part (fate.GivenUp message) old new =
-      new ≡ given_up part (option_map string_bytes message)
+      new ≡ given_up part (option_map string_bytes (result_unwrap_or message None))
       (record old { pause = pause.restarted old.pause })
   Ends part (fate.Stays refusal) old new = ⊥
 

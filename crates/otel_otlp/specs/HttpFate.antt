@@ -1,7 +1,8 @@
 -- The meaning of a collector's answer for the request that it answers [OpenTelemetry protocol,
 -- "OTLP/HTTP Response"].
-use Rattle.std.specs.Prelude.{◌≡◌, ℕ, ◌-◌, List, Option, Some, None, MatchOption, IfSome}
-use Rattle.std.specs.Prelude.{Ok, Err, option_map, String, string_bytes, codes, is_some, true, []}
+use Rattle.std.specs.Prelude.{◌≡◌, ℕ, ◌-◌, List, Option, Some, None, MatchOption, IfOk, IsOk}
+use Rattle.std.specs.Prelude.{Result, Ok, Err, option_map, String, codes, []}
+use Rattle.std.specs.declared.alloc.AllocError.{AllocError}
 use Rattle.std.specs.declared.alloc.Global.{Global}
 use Rattle.std.specs.Str.Parse.{without_leading_plus, digits_value}
 use Rattle.http.specs.Response.{head_of, body_of}
@@ -9,7 +10,7 @@ use Rattle.http_header.specs.FieldValue.{FieldValue, IsVisibleAscii}
 use Rattle.http_header.specs.HeaderMap.{get}
 use Rattle.httpdate.specs.Date.{parse_secs}
 use Rattle.otel_otlp.specs.HttpClient.{Answer, Received}
-use Rattle.otel_otlp.specs.HttpResponse.{IsReadFrom, IsMessageOf}
+use Rattle.otel_otlp.specs.HttpResponse.{Tells, SaysOfItems, HasText}
 use Rattle.otel_otlp.specs.HttpStatus.{class_of, IsSeconds}
 use Rattle.otel_otlp.specs.declared.otlp_http.fate.Fate.{Fate}
 use Rattle.otel_otlp.specs.declared.otlp_http.fate.Fate.TheVariants as fate
@@ -42,17 +43,18 @@ pub record IsAgain (now : ℕ) (response : Received) (refusal : Refusal) : Type 
   pub wait : IsAskedWait now response refusal.wait
 
 -- the meaning of a response whose status has this meaning; the name is that of the member with the
--- number of rejected items; a body without bytes can be read
+-- number of rejected items; nothing is told only if the body says nothing, or if memory ran out,
+-- which a body without bytes doesn't need
 abbrev pub IsFateOf : List ℕ → ℕ → Received → StatusClass → Fate → Type 0
 IsFateOf name now response status.Taken f =
-    (partial : Option Partial) × (f ≡ fate.Taken partial)
-    × IfSome partial (IsReadFrom name (body_of response).items)
-    × ((body_of response).items ≡ [] → is_some partial ≡ true)
+    (told : Result (Option Partial) AllocError) × (f ≡ fate.Taken told)
+    × IfOk told (Tells (SaysOfItems name (body_of response).items))
+    × ((body_of response).items ≡ [] → IsOk told)
 IsFateOf name now response status.Again f =
     (refusal : Refusal) × (f ≡ fate.Stays refusal) × IsAgain now response refusal
 IsFateOf name now response status.Never f =
-    (message : Option (String Global)) × (f ≡ fate.GivenUp message)
-    × IfSome message (λ m. IsMessageOf (body_of response).items (string_bytes m))
+    (message : Result (Option (String Global)) AllocError) × (f ≡ fate.GivenUp message)
+    × IfOk message (Tells (HasText (body_of response).items))
 
 -- the meaning of an answer at this second since 1970; if there is no response, the request is to be
 -- sent again

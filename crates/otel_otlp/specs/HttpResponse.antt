@@ -3,11 +3,15 @@
 -- `ExportLogsPartialSuccess`].
 use Rattle.std.specs.Prelude.{◌≡◌, ◌<◌, ◌^◌, ℕ, List, [], ◌∷◌, Option, Some, None, MatchOption}
 use Rattle.std.specs.Prelude.{option_map, option_and_then, string_bytes, codes, is_some, true}
+use Rattle.std.specs.Prelude.{String, IsUtf8}
+use Rattle.std.specs.declared.alloc.Global.{Global}
 use Rattle.std.specs.Option.{SomeIff}
 use Rattle.std.specs.Str.Parse.{without_leading_plus, IsNumeral, digits_value}
 use Rattle.serde_json.specs.Data.{Data, null, boolean, number, string, array, object}
 use Rattle.serde_json.specs.Find.{get, as_u64, as_str, as_object}
 use Rattle.serde_json.specs.Read.{read}
+use Rattle.serde_json.specs.View.{view}
+use Rattle.serde_json.specs.declared.value.Value.{Value}
 use Rattle.otel_otlp.specs.declared.otlp_http.response.Partial.{Partial}
 
 -- the number that a text of decimal digits writes, if it has 64 bits
@@ -46,6 +50,10 @@ HasMessage partial p =
 abbrev pub IsWhole : Partial → Type 0
 IsWhole p = (p.rejected ≡ 0) × (p.message ≡ None)
 
+-- the member `partialSuccess` says this
+abbrev pub SaysPartial : List ℕ → Data → Partial → Type 0
+SaysPartial name partial p = IsRejected name partial (Some p.rejected) × HasMessage partial p
+
 -- it is an object, which says this by its member `partialSuccess`; nothing was rejected if that
 -- isn't there
 abbrev pub IsPartial : List ℕ → Data → Partial → Type 0
@@ -66,3 +74,21 @@ pub record IsMessageOf (body message : List ℕ) : Type 0 where
   pub value : Data
   pub reads : read body ≡ Some value
   pub has : option_and_then as_str (get (codes "message") value) ≡ Some message
+
+-- ---- what is told
+-- this is said, or nothing is
+abbrev pub Tells : {A : Type 0} → (A → Type 0) → Option A → Type 0
+Tells {A = A} Says told = MatchOption told ((a : A) → ¬ (Says a)) Says
+
+-- the bytes are a text that is read as this value; or they aren't read
+abbrev pub IsJsonOf : List ℕ → Option Value → Type 0
+IsJsonOf bytes None = IsUtf8 bytes → read bytes ≡ None
+IsJsonOf bytes (Some value) = IsUtf8 bytes × (read bytes ≡ Some (view value))
+
+-- the bytes are a text that says this of the rejected items
+abbrev pub SaysOfItems : List ℕ → List ℕ → Partial → Type 0
+SaysOfItems name body p = IsUtf8 body × IsReadFrom name body p
+
+-- the bytes are a text with this message
+abbrev pub HasText : List ℕ → String Global → Type 0
+HasText body message = IsUtf8 body × IsMessageOf body (string_bytes message)

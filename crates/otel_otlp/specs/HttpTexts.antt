@@ -1,6 +1,6 @@
 -- How a collector is reached by the texts of environment variables (OpenTelemetry specification,
 -- "OpenTelemetry Protocol Exporter").
-use Rattle.std.specs.Prelude.{◌≡◌, ◌⊎◌, ℕ, true, false, List, [], ◌∷◌, fold}
+use Rattle.std.specs.Prelude.{◌≡◌, ◌⊎◌, ℕ, true, false, List, [], ◌∷◌, ◌++◌, fold}
 use Rattle.std.specs.Prelude.{All, Any, Option, Some, None, ⊤, codes, string_bytes, refl}
 use Rattle.http_header.specs.FieldName.{IsFieldName}
 use Rattle.http_header.specs.FieldValue.{FieldValue, plain_value, IsFieldValue}
@@ -14,7 +14,7 @@ use Rattle.otel_sdk_base.specs.ResourceTexts.{pieces, fault}
 use Rattle.otel_sdk_base.specs.declared.otlp.EnvEndpoint.{EnvEndpoint}
 use Rattle.otel_sdk_base.specs.declared.otlp.EnvEndpoint.TheVariants.{Base, Exact}
 use Rattle.otel_sdk_base.specs.declared.otlp.EnvOtlp.{EnvOtlp}
-use Rattle.otel_otlp.specs.HttpConfig.{Config, local, IsOwn}
+use Rattle.otel_otlp.specs.HttpConfig.{Config, local, IsOwn, IsRefusedBy}
 use Rattle.otel_otlp.specs.declared.otlp_http.config.ConfigError.{ConfigError}
 use Rattle.otel_otlp.specs.declared.otlp_http.config.ConfigError.TheVariants as error
 
@@ -44,6 +44,11 @@ abbrev pub IsReadRefused : Option Attribute → Type 0
 IsReadRefused None = ⊥
 IsReadRefused (Some a) = IsOwn (lowercase a.0) ⊎ (¬ IsFieldName a.0 ⊎ ¬ IsFieldValue (text_of a.1))
 
+-- the same; or these headers are too many for another name
+abbrev pub IsReadRefusedBy : Entries FieldValue → Option Attribute → Type 0
+IsReadRefusedBy headers None = ⊥
+IsReadRefusedBy headers (Some a) = IsRefusedBy headers a.0 (text_of a.1)
+
 -- the error names it, unless memory ran out
 abbrev pub NamesRead : Option Attribute → ConfigError → Type 0
 NamesRead read (error.Endpoint text) = ⊥
@@ -69,6 +74,14 @@ with_list headers list = fold with_piece headers (pieces list)
 pub record AreHeaders (list : List ℕ) : Type 0 where
   pub readable : fault list ≡ None
   pub allowed : All (λ piece. ¬ IsRefused piece) (pieces list)
+
+-- a piece of the list is refused by the headers with those of the pieces before it
+pub record OneIsRefused (headers : Entries FieldValue) (list : List ℕ) : Type 0 where
+  pub before : List (List ℕ)
+  pub piece : List ℕ
+  pub after : List (List ℕ)
+  pub whole : pieces list ≡ before ++ piece ∷ after
+  pub refused : IsReadRefusedBy (fold with_piece headers before) (read piece)
 
 -- the error names the first piece that isn't understood, or the header of a piece that isn't
 -- allowed, unless memory ran out

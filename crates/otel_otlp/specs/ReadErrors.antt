@@ -1,8 +1,10 @@
 -- Where in a line a value isn't allowed. Not in the Rust crates.
 use Rattle.std.specs.Prelude.{◌≡◌, ◌==◌, ℕ, List, [], ◌∷◌, ◌++◌, codes, string_bytes, ⊤}
-use Rattle.std.specs.Prelude.{if◌then◌else◌, refl}
+use Rattle.std.specs.Prelude.{if◌then◌else◌, refl, Some, None}
 use Rattle.std.specs.Fmt.{decimal}
-use Rattle.otel_otlp.specs.ReadMembers.{IsRefusal}
+use Rattle.otel_otlp.specs.ReadMembers.{IsRefusal, IsObject}
+use Rattle.serde_json.specs.Data.{Data}
+use Rattle.serde_json.specs.Read.{read}
 use Rattle.otel_otlp.specs.declared.read.error.ReadError.{ReadError}
 use Rattle.otel_otlp.specs.declared.read.error.ReadError.TheVariants as error
 
@@ -32,6 +34,19 @@ IsWithin step error.Json told = IsRefusal told → told ≡ error.Json
 IsWithin step (error.Unexpected place wanted) told =
     NamesPlace (place_within step (string_bytes place)) wanted.now told
 IsWithin step (error.Memory failed) told = IsRefusal told → ⊥
+
+-- ---- a whole line
+-- the line isn't JSON, or memory ran out
+abbrev pub IsNoJson : ReadError → Type 0
+IsNoJson error.Json = ⊤
+IsNoJson (error.Unexpected place wanted) = ⊥
+IsNoJson (error.Memory failed) = ⊤
+
+-- the error of a line that isn't JSON, or whose JSON is no object
+pub record NamesLine (line : List ℕ) (e : ReadError) : Type 0 where
+  pub no_json : read line ≡ None → IsNoJson e
+  pub no_object : (d : Data) → read line ≡ Some d → ¬ (IsObject d)
+      → NamesPlace (codes "line") (codes "an object") e
 
 -- ---- worked rows
 second_span : place_within (codes "spans") (place_within (codes "[1]") (codes "traceId"))

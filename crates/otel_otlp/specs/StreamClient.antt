@@ -1,9 +1,10 @@
 -- What a client over a reader and a writer sends, and the answer that it reads
 -- [RFC 9110; RFC 9112].
-use Rattle.std.specs.Prelude.{◌≡◌, ◌≤◌, ◌*◌, ℕ, Bool, true, false, List, [], ◌∷◌, ◌++◌, length}
+use Rattle.std.specs.Prelude.{◌≡◌, ◌⊎◌, ◌≤◌, ◌*◌, ℕ, Bool, true, false, List, [], ◌∷◌, ◌++◌, length}
 use Rattle.std.specs.Prelude.{Ok, Option, Some, None, option_map, unwrap_or, Vec, All, IsTrue}
-use Rattle.std.specs.Prelude.{map, fold, codes, alloc_error}
-use Rattle.std.specs.Io.KnownBytes.{Consumes}
+use Rattle.std.specs.Prelude.{map, fold, codes, alloc_error, Result, ⊤}
+use Rattle.std.specs.Io.KnownBytes.{Appends, Consumes}
+use Rattle.std.specs.declared.io.Error.{Error}
 use Rattle.std.specs.declared.alloc.Global.{Global}
 use Rattle.httparse.specs.Grammar.{print_request}
 use Rattle.httparse.specs.Spans.{name_and_value}
@@ -34,9 +35,11 @@ use Rattle.http1.specs.Client.{after_request, after_end, with_writing, writing}
 use Rattle.http1.specs.ServerTrace.{SeenBody, no_body}
 use Rattle.http1.specs.ClientTrace.{SeenResponse, answer_view, Seen, Trace}
 use Rattle.http1_typed.specs.Parts.{fields_of, version_of}
+use Rattle.otel_sdk_base.specs.Writers.{IsStuck}
 use Rattle.otel_otlp.specs.HttpClient.{Sent, Received}
 use Rattle.otel_otlp.specs.declared.otlp_http.client.HttpError.{HttpError}
 use Rattle.otel_otlp.specs.declared.otlp_http.client.HttpError.TheVariants.{Memory, Unreachable}
+use Rattle.otel_otlp.specs.declared.otlp_http.client.HttpError.TheVariants.{Malformed}
 use Rattle.otel_otlp.specs.declared.otlp_http.stream_client.source.Source.{Source}
 
 -- the limits of a response: 64 KiB for its head, 16 KiB for its trailers, and for its chunks'
@@ -130,6 +133,44 @@ pub record IsWritable (p : Request.Parts) (body : List ℕ) : Type 0 where
       head_refusal (is_request_line p.method (origin_form p.uri) 1) (headers_of p ++ plan.extra)
       ≡ None
   pub content : AreAccepted (body ∷ []) (encoder_for plan.framing) []
+
+-- ---- errors
+-- `may_write` and `may_flush` are the writer's, and `may_read` the reader's: only their calls show
+-- them.
+
+-- why a connection doesn't write the request: it can't, or memory ran out
+abbrev pub CannotWrite : Request.Parts → List ℕ → HttpError → Type 0
+CannotWrite p body Unreachable = ¬ (IsWritable p body)
+CannotWrite p body Malformed = ⊥
+CannotWrite p body (Memory failed) = ⊤
+
+-- why the request wasn't written: the same; or a write got no further, or the flush failed
+abbrev pub IsWriteError : (Result ℕ Error → Type 0) → (Bool → Type 0)
+    → Request.Parts → List ℕ → HttpError → Type 0
+IsWriteError may_write may_flush p body error =
+    CannotWrite p body error
+    ⊎ ((error ≡ Unreachable) × (IsStuck may_write ⊎ may_flush false))
+
+-- the reader was asked, and answered
+abbrev pub HasAnswered : (Result ℕ Error → Type 0) → Type 0
+HasAnswered may_read = (answer : Result ℕ Error) × may_read answer
+
+-- why no answer was read: a read got no further; or the bytes are no answer, after a read unless
+-- there were unread ones; or memory ran out
+abbrev pub IsReadError : (Result ℕ Error → Type 0) → List ℕ → HttpError → Type 0
+IsReadError may_read unread Unreachable = IsStuck may_read
+IsReadError may_read unread Malformed = unread ≡ [] → HasAnswered may_read
+IsReadError may_read unread (Memory failed) = ⊤
+
+-- why an open client has no answer: the request wasn't written; or it was written whole, and
+-- flushed, and no answer was read
+abbrev pub Fails : {R W : Type 0} → (W → Option (List ℕ)) → (Result ℕ Error → Type 0)
+    → (Bool → Type 0) → (Result ℕ Error → Type 0)
+    → Request.Parts → List ℕ → Streaming R W → Streaming R W → HttpError → Type 0
+Fails contents may_write may_flush may_read p body old new error =
+    IsWriteError may_write may_flush p body error
+    ⊎ (Appends (contents old.writer) (contents new.writer) (request_text p body)
+    × may_flush true × IsReadError may_read old.unread error)
 
 -- ---- the answer
 -- names in lower case, and the values of one name together

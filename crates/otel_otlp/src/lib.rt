@@ -16,9 +16,9 @@ mod trees;
 mod written;
 
 pub use crate::otlp_http::{
-    Backoff, ClockCalls, ConfigError, FileClient, HttpClient, HttpError, OtlpHttpConfig,
+    Backoff, ClockCalls, ConfigError, FileCalls, FileClient, HttpClient, HttpError, OtlpHttpConfig,
     OtlpHttpExporter, OtlpHttpLogExporter, OtlpHttpSpanExporter, PipeError, PipeExporter,
-    StreamClient, pipe_exporter,
+    ReaderCalls, StreamClient, pipe_exporter,
 };
 pub use crate::read::{
     ReadError, ResourceLogs, ResourceSpans, read_logs, read_resource_logs, read_resource_spans,

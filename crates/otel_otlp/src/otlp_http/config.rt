@@ -82,6 +82,8 @@ fn is_plain(text: &str) -> bool
 fn target(alloc: Global, endpoint: &str, path: &str) -> Result<Uri, ConfigError>
     ensures ok { IfOk result (spec.IsTarget endpoint.now path.now) }
     ensures err { IfErr result (spec.NamesEndpoint endpoint.now) }
+    ensures refused { IfErr result
+        (spec.IfEndpoint (spec.HasNoTarget endpoint.now path.now)) }
 {
     if !path.is_empty() && !is_plain(endpoint) {
         return Err(no_endpoint(alloc, endpoint));
@@ -319,6 +321,8 @@ impl OtlpHttpConfig {
     pub(crate) fn into_head(self, alloc: Global, path: &str) -> Result<Parts, ConfigError>
         ensures ok { IfOk result (spec.IsHead self path.now) }
         ensures err { IfErr result (spec.NamesEndpoint self.endpoint) }
+        ensures refused { IfErr result
+            (spec.IfEndpoint (spec.HasNoTarget self.endpoint (spec.added self path.now))) }
     {
         let path = path_unless(self.is_of_signal, path);
         let uri = target(alloc, self.endpoint.as_str(), path)?;

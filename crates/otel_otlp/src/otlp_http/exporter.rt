@@ -6,7 +6,7 @@ ghost use Rattle.std.specs.Rc.{rc_value};
 ghost use Rattle.otel_otlp.specs.HttpExporter.{IsNew, IsAccounted, Accepts, Refuses, Flushes};
 ghost use Rattle.otel_otlp.specs.HttpExporter.{Leaves, Stays, Delivers, Tries, ShutsDown};
 ghost use Rattle.otel_otlp.specs.HttpExporter.{taken, given_up, at, HandsIn, Asks, Ends, IsKept};
-ghost use Rattle.otel_otlp.specs.HttpConfig.{NamesEndpoint};
+ghost use Rattle.otel_otlp.specs.HttpConfig.{NamesEndpoint, IfEndpoint, HasNoTarget, added};
 ghost use Rattle.otel_otlp.specs.HttpPart.{PartOf};
 ghost use Rattle.otel_sdk_base.specs.Resource as resources;
 
@@ -117,6 +117,8 @@ impl<C: HttpClient, R: Signal, S: RandomSource + Drop, K: ClockCalls> OtlpHttpEx
         ensures new { IfOk result (IsNew client config R.target_path) }
         ensures accounted { IfOk result IsAccounted }
         ensures err { IfErr result (NamesEndpoint config.endpoint) }
+        ensures refused { IfErr result
+            (IfEndpoint (HasNoTarget config.endpoint (added config R.target_path))) }
     {
         let max_body = config.max_body();
         let head = config.into_head(alloc, R::path())?;
@@ -239,12 +241,12 @@ impl<C: HttpClient, R: Signal, S: RandomSource + Drop, K: ClockCalls> OtlpHttpEx
     {
         match fate {
             Fate::Taken(partial) => {
-                self.take(partial);
+                self.take(partial.unwrap_or(None));
                 Ok(())
             }
             Fate::GivenUp(message) => {
                 self.pause.restart();
-                self.give_up(message);
+                self.give_up(message.unwrap_or(None));
                 Ok(())
             }
             Fate::Stays(refusal) => {

@@ -6,7 +6,7 @@ use crate::otlp_http::client::HttpError;
 use crate::otlp_http::response::{Partial, message_of, read_partial};
 use crate::otlp_http::status::{StatusClass, class_of, wait_of};
 use http::{HeaderValue, Response};
-use std::alloc::Global;
+use std::alloc::{AllocError, Global};
 
 /// A request that is to be sent again.
 #[derive(Clone, Copy, Debug)]
@@ -20,12 +20,14 @@ pub struct Refusal {
 /// The meaning of an answer.
 #[derive(Drop)]
 pub enum Fate {
-    /// The collector has taken the request. `None` if the body couldn't be read.
-    Taken(Option<Partial>),
+    /// The collector has taken the request. `None` if the body couldn't be read; an error if out of
+    /// memory.
+    Taken(Result<Option<Partial>, AllocError>),
     /// The request is to be sent again.
     Stays(Refusal),
-    /// The request is never to be sent again. The collector's message, if there is one.
-    GivenUp(Option<String>),
+    /// The request is never to be sent again. The collector's message, if there is one; an error if
+    /// out of memory.
+    GivenUp(Result<Option<String>, AllocError>),
 }
 
 /// Returns the wait in seconds that the value asks for.

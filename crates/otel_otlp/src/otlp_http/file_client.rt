@@ -1,14 +1,15 @@
 //! A client over two files, which are opened anew for each request.
-ghost use Rattle.std.specs.Prelude.{◌≡◌, [], ◌∷◌, ◌++◌, IfOk};
-ghost use Rattle.http.specs.Request.{head_of};
-ghost use Rattle.otel_otlp.specs.FileClient.{initial, IsAnswered};
+ghost use Rattle.std.specs.Prelude.{◌≡◌, [], ◌∷◌, ◌++◌, IfOk, IfErr, Some, codes, string_bytes};
+ghost use Rattle.http.specs.Request.{head_of, body_of};
+ghost use Rattle.otel_otlp.specs.FileClient.{initial, file_in, IsAnswered, Reads};
+ghost use Rattle.otel_otlp.specs.FileClient.{IsUnopened, IsUnanswered};
 
 use crate::otlp_http::client::{HttpClient, HttpError};
+use crate::otlp_http::file_calls::FileCalls;
 use crate::otlp_http::stream_client::StreamClient;
 use http::{Request, Response};
 use otel_sdk_base::Accepted;
 use std::alloc::{AllocError, Global};
-use std::fs::{Files, OpenOptions};
 use std::hash::RandomState;
 use std::marker::Model;
 
@@ -49,7 +50,7 @@ impl<R> Model for FileClient<R> {
     } };
 }
 
-impl<R: Files + Drop> FileClient<R> {
+impl<R: FileCalls + Drop> FileClient<R> {
     /// Returns the client of the folder. Opens no file. The keys are for the maps of headers, whose
     /// names the server chooses: `RandomState::new(&rt)`.
     ///
@@ -73,17 +74,43 @@ impl<R: Files + Drop> FileClient<R> {
         })
     }
 
-    // Opens the folder's file of this name.
-    fn open(&self, options: &OpenOptions, name: &str) -> Result<R::File, HttpError> {
-        let path = format!(in self.alloc; "{}/{name}", self.folder).map_err(HttpError::Memory)?;
-        match options.open(&self.files, path.as_str()) {
-            Ok(file) => Ok(file),
-            Err(_) => Err(HttpError::Unreachable),
-        }
+    // Returns the path of the folder's file with this name.
+    fn path(&self, name: &str) -> Result<String, AllocError>
+        ensures { IfOk result (λ path. string_bytes path
+            ≡ file_in self.now.folder name.now) }
+    {
+        let mut path = String::from_str(self.alloc, self.folder.as_str())?;
+        path.push('/')?;
+        path.push_str(name)?;
+        Ok(path)
+    }
+
+    // Opens the folder's file `request` to write to it.
+    fn open_request(&self) -> Result<R::Stream, HttpError>
+        ensures ok { IfOk result (λ file.
+            R.outputs (file_in self.now.folder (codes "request")) (Some file)) }
+        ensures err { IfErr result (IsUnopened R.outputs self.now.folder (codes "request")) }
+    {
+        let path = self.path("request").map_err(HttpError::Memory)?;
+        self.files
+            .open_output(path.as_str())
+            .ok_or(HttpError::Unreachable)
+    }
+
+    // Opens the folder's file `response` to read it.
+    fn open_response(&self) -> Result<R::Stream, HttpError>
+        ensures ok { IfOk result (λ file.
+            R.inputs (file_in self.now.folder (codes "response")) (Some file)) }
+        ensures err { IfErr result (IsUnopened R.inputs self.now.folder (codes "response")) }
+    {
+        let path = self.path("response").map_err(HttpError::Memory)?;
+        self.files
+            .open_input(path.as_str())
+            .ok_or(HttpError::Unreachable)
     }
 }
 
-impl<R: Files + Drop> HttpClient for FileClient<R> {
+impl<R: FileCalls + Drop> HttpClient for FileClient<R> {
     ghost sent = { λ c. c.sent };
 
     /// Opens the files, sends the request, and reads its response.
@@ -97,10 +124,13 @@ impl<R: Files + Drop> HttpClient for FileClient<R> {
         ensures sent { self.new.sent ≡ self.old.sent ++ request.now ∷ [] }
         ensures folder { self.new.folder ≡ self.old.folder }
         ensures answer { IfOk result (IsAnswered (head_of request.now)) }
+        ensures read { IfOk result (Reads R.outputs R.inputs R.Stream.contents R.Stream.remaining
+            (head_of request.now) (body_of request.now).items self.old.folder) }
+        ensures failed { IfErr result (IsUnanswered R.outputs R.inputs self.old.folder) }
     {
         self.sent = self.sent.and_one(request);
-        let output = self.open(OpenOptions::new().write(true), "request")?;
-        let input = self.open(OpenOptions::new().read(true), "response")?;
+        let output = self.open_request()?;
+        let input = self.open_response()?;
         StreamClient::new(self.alloc, self.keys, input, output).send_bytes(request)
     }
 }

@@ -2,8 +2,9 @@
 ghost use Rattle.std.specs.Prelude.{◌≡◌, codes, IfOk, OnOk, IfErr};
 ghost use Rattle.otel_otlp.specs.FileClient.{initial};
 ghost use Rattle.otel_otlp.specs.HttpExporter.{IsNew, IsAccounted};
-ghost use Rattle.otel_otlp.specs.HttpTexts.{AreHeaders, of_env};
-ghost use Rattle.otel_otlp.specs.Pipes.{NamesFault};
+ghost use Rattle.otel_otlp.specs.HttpTexts.{AreHeaders, OneIsRefused, of_env};
+ghost use Rattle.otel_otlp.specs.Pipes.{NamesFault, IfConfig};
+ghost use Rattle.otel_otlp.specs.HttpConfig.{HasNoTarget, IfEndpoint, IfHeader, added, local};
 ghost use Rattle.otel_otlp.specs.declared.otlp_http.pipes.PipeError.TheVariants as Pipe;
 ghost use Rattle.otel_otlp.specs.declared.otlp_http.config.ConfigError.TheVariants.{Memory};
 
@@ -85,6 +86,10 @@ pub fn pipe_exporter<R: Files + RandomSource + Clock + Copy + Drop>(
     ensures accounted { IfOk result IsAccounted }
     ensures headers { OnOk result (AreHeaders otlp.now.headers) }
     ensures err { IfErr result (NamesFault otlp.now) }
+    ensures refused { IfErr result (IfConfig (IfEndpoint (HasNoTarget
+        (of_env otlp.now).endpoint (added (of_env otlp.now) (codes "/v1/traces"))))) }
+    ensures header { IfErr result
+        (IfConfig (IfHeader (OneIsRefused local.headers otlp.now.headers))) }
 {
     let config = OtlpHttpConfig::from_env(alloc, otlp)?;
     let client = FileClient::new(alloc, RandomState::new(&rt)?, rt, folder)?;

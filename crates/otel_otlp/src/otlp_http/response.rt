@@ -1,6 +1,5 @@
 //! Reads the body of a collector's response.
-ghost use Rattle.std.specs.Prelude.{◌≡◌, [], Some, IfOk, IfSome, codes, option_and_then};
-ghost use Rattle.std.specs.Prelude.{is_some, true};
+ghost use Rattle.std.specs.Prelude.{◌≡◌, [], Some, IfOk, IsOk, codes, option_and_then};
 ghost use Rattle.std.specs.Prelude.{string_bytes, option_map};
 ghost use Rattle.serde_json.specs.View.{view};
 ghost use Rattle.serde_json.specs.Find.{get, as_str};
@@ -55,68 +54,86 @@ pub(crate) fn text_of(
     }
 }
 
-/// Returns what the member `partialSuccess` says. `None` if it has no number of rejected items, or
-/// if out of memory.
-fn partial_of(alloc: Global, partial: &Value, name: &str) -> Option<Partial>
-    ensures { IfSome result (λ p.
-        spec.IsRejected name.now (view partial.now) (Some p.rejected)
-        × spec.HasMessage (view partial.now) p) }
+/// Returns what the member `partialSuccess` says. `None` if it has no number of rejected items.
+fn partial_of(alloc: Global, partial: &Value, name: &str) -> Result<Option<Partial>, AllocError>
+    ensures { IfOk result (spec.Tells (spec.SaysPartial name.now (view partial.now))) }
 {
     let Some(rejected) = rejected_of(partial, name) else {
-        return None;
+        return Ok(None);
     };
-    match text_of(alloc, partial, "errorMessage") {
-        Ok(message) => Some(Partial { rejected, message }),
-        Err(_) => None,
-    }
+    let message = text_of(alloc, partial, "errorMessage")?;
+    Ok(Some(Partial { rejected, message }))
 }
 
-/// Returns what the response says. `None` if it is no object, if it has no number of rejected
-/// items, or if out of memory.
-fn read_object(alloc: Global, value: &Value, name: &str) -> Option<Partial>
-    ensures { IfSome result (spec.IsPartial name.now (view value.now)) }
+/// Returns what the response says. `None` if it is no object, or if it has no number of rejected
+/// items.
+fn read_object(alloc: Global, value: &Value, name: &str) -> Result<Option<Partial>, AllocError>
+    ensures { IfOk result (spec.Tells (spec.IsPartial name.now (view value.now))) }
 {
     if !value.is_object() {
-        return None;
+        return Ok(None);
     }
     match value.get("partialSuccess") {
         Some(partial) => partial_of(alloc, partial, name),
-        None => Some(Partial {
+        None => Ok(Some(Partial {
             rejected: 0,
             message: None,
-        }),
+        })),
+    }
+}
+
+/// Reads the bytes as JSON. `None` if they aren't.
+fn json_of(alloc: Global, bytes: &[u8]) -> Result<Option<Value>, AllocError>
+    ensures { IfOk result (spec.IsJsonOf bytes.now) }
+{
+    match Value::from_slice(alloc, bytes) {
+        Ok(value) => Ok(Some(value)),
+        Err(error) => {
+            if error.is_memory() {
+                return Err(AllocError);
+            }
+            Ok(None)
+        }
     }
 }
 
 /// Reads the body of a response to a request that the collector has taken. The member of this name
-/// has the number of rejected items. `None` if the body isn't readable: if it is no JSON object, if
-/// the number is none, or if out of memory.
-pub(crate) fn read_partial(alloc: Global, body: &[u8], name: &str) -> Option<Partial>
-    ensures read { IfSome result (spec.IsReadFrom name.now body.now) }
-    ensures empty { body.now ≡ [] → is_some result ≡ true }
+/// has the number of rejected items. `None` if the body isn't readable: if it is no JSON object, or
+/// if the number is none.
+///
+/// # Errors
+///
+/// `AllocError` if out of memory. An empty body needs none.
+pub(crate) fn read_partial(
+    alloc: Global,
+    body: &[u8],
+    name: &str,
+) -> Result<Option<Partial>, AllocError>
+    ensures read { IfOk result (spec.Tells (spec.SaysOfItems name.now body.now)) }
+    ensures empty { body.now ≡ [] → IsOk result }
 {
     if body.is_empty() {
-        return Some(Partial {
+        return Ok(Some(Partial {
             rejected: 0,
             message: None,
-        });
+        }));
     }
-    match Value::from_slice(alloc, body) {
-        Ok(value) => read_object(alloc, &value, name),
-        Err(_) => None,
+    match json_of(alloc, body)? {
+        Some(value) => read_object(alloc, &value, name),
+        None => Ok(None),
     }
 }
 
-/// Returns the message of a response that isn't a success. `None` if there is none, or if out of
-/// memory.
-pub(crate) fn message_of(alloc: Global, body: &[u8]) -> Option<String>
-    ensures { IfSome result (λ message. spec.IsMessageOf body.now (string_bytes message)) }
+/// Returns the message of a response that isn't a success. `None` if there is none.
+///
+/// # Errors
+///
+/// `AllocError` if out of memory.
+pub(crate) fn message_of(alloc: Global, body: &[u8]) -> Result<Option<String>, AllocError>
+    ensures { IfOk result (spec.Tells (spec.HasText body.now)) }
 {
-    let Ok(value) = Value::from_slice(alloc, body) else {
-        return None;
-    };
-    match text_of(alloc, &value, "message") {
-        Ok(message) => message,
-        Err(_) => None,
+    match json_of(alloc, body)? {
+        Some(value) => text_of(alloc, &value, "message"),
+        None => Ok(None),
     }
 }

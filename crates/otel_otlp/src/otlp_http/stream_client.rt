@@ -1,18 +1,19 @@
 //! A client over a reader and a writer, which together carry one connection.
 ghost use Rattle.std.specs.Prelude.{◌≡◌, ℕ, [], ◌∷◌, ◌++◌, take, false, true};
-ghost use Rattle.std.specs.Prelude.{IsTrue, IsErr, IfOk, OnOk, OnErr};
+ghost use Rattle.std.specs.Prelude.{IsTrue, IsErr, IsErrOf, IfOk, IfErr, OnOk, OnErr};
 ghost use Rattle.std.specs.Io.KnownBytes.{Appends};
 ghost use Rattle.http.specs.Request.{head_of, body_of};
 ghost use Rattle.http1.specs.Client.{reading};
 ghost use Rattle.http1.specs.Framing.{method_kind};
 ghost use Rattle.http1.specs.declared.conn.Reading.TheVariants as Reading;
 ghost use Rattle.otel_otlp.specs.StreamClient.{initial, request_text, asking, IsRequest};
-ghost use Rattle.otel_otlp.specs.StreamClient.{IsWritable, ReadsAnswer};
+ghost use Rattle.otel_otlp.specs.StreamClient.{IsWritable, ReadsAnswer, IsWriteError, Fails};
 
 mod request;
 mod source;
 
 use crate::otlp_http::client::{HttpClient, HttpError};
+use crate::otlp_http::reader_calls::ReaderCalls;
 use crate::otlp_http::stream_client::request::write_request;
 use crate::otlp_http::stream_client::source::Source;
 use crate::written::write_bytes;
@@ -22,7 +23,6 @@ use http1::{Client, Limits};
 use otel_sdk_base::{Accepted, WriterCalls};
 use std::alloc::Global;
 use std::hash::RandomState;
-use std::io::Read;
 use std::marker::Model;
 
 /// The most bytes of a response's head.
@@ -130,6 +130,8 @@ fn write<W: WriterCalls>(
     ensures flushed { OnOk result (W.may_flush true) }
     ensures written { OnOk result
         (IsWritable (head_of request.now) (body_of request.now).items) }
+    ensures failed { IfErr result (IsWriteError W.may_write W.may_flush
+        (head_of request.now) (body_of request.now).items) }
     ensures asking { IfOk result (λ connection. connection
         ≡ asking (head_of request.now) (body_of request.now).items) }
     ensures waits { IfOk result (λ connection. reading connection ≡ Reading.Head) }
@@ -144,7 +146,7 @@ fn write<W: WriterCalls>(
     Ok(connection)
 }
 
-impl<R: Read + Drop, W: WriterCalls + Drop> HttpClient for StreamClient<R, W> {
+impl<R: ReaderCalls + Drop, W: WriterCalls + Drop> HttpClient for StreamClient<R, W> {
     ghost sent = { λ c. c.sent };
 
     /// Sends the request, flushes the writer, and reads the response.
@@ -172,10 +174,15 @@ impl<R: Read + Drop, W: WriterCalls + Drop> HttpClient for StreamClient<R, W> {
             (request_text (head_of request.now) (body_of request.now).items)) }
         ensures answer { IfOk result (λ answer.
             ReadsAnswer R.remaining (head_of request.now) self.old answer self.new) }
+        ensures failed { IsTrue self.old.is_open → IfErr result
+            (Fails W.contents W.may_write W.may_flush R.may_read
+            (head_of request.now) (body_of request.now).items self.old self.new) }
         ensures closed { OnErr result (self.new.is_open ≡ false) }
         ensures quiet { IsTrue self.new.is_open → self.new.unread ≡ [] }
         ensures refused { self.old.is_open ≡ false → IsErr result
             × (self.new ≡ record self.old { sent = self.new.sent }) }
+        ensures unreachable { self.old.is_open ≡ false
+            → IsErrOf result HttpError.Unreachable }
     {
         self.sent = self.sent.and_one(request);
         if !self.is_open {

@@ -1,6 +1,6 @@
 //! The reason why a line wasn't read.
-ghost use Rattle.std.specs.Prelude.{◌≡◌, alloc_error, string_bytes, IfOk};
-ghost use Rattle.otel_otlp.specs.ReadErrors.{IsWithin, item_step};
+ghost use Rattle.std.specs.Prelude.{◌≡◌, [], codes, alloc_error, string_bytes, IfOk};
+ghost use Rattle.otel_otlp.specs.ReadErrors.{IsWithin, NamesPlace, item_step};
 ghost use Rattle.otel_otlp.specs.ReadErrors.{place_within as place_in, separator_of};
 ghost use Rattle.otel_otlp.specs.ReadMembers.{IsRefusal};
 ghost use Rattle.otel_otlp.specs.declared.read.error.ReadError.TheVariants.{Memory};
@@ -66,7 +66,9 @@ fn place_within(alloc: Global, step: &str, place: &str) -> Result<String, AllocE
 }
 
 /// Returns the error for a value at the place.
-pub(crate) fn unexpected(alloc: Global, place: &str, wanted: &'static str) -> ReadError {
+pub(crate) fn unexpected(alloc: Global, place: &str, wanted: &'static str) -> ReadError
+    ensures { NamesPlace place.now wanted.now result }
+{
     match String::from_str(alloc, place) {
         Ok(place) => ReadError::Unexpected { place, wanted },
         Err(error) => ReadError::Memory(error),
@@ -74,7 +76,9 @@ pub(crate) fn unexpected(alloc: Global, place: &str, wanted: &'static str) -> Re
 }
 
 /// Returns the error for a value that isn't an object.
-pub(crate) fn no_object(alloc: Global) -> ReadError {
+pub(crate) fn no_object(alloc: Global) -> ReadError
+    ensures { NamesPlace [] (codes "an object") result }
+{
     unexpected(alloc, "", "an object")
 }
 

@@ -1,8 +1,9 @@
 //! Reads lines of JSON.
-ghost use Rattle.std.specs.Prelude.{List, IfOk, IfErr, map};
+ghost use Rattle.std.specs.Prelude.{List, IfOk, IfErr, map, codes};
 ghost use Rattle.serde_json.specs.Errors.{IsMemory};
 ghost use Rattle.serde_json.specs.View.{view};
 ghost use Rattle.otel_otlp.specs.ReadGroups as spec;
+ghost use Rattle.otel_otlp.specs.ReadErrors.{NamesPlace, NamesLine, IsNoJson};
 ghost use Rattle.otel_otlp.specs.ReadMembers.{IsRefusal, IsObject, AreIn};
 
 use crate::read::error::{ReadError, unexpected};
@@ -17,6 +18,8 @@ fn groups<M: Message>(alloc: Global, value: &Value, name: &str) -> Result<Vec<M>
         AreIn M.says name.now (view value.now) (map M.seen read.items)) }
     ensures err { IfErr result (λ e. IsRefusal e → (ms : List M.Seen)
         → IsObject (view value.now) → ¬ AreIn M.says name.now (view value.now) ms) }
+    ensures no_object { ¬ (IsObject (view value.now))
+        → IfErr result (NamesPlace (codes "line") (codes "an object")) }
 {
     if !value.is_object() {
         return Err(unexpected(alloc, "line", "an object"));
@@ -26,7 +29,8 @@ fn groups<M: Message>(alloc: Global, value: &Value, name: &str) -> Result<Vec<M>
 
 /// Returns the error for a line that isn't read as JSON.
 fn no_json(error: Error) -> ReadError
-    ensures { IsRefusal result → ¬ IsMemory error }
+    ensures refusal { IsRefusal result → ¬ IsMemory error }
+    ensures told { IsNoJson result }
 {
     if error.is_memory() {
         ReadError::Memory(AllocError)
@@ -45,6 +49,7 @@ pub(crate) fn groups_in_line<M: Message>(
         spec.AreInLine M.says name.now line.now (map M.seen read.items)) }
     ensures err { IfErr result (λ e. IsRefusal e
         → (ms : List M.Seen) → ¬ spec.AreInLine M.says name.now line.now ms) }
+    ensures line { IfErr result (NamesLine line.now) }
 {
     match Value::from_str(alloc, line) {
         Ok(value) => groups(alloc, &value, name),

@@ -2,6 +2,7 @@
 ghost use Rattle.std.specs.Prelude.{List, IfOk, IfErr, map};
 ghost use Rattle.otel_sdk_logs.specs.LogRecord.{LogEntry};
 ghost use Rattle.otel_otlp.specs.ReadGroups.{ResourceItems};
+ghost use Rattle.otel_otlp.specs.ReadErrors.{NamesLine};
 ghost use Rattle.otel_otlp.specs.ReadMembers.{IsRefusal};
 ghost use Rattle.otel_otlp.specs.ReadLogs as spec;
 ghost use Rattle.otel_otlp.specs.ReadView.{records_of};
@@ -84,6 +85,7 @@ pub fn read_resource_logs(alloc: Global, line: &str) -> Result<Vec<ResourceLogs>
         spec.AreGroupsReadFrom line.now (map records_of read.items)) }
     ensures refused { IfErr result (λ e. IsRefusal e
         → (gs : List (ResourceItems LogEntry)) → ¬ spec.AreGroupsReadFrom line.now gs) }
+    ensures line { IfErr result (NamesLine line.now) }
 {
     groups_in_line::<ResourceLogs>(alloc, line, "resourceLogs")
 }
@@ -98,6 +100,7 @@ pub fn read_logs(alloc: Global, line: &str) -> Result<Vec<LogData>, ReadError>
     ensures read { IfOk result (λ read. spec.AreReadFrom line.now read.items) }
     ensures refused { IfErr result (λ e. IsRefusal e
         → (es : List LogEntry) → ¬ spec.AreReadFrom line.now es) }
+    ensures line { IfErr result (NamesLine line.now) }
 {
     let groups = read_resource_logs(alloc, line)?;
     Ok(joined(alloc, groups)?)

@@ -1,11 +1,12 @@
 //! Reads the members of an object: texts, numbers, ids and lists.
 ghost use Rattle.std.specs.Prelude.{◌≡◌, List, None, Some, IfOk, IfErr, OnOk, map, option_map};
-ghost use Rattle.std.specs.Prelude.{string_bytes, ℕ, Option};
+ghost use Rattle.std.specs.Prelude.{string_bytes, ℕ, Option, [], codes};
 ghost use Rattle.serde_json.specs.View.{view};
 ghost use Rattle.otel_ids.specs.TraceState.{Pair};
 ghost use Rattle.otel_otlp.specs.HttpResponse.{IsCount};
 ghost use Rattle.otel_otlp.specs.ReadMembers as spec;
 ghost use Rattle.otel_otlp.specs.ReadMembers.{IsRefusal};
+ghost use Rattle.otel_otlp.specs.ReadErrors.{NamesPlace};
 
 use crate::read::error::{ReadError, no_object, unexpected};
 use hex::FromHex;
@@ -28,6 +29,7 @@ pub(crate) fn member<'v>(object: &'v Value, name: &str) -> Option<&'v Value>
 pub(crate) fn check_object(alloc: Global, value: &Value) -> Result<(), ReadError>
     ensures ok { OnOk result (spec.IsObject (view value.now)) }
     ensures err { IfErr result (λ e. IsRefusal e → ¬ spec.IsObject (view value.now)) }
+    ensures place { IfErr result (NamesPlace [] (codes "an object")) }
 {
     if value.is_object() {
         Ok(())
@@ -42,6 +44,7 @@ pub(crate) fn text(alloc: Global, object: &Value, name: &str) -> Result<String, 
         spec.text_in name.now (view object.now) ≡ Some (string_bytes text)) }
     ensures err { IfErr result (λ e. IsRefusal e
         → spec.text_in name.now (view object.now) ≡ None) }
+    ensures place { IfErr result (NamesPlace name.now (codes "a text")) }
 {
     let Some(value) = member(object, name) else {
         return Ok(String::new(alloc));
@@ -62,6 +65,7 @@ pub(crate) fn given_text(
         spec.given_text_in name.now (view object.now) ≡ Some text) }
     ensures err { IfErr result (λ e. IsRefusal e
         → spec.given_text_in name.now (view object.now) ≡ None) }
+    ensures place { IfErr result (NamesPlace name.now (codes "a text")) }
 {
     let Some(value) = member(object, name) else {
         return Ok(None);
@@ -97,6 +101,7 @@ pub(crate) fn wide(alloc: Global, object: &Value, name: &str) -> Result<u64, Rea
     ensures ok { IfOk result (spec.IsWideIn name.now (view object.now)) }
     ensures err { IfErr result (λ e. IsRefusal e
         → (n : ℕ) → ¬ spec.IsWideIn name.now (view object.now) n) }
+    ensures place { IfErr result (NamesPlace name.now (codes "a number of 64 bits")) }
 {
     let Some(value) = member(object, name) else {
         return Ok(0);
@@ -116,6 +121,7 @@ pub(crate) fn given_wide(
     ensures ok { IfOk result (spec.IsGivenWideIn name.now (view object.now)) }
     ensures err { IfErr result (λ e. IsRefusal e
         → (n : Option ℕ) → ¬ spec.IsGivenWideIn name.now (view object.now) n) }
+    ensures place { IfErr result (NamesPlace name.now (codes "a number of 64 bits")) }
 {
     let Some(value) = member(object, name) else {
         return Ok(None);
@@ -131,6 +137,10 @@ pub(crate) fn narrow(alloc: Global, object: &Value, name: &str) -> Result<u32, R
     ensures ok { IfOk result (spec.IsNarrowIn name.now (view object.now)) }
     ensures err { IfErr result (λ e. IsRefusal e
         → (n : ℕ) → ¬ spec.IsNarrowIn name.now (view object.now) n) }
+    ensures wide { ((n : ℕ) → ¬ spec.IsWideIn name.now (view object.now) n)
+        → IfErr result (NamesPlace name.now (codes "a number of 64 bits")) }
+    ensures narrow { (n : ℕ) → spec.IsWideIn name.now (view object.now) n
+        → IfErr result (NamesPlace name.now (codes "a number of 32 bits")) }
 {
     let number = wide(alloc, object, name)?;
     if number > u32::MAX as u64 {
@@ -148,6 +158,10 @@ pub(crate) fn given_narrow(
     ensures ok { IfOk result (spec.IsGivenNarrowIn name.now (view object.now)) }
     ensures err { IfErr result (λ e. IsRefusal e
         → (n : Option ℕ) → ¬ spec.IsGivenNarrowIn name.now (view object.now) n) }
+    ensures wide { ((n : ℕ) → ¬ spec.IsWideIn name.now (view object.now) n)
+        → IfErr result (NamesPlace name.now (codes "a number of 64 bits")) }
+    ensures narrow { (n : ℕ) → spec.IsWideIn name.now (view object.now) n
+        → IfErr result (NamesPlace name.now (codes "a number of 32 bits")) }
 {
     if member(object, name).is_none() {
         return Ok(None);
@@ -179,6 +193,7 @@ fn span_id_of(text: &str) -> Option<SpanId>
 pub(crate) fn trace_id(alloc: Global, object: &Value) -> Result<TraceId, ReadError>
     ensures ok { IfOk result (λ id. spec.trace_id_in (view object.now) ≡ Some id) }
     ensures err { IfErr result (λ e. IsRefusal e → spec.trace_id_in (view object.now) ≡ None) }
+    ensures place { IfErr result (NamesPlace (codes "traceId") (codes "32 hexadecimal digits")) }
 {
     match member(object, "traceId")
         .and_then(Value::as_str)
@@ -193,6 +208,7 @@ pub(crate) fn trace_id(alloc: Global, object: &Value) -> Result<TraceId, ReadErr
 pub(crate) fn span_id(alloc: Global, object: &Value) -> Result<SpanId, ReadError>
     ensures ok { IfOk result (λ id. spec.span_id_in (view object.now) ≡ Some id) }
     ensures err { IfErr result (λ e. IsRefusal e → spec.span_id_in (view object.now) ≡ None) }
+    ensures place { IfErr result (NamesPlace (codes "spanId") (codes "16 hexadecimal digits")) }
 {
     match member(object, "spanId")
         .and_then(Value::as_str)
@@ -217,6 +233,8 @@ fn parent_id_of(text: &str) -> Option<SpanId>
 pub(crate) fn parent_id(alloc: Global, object: &Value) -> Result<SpanId, ReadError>
     ensures ok { IfOk result (λ id. spec.parent_id_in (view object.now) ≡ Some id) }
     ensures err { IfErr result (λ e. IsRefusal e → spec.parent_id_in (view object.now) ≡ None) }
+    ensures place { IfErr result
+        (NamesPlace (codes "parentSpanId") (codes "16 hexadecimal digits")) }
 {
     let Some(value) = member(object, "parentSpanId") else {
         return Ok(SpanId::INVALID);
@@ -258,6 +276,7 @@ pub(crate) fn given_trace_id(alloc: Global, object: &Value) -> Result<Option<Tra
     ensures ok { IfOk result (λ id. spec.given_trace_id_in (view object.now) ≡ Some id) }
     ensures err { IfErr result (λ e. IsRefusal e
         → spec.given_trace_id_in (view object.now) ≡ None) }
+    ensures place { IfErr result (NamesPlace (codes "traceId") (codes "32 hexadecimal digits")) }
 {
     let Some(value) = member(object, "traceId") else {
         return Ok(None);
@@ -273,6 +292,7 @@ pub(crate) fn given_span_id(alloc: Global, object: &Value) -> Result<Option<Span
     ensures ok { IfOk result (λ id. spec.given_span_id_in (view object.now) ≡ Some id) }
     ensures err { IfErr result (λ e. IsRefusal e
         → spec.given_span_id_in (view object.now) ≡ None) }
+    ensures place { IfErr result (NamesPlace (codes "spanId") (codes "16 hexadecimal digits")) }
 {
     let Some(value) = member(object, "spanId") else {
         return Ok(None);
@@ -288,6 +308,12 @@ pub(crate) fn trace_state(alloc: Global, object: &Value) -> Result<TraceState, R
     ensures ok { IfOk result (spec.HasState (view object.now)) }
     ensures err { IfErr result (λ e. IsRefusal e
         → (pairs : List Pair) → ¬ spec.HasState (view object.now) pairs) }
+    ensures text { spec.text_in (codes "traceState") (view object.now) ≡ None
+        → IfErr result (NamesPlace (codes "traceState") (codes "a text")) }
+    ensures pairs { (text : List ℕ)
+        → spec.text_in (codes "traceState") (view object.now) ≡ Some text
+        → IfErr result
+        (NamesPlace (codes "traceState") (codes "pairs of keys and values")) }
 {
     let text = text(alloc, object, "traceState")?;
     match TraceState::from_str(alloc, text.as_str()) {
@@ -308,6 +334,7 @@ pub(crate) fn items<'v>(
         spec.list_in name.now (view object.now) ≡ Some (map view values.now)) }
     ensures err { IfErr result (λ e. IsRefusal e
         → spec.list_in name.now (view object.now) ≡ None) }
+    ensures place { IfErr result (NamesPlace name.now (codes "a list")) }
 {
     let Some(value) = member(object, name) else {
         return Ok(&[]);

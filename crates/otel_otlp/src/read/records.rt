@@ -1,6 +1,6 @@
 //! Reads log records.
 ghost use Rattle.std.specs.Prelude.{◌≡◌, List, ℕ, Option, Some, IfOk, IfErr, option_map};
-ghost use Rattle.std.specs.Prelude.{position};
+ghost use Rattle.std.specs.Prelude.{position, codes};
 ghost use Rattle.std.specs.Str.{bytes_eq};
 ghost use Rattle.serde_json.specs.View.{view};
 ghost use Rattle.otel_base.specs.AnyValue.{Tree};
@@ -10,6 +10,7 @@ ghost use Rattle.otel_sdk_logs.specs.Attributes.{Attribute, default_limits};
 ghost use Rattle.otel_sdk_logs.specs.LogRecord.{LogState};
 ghost use Rattle.otel_sdk_logs.specs.declared.record.TraceContext.{TraceContext as Active};
 ghost use Rattle.otel_otlp.specs.ReadMembers.{IsRefusal};
+ghost use Rattle.otel_otlp.specs.ReadErrors.{NamesPlace};
 ghost use Rattle.otel_otlp.specs.ReadLogs as spec;
 
 use crate::read::error::{ReadError, unexpected};
@@ -146,6 +147,7 @@ fn severity(alloc: Global, record: &Value) -> Result<Option<Severity>, ReadError
     ensures ok { IfOk result (λ s. spec.HasSeverity (view record.now) (option_map number_of s)) }
     ensures err { IfErr result (λ e. IsRefusal e
         → (s : Option ℕ) → ¬ spec.HasSeverity (view record.now) s) }
+    ensures place { IfErr result (NamesPlace (codes "severityNumber") (codes "a severity")) }
 {
     let Some(value) = member(record, "severityNumber") else {
         return Ok(None);

@@ -1,12 +1,13 @@
 //! Reads spans with their events and links.
 ghost use Rattle.std.specs.Prelude.{◌≡◌, List, ℕ, None, Some, Bool, IfOk, IfErr, map};
-ghost use Rattle.std.specs.Prelude.{string_bytes};
+ghost use Rattle.std.specs.Prelude.{string_bytes, codes};
 ghost use Rattle.serde_json.specs.View.{view};
 ghost use Rattle.otel_context.specs.declared.span.status.SpanKind.{SpanKind as Kind};
 ghost use Rattle.otel_context.specs.declared.span.status.Status.{Status as State};
 ghost use Rattle.otel_ids.specs.SpanContext.{SpanContextRecord};
 ghost use Rattle.opentelemetry.specs.Event.{EventRecord, LinkRecord};
 ghost use Rattle.opentelemetry.specs.View.{event_of, link_of};
+ghost use Rattle.otel_otlp.specs.ReadErrors.{NamesPlace};
 ghost use Rattle.otel_otlp.specs.ReadMembers.{IsRefusal};
 ghost use Rattle.otel_otlp.specs.ReadTraces as spec;
 
@@ -137,6 +138,7 @@ fn code(alloc: Global, object: &Value) -> Result<u8, ReadError>
     ensures ok { IfOk result (spec.HasCode (view object.now)) }
     ensures err { IfErr result (λ e. IsRefusal e
         → (code : ℕ) → ¬ spec.HasCode (view object.now) code) }
+    ensures place { IfErr result (NamesPlace (codes "code") (codes "the code of a status")) }
 {
     let Some(value) = member(object, "code") else {
         return Ok(0);
@@ -230,6 +232,7 @@ fn kind(alloc: Global, span: &Value) -> Result<SpanKind, ReadError>
     ensures ok { IfOk result (spec.HasKind (view span.now)) }
     ensures err { IfErr result (λ e. IsRefusal e
         → (k : Kind) → ¬ spec.HasKind (view span.now) k) }
+    ensures place { IfErr result (NamesPlace (codes "kind") (codes "the kind of a span")) }
 {
     let Some(value) = member(span, "kind") else {
         return Ok(SpanKind::Internal);

@@ -2,6 +2,7 @@
 ghost use Rattle.std.specs.Prelude.{List, IfOk, IfErr, map};
 ghost use Rattle.otel_sdk_span.specs.SpanData.{SpanRecord};
 ghost use Rattle.otel_otlp.specs.ReadGroups.{ResourceItems};
+ghost use Rattle.otel_otlp.specs.ReadErrors.{NamesLine};
 ghost use Rattle.otel_otlp.specs.ReadMembers.{IsRefusal};
 ghost use Rattle.otel_otlp.specs.ReadTraces as spec;
 ghost use Rattle.otel_otlp.specs.ReadView.{spans_of};
@@ -82,6 +83,7 @@ pub fn read_resource_spans(alloc: Global, line: &str) -> Result<Vec<ResourceSpan
         spec.AreGroupsReadFrom line.now (map spans_of read.items)) }
     ensures refused { IfErr result (λ e. IsRefusal e
         → (gs : List (ResourceItems SpanRecord)) → ¬ spec.AreGroupsReadFrom line.now gs) }
+    ensures line { IfErr result (NamesLine line.now) }
 {
     groups_in_line::<ResourceSpans>(alloc, line, "resourceSpans")
 }
@@ -95,6 +97,7 @@ pub fn read_traces(alloc: Global, line: &str) -> Result<Vec<SpanData>, ReadError
     ensures read { IfOk result (λ read. spec.AreReadFrom line.now read.items) }
     ensures refused { IfErr result (λ e. IsRefusal e
         → (ss : List SpanRecord) → ¬ spec.AreReadFrom line.now ss) }
+    ensures line { IfErr result (NamesLine line.now) }
 {
     let groups = read_resource_spans(alloc, line)?;
     Ok(joined(alloc, groups)?)

@@ -1,11 +1,12 @@
 //! Reads value trees, which are the bodies and attributes of log records.
-ghost use Rattle.std.specs.Prelude.{◌≡◌, List, Option, IfOk, IfErr, map, option_map};
+ghost use Rattle.std.specs.Prelude.{◌≡◌, List, Option, IfOk, IfErr, map, option_map, codes};
 ghost use Rattle.std.specs.List.{AllZip};
 ghost use Rattle.serde_json.specs.View.{view};
 ghost use Rattle.otel_base.specs.AnyValue.{Tree};
 ghost use Rattle.otel_base.specs.View.{tree, pairs_view};
 ghost use Rattle.otel_sdk_logs.specs.Attributes.{Attribute};
 ghost use Rattle.otel_otlp.specs.ReadMembers.{IsRefusal, AreIn};
+ghost use Rattle.otel_otlp.specs.ReadErrors.{NamesPlace};
 ghost use Rattle.otel_otlp.specs.ReadTrees as spec;
 
 use crate::object::to_text;
@@ -49,6 +50,7 @@ fn read_bytes(alloc: Global, value: &Json) -> Result<AnyValue, ReadError>
     ensures ok { IfOk result (λ t. spec.AreBytes (view value.now) (tree t)) }
     ensures err { IfErr result (λ e. IsRefusal e
         → (t : Tree) → ¬ spec.AreBytes (view value.now) t) }
+    ensures place { IfErr result (NamesPlace (codes "bytesValue") (codes "bytes in base64")) }
 {
     let Some(text) = value.as_str() else {
         return Err(unexpected(alloc, "bytesValue", "bytes in base64"));
@@ -64,6 +66,7 @@ fn read_float(alloc: Global, value: &Json) -> Result<AnyValue, ReadError>
     ensures ok { IfOk result (λ t. spec.IsFloat (view value.now) (tree t)) }
     ensures err { IfErr result (λ e. IsRefusal e
         → (t : Tree) → ¬ spec.IsFloat (view value.now) t) }
+    ensures place { IfErr result (NamesPlace (codes "doubleValue") (codes "a number")) }
 {
     match value {
         Json::Number(_) => Ok(AnyValue::from(to_text(alloc, value)?)),

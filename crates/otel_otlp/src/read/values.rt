@@ -1,11 +1,13 @@
 //! Reads attributes and their values.
 ghost use Rattle.std.specs.Prelude.{◌≡◌, List, ℕ, Some, IfOk, IfErr, map, option_map, string_bytes};
+ghost use Rattle.std.specs.Prelude.{codes, Bool, ℤ};
 ghost use Rattle.serde_json.specs.View.{view};
 ghost use Rattle.otel_base.specs.Array.{ArrayValue};
 ghost use Rattle.otel_base.specs.KeyValue.{Attribute};
 ghost use Rattle.otel_base.specs.Value.{AttributeValue};
 ghost use Rattle.otel_base.specs.View.{array_of, attribute_of, value_of};
 ghost use Rattle.std.specs.List.{list_all};
+ghost use Rattle.otel_otlp.specs.ReadErrors.{NamesPlace};
 ghost use Rattle.otel_otlp.specs.ReadMembers as members;
 ghost use Rattle.otel_otlp.specs.ReadMembers.{IsRefusal};
 ghost use Rattle.otel_otlp.specs.ReadValues as spec;
@@ -28,7 +30,12 @@ impl Message for bool {
 
     ghost says = { spec.IsTruth };
 
-    fn read(alloc: Global, value: &Json) -> Result<bool, ReadError> {
+    fn read(alloc: Global, value: &Json) -> Result<bool, ReadError>
+        ensures ok { IfOk result (λ truth. spec.IsTruth (view value.now) truth) }
+        ensures err { IfErr result (λ e. IsRefusal e
+            → (truth : Bool) → ¬ spec.IsTruth (view value.now) truth) }
+        ensures place { IfErr result (NamesPlace (codes "boolValue") (codes "true or false")) }
+    {
         match member(value, "boolValue").and_then(Json::as_bool) {
             Some(truth) => Ok(truth),
             None => Err(unexpected(alloc, "boolValue", "true or false")),
@@ -46,7 +53,13 @@ impl Message for i64 {
 
     ghost says = { spec.IsWhole };
 
-    fn read(alloc: Global, value: &Json) -> Result<i64, ReadError> {
+    fn read(alloc: Global, value: &Json) -> Result<i64, ReadError>
+        ensures ok { IfOk result (λ integer. spec.IsWhole (view value.now) integer) }
+        ensures err { IfErr result (λ e. IsRefusal e
+            → (integer : ℤ) → ¬ spec.IsWhole (view value.now) integer) }
+        ensures place { IfErr result
+            (NamesPlace (codes "intValue") (codes "an integer of 64 bits")) }
+    {
         match member(value, "intValue").and_then(integer_of) {
             Some(integer) => Ok(integer),
             None => Err(unexpected(alloc, "intValue", "an integer of 64 bits")),

@@ -3,6 +3,7 @@
 // Depends on: otel_sdk test_support
 #![tactic(auto)]
 
+mod append_file;
 mod batches;
 mod deep_trees;
 mod failures;

@@ -10,7 +10,7 @@ use std::random::RandomSource;
 use std::test::Fail;
 
 /// Creates a folder of a new name.
-fn folder(rt: HostRuntime) -> Result<String, Fail> {
+pub fn folder(rt: HostRuntime) -> Result<String, Fail> {
     let mut bytes = [0; 8];
     rt.fill_bytes(&mut bytes)?;
     let number = u64::from_le_bytes(bytes);

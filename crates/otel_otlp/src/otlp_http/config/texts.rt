@@ -2,6 +2,7 @@
 ghost use Rattle.std.specs.Prelude.{◌≡◌, None, IfOk, OnOk, IfErr, IsErr, option_map};
 ghost use Rattle.otel_base.specs.View.{attribute_of, value_of};
 ghost use Rattle.otel_sdk_base.specs.ResourceTexts.{fault};
+ghost use Rattle.otel_otlp.specs.HttpConfig.{IfHeader, local};
 ghost use Rattle.otel_otlp.specs.HttpTexts as spec;
 
 use super::{ConfigError, OtlpHttpConfig, put_header};
@@ -25,6 +26,7 @@ fn text_of(value: &Value) -> &str
 fn check_list(alloc: Global, list: &str) -> Result<(), ConfigError>
     ensures ok { OnOk result (fault list.now ≡ None) }
     ensures err { IfErr result (spec.NamesPiece list.now) }
+    ensures form { IfErr result (IfHeader ⊥) }
 {
     let (_, error) = Resource::from_texts(alloc, list, "")?;
     match error {
@@ -52,6 +54,8 @@ fn put_read(
         → IsErr result }
     ensures err { IfErr result
         (spec.NamesRead (option_map (λ a. attribute_of a.now) read.entry)) }
+    ensures why { IfErr result (IfHeader (spec.IsReadRefusedBy headers.old
+        (option_map (λ a. attribute_of a.now) read.entry))) }
 {
     match read {
         Some(read) => put_header(alloc, headers, read.key.as_str(), text_of(&read.value)),
@@ -64,6 +68,8 @@ fn put_piece(alloc: Global, headers: &mut HeaderMap, piece: &str) -> Result<(), 
     ensures ok { OnOk result (headers.new ≡ spec.with_piece headers.old piece.now) }
     ensures refused { spec.IsRefused piece.now → IsErr result }
     ensures err { IfErr result (spec.NamesRead (spec.read piece.now)) }
+    ensures why { IfErr result
+        (IfHeader (spec.IsReadRefusedBy headers.old (spec.read piece.now))) }
 {
     let found = Resource::from_texts(alloc, piece, "")?;
     put_read(alloc, headers, first_of(&found.0))
@@ -74,6 +80,7 @@ fn put_list(alloc: Global, headers: &mut HeaderMap, list: &str) -> Result<(), Co
     ensures ok { OnOk result (headers.new ≡ spec.with_list headers.old list.now) }
     ensures headers { OnOk result (spec.AreHeaders list.now) }
     ensures err { IfErr result (spec.NamesPiece list.now) }
+    ensures why { IfErr result (IfHeader (spec.OneIsRefused headers.old list.now)) }
 {
     check_list(alloc, list)?;
     for piece in list.split(',') {
@@ -100,6 +107,8 @@ impl OtlpHttpConfig {
             ≡ spec.of_texts endpoint.now signal_endpoint.now headers.now) }
         ensures headers { OnOk result (spec.AreHeaders headers.now) }
         ensures err { IfErr result (spec.NamesPiece headers.now) }
+        ensures why { IfErr result
+            (IfHeader (spec.OneIsRefused local.headers headers.now)) }
     {
         let config = OtlpHttpConfig::new(alloc)?;
         let config = config.with_endpoints(alloc, endpoint, signal_endpoint)?;
@@ -120,6 +129,8 @@ impl OtlpHttpConfig {
         ensures ok { IfOk result (λ config. config ≡ spec.of_env otlp.now) }
         ensures headers { OnOk result (spec.AreHeaders otlp.now.headers) }
         ensures err { IfErr result (spec.NamesPiece otlp.now.headers) }
+        ensures why { IfErr result
+            (IfHeader (spec.OneIsRefused local.headers otlp.now.headers)) }
     {
         let headers = otlp.headers.as_str();
         match &otlp.endpoint {
@@ -173,6 +184,7 @@ impl OtlpHttpConfig {
         }) }
         ensures headers { OnOk result (spec.AreHeaders list.now) }
         ensures err { IfErr result (spec.NamesPiece list.now) }
+        ensures why { IfErr result (IfHeader (spec.OneIsRefused self.headers list.now)) }
     {
         put_list(alloc, &mut self.headers, list)?;
         Ok(self)

@@ -1,5 +1,5 @@
 //! The text of a request.
-ghost use Rattle.std.specs.Prelude.{◌≡◌, ◌∷◌, ◌≤◌, length, codes, IfOk, OnOk, string_bytes};
+ghost use Rattle.std.specs.Prelude.{◌≡◌, ◌∷◌, ◌≤◌, length, codes, IfOk, OnOk, IfErr, string_bytes};
 ghost use Rattle.http_uri.specs.ByteClasses.{index_after_last, at_sign};
 ghost use Rattle.http.specs.Request.{head_of, body_of};
 ghost use Rattle.http1.specs.Head.{pairs};
@@ -8,7 +8,7 @@ ghost use Rattle.http1.specs.Client.{new_client, reading};
 ghost use Rattle.http1.specs.declared.conn.Reading.TheVariants as Reading;
 ghost use Rattle.http1_typed.specs.Parts.{fields_of};
 ghost use Rattle.otel_otlp.specs.StreamClient.{limits, host_of, origin_form, request_text, asking};
-ghost use Rattle.otel_otlp.specs.StreamClient.{IsWritable, refusal_of};
+ghost use Rattle.otel_otlp.specs.StreamClient.{IsWritable, CannotWrite, refusal_of};
 
 use crate::otlp_http::client::HttpError;
 use http::{HeaderMap, Request, Uri};
@@ -104,6 +104,8 @@ pub(crate) fn write_request(
         ≡ asking (head_of request.now) (body_of request.now).items) }
     ensures written { OnOk result
         (IsWritable (head_of request.now) (body_of request.now).items) }
+    ensures refused { IfErr result
+        (CannotWrite (head_of request.now) (body_of request.now).items) }
     ensures waits { OnOk result (reading connection.new ≡ Reading.Head) }
     ensures method { OnOk result (connection.new.method
         ≡ method_kind (head_of request.now).method) }

@@ -1,13 +1,17 @@
 //! Reads a response.
-ghost use Rattle.std.specs.Prelude.{◌≡◌, ℕ, List, ◌++◌, ◌≤◌, length, drop, IfOk, OnOk};
+ghost use Rattle.std.specs.Prelude.{◌≡◌, ◌≢◌, ℕ, List, ◌++◌, ◌≤◌, length, drop, []};
+ghost use Rattle.std.specs.Prelude.{IfOk, IfErr, OnOk};
 ghost use Rattle.httparse.specs.Spans.{IsResponseWithin};
 ghost use Rattle.http1.specs.Client.{reading};
 ghost use Rattle.http1.specs.declared.conn.Reading.TheVariants as Reading;
 ghost use Rattle.http1_typed.specs.Parts.{IsResponseParts};
 ghost use Rattle.otel_otlp.specs.StreamClient.{Gains, Reads, StepsToHead, FindsHead, Grows};
 ghost use Rattle.otel_otlp.specs.StreamClient.{FindsBody, Replies, max_body_len};
+ghost use Rattle.otel_otlp.specs.StreamClient.{HasAnswered, IsReadError};
+ghost use Rattle.otel_sdk_base.specs.Writers.{IsStuck};
 
 use crate::otlp_http::client::HttpError;
+use crate::otlp_http::reader_calls::ReaderCalls;
 use crate::otlp_http::stream_client::MAX_BODY_LEN;
 use bytes::BytesMut;
 use http::Response;
@@ -17,7 +21,7 @@ use http1_typed::response_parts;
 use httparse::spans::{EMPTY_HEADER_SPAN, HeaderSpan, ResponseSpans};
 use std::alloc::{AllocError, Global};
 use std::hash::RandomState;
-use std::io::{ErrorKind, Read};
+use std::io::ErrorKind;
 
 /// The most headers, and the most trailers, of a response.
 const MAX_HEADERS: usize = 128;
@@ -49,6 +53,7 @@ fn take_head(
     requires { IsResponseWithin unread.old.items spans.now head.now }
     ensures parts { IfOk result (IsResponseParts unread.old.items spans.now head.now) }
     ensures rest { OnOk result (unread.new.items ≡ drop head.now.len unread.old.items) }
+    ensures failed { IfErr result (λ error. error ≢ HttpError.Unreachable) }
 {
     let Ok(text) = unread.freeze_to(head.len) else {
         return Err(HttpError::Memory(AllocError));
@@ -65,6 +70,7 @@ fn add_piece(body: &mut Vec<u8>, piece: &[u8]) -> Result<(), HttpError>
     requires { length body.old.items ≤ max_body_len }
     ensures added { OnOk result (body.new.items ≡ body.old.items ++ piece.now) }
     ensures within { OnOk result (length body.new.items ≤ max_body_len) }
+    ensures failed { IfErr result (λ error. error ≢ HttpError.Unreachable) }
 {
     if piece.len() > MAX_BODY_LEN - body.len() {
         return Err(HttpError::Malformed);
@@ -72,16 +78,20 @@ fn add_piece(body: &mut Vec<u8>, piece: &[u8]) -> Result<(), HttpError>
     body.extend_from_slice(piece).map_err(HttpError::Memory)
 }
 
-impl<R: Read> Source<R> {
+impl<R: ReaderCalls> Source<R> {
     // Reads once, and again if the read was interrupted. Returns the number of bytes, 0 at the end
     // of the stream.
     fn fill(&mut self) -> Result<usize, HttpError>
-        ensures { IfOk result (λ count. (came : List ℕ) × (length came ≡ count)
+        ensures gains { IfOk result (λ count. (came : List ℕ) × (length came ≡ count)
             × Gains R.remaining self.old came self.new) }
+        ensures answered { IfOk result (λ count. R.may_read (Ok count)) }
+        ensures failed { IfErr result (λ error. error ≡ HttpError.Unreachable
+            → IsStuck R.may_read) }
+        ensures no_bytes { IfErr result (λ error. error ≢ HttpError.Malformed) }
     {
         self.unread.reserve(READ_SIZE).map_err(HttpError::Memory)?;
         for _ in 0..u64::MAX {
-            match self.unread.read_from(&mut self.reader) {
+            match self.reader.read_into(&mut self.unread) {
                 Ok(count) => return Ok(count),
                 Err(error) => match error.kind() {
                     ErrorKind::Interrupted => {}
@@ -94,7 +104,10 @@ impl<R: Read> Source<R> {
 
     // Reads more of a head.
     fn fill_head(&mut self) -> Result<(), HttpError>
-        ensures { OnOk result ((came : List ℕ) × Gains R.remaining self.old came self.new) }
+        ensures gains { OnOk result
+            ((came : List ℕ) × Gains R.remaining self.old came self.new) }
+        ensures answered { OnOk result (HasAnswered R.may_read) }
+        ensures failed { IfErr result (IsReadError R.may_read []) }
     {
         if self.fill()? > 0 {
             return Ok(());
@@ -103,6 +116,19 @@ impl<R: Read> Source<R> {
             return Err(HttpError::Unreachable);
         }
         Err(HttpError::Malformed)
+    }
+
+    // Reads the first bytes of a response, unless there are unread ones.
+    fn start(&mut self) -> Result<(), HttpError>
+        ensures gains { OnOk result
+            ((came : List ℕ) × Gains R.remaining self.old came self.new) }
+        ensures answered { OnOk result (self.old.unread.items ≡ [] → HasAnswered R.may_read) }
+        ensures failed { IfErr result (IsReadError R.may_read self.old.unread.items) }
+    {
+        if self.unread.is_empty() {
+            return self.fill_head();
+        }
+        Ok(())
     }
 
     // Takes a step towards a head. Returns it once it is there.
@@ -114,6 +140,8 @@ impl<R: Read> Source<R> {
         requires { reading connection.old ≡ Reading.Head }
         ensures steps { IfOk result (λ found. Reads R.remaining self.old self.new
             (λ given left. StepsToHead connection.old given connection.new left found)) }
+        ensures failed { IfErr result (λ error. error ≡ HttpError.Unreachable
+            → IsStuck R.may_read) }
     {
         let Ok(read) = connection.read(self.unread.as_slice(), spans) else {
             return Err(HttpError::Malformed);
@@ -144,8 +172,10 @@ impl<R: Read> Source<R> {
     /// - `Memory` if out of memory.
     pub(crate) fn read_head(&mut self, connection: &mut Client) -> Result<Parts, HttpError>
         requires { reading connection.old ≡ Reading.Head }
-        ensures { IfOk result (λ parts. Reads R.remaining self.old self.new
+        ensures head { IfOk result (λ parts. Reads R.remaining self.old self.new
             (λ given left. FindsHead connection.old given connection.new left parts)) }
+        ensures failed { IfErr result (λ error. error ≡ HttpError.Unreachable
+            → IsStuck R.may_read) }
     {
         let mut spans = [EMPTY_HEADER_SPAN; MAX_HEADERS];
         for _ in 0..u64::MAX {
@@ -167,6 +197,8 @@ impl<R: Read> Source<R> {
         ensures within { OnOk result (length body.new.items ≤ max_body_len) }
         ensures steps { IfOk result (λ ended. Reads R.remaining self.old self.new (λ given left.
             Grows body.old.items body.new.items connection.old given connection.new left ended)) }
+        ensures failed { IfErr result (λ error. error ≡ HttpError.Unreachable
+            → IsStuck R.may_read) }
     {
         let Ok(read) = connection.read(self.unread.as_slice(), spans) else {
             return Err(HttpError::Malformed);
@@ -206,6 +238,8 @@ impl<R: Read> Source<R> {
         ensures within { IfOk result (λ body. length body.items ≤ max_body_len) }
         ensures body { IfOk result (λ body. Reads R.remaining self.old self.new
             (λ given left. FindsBody connection.old given body.items left)) }
+        ensures failed { IfErr result (λ error. error ≡ HttpError.Unreachable
+            → IsStuck R.may_read) }
     {
         let mut body = Vec::new(self.alloc);
         let mut spans = [EMPTY_HEADER_SPAN; MAX_HEADERS];
@@ -227,9 +261,11 @@ impl<R: Read> Source<R> {
         connection: &mut Client,
     ) -> Result<Response<Vec<u8>>, HttpError>
         requires { reading connection.old ≡ Reading.Head }
-        ensures { IfOk result (λ answer. Reads R.remaining self.old self.new
+        ensures answer { IfOk result (λ answer. Reads R.remaining self.old self.new
             (λ given left. Replies connection.old given answer left)) }
+        ensures failed { IfErr result (IsReadError R.may_read self.old.unread.items) }
     {
+        self.start()?;
         let parts = self.read_head(connection)?;
         let body = self.read_body(connection)?;
         Ok(Response::from_parts(parts, body))

@@ -1,8 +1,10 @@
 //! The files that a client opens, writes and reads for each request.
 use crate::stream_client::{Answer, OK, SENT, is_answer, request};
-use otel_otlp::{FileClient, HttpClient};
+use otel_otlp::{FileCalls, FileClient, HttpClient};
+use std::cell::Cell;
 use std::fs;
 use std::hash::RandomState;
+use std::io::{self, Read, Write};
 use std::random::RandomSource;
 use std::test::Fail;
 
@@ -60,5 +62,88 @@ fn the_files_are_opened_anew_for_each_request(rt: HostRuntime) -> Result<(), Fai
         }
     }
     fs::remove_dir_all(&rt, folder.as_str())?;
+    Ok(())
+}
+
+/// A file that takes all bytes, and gives the response once.
+#[derive(Drop)]
+struct Open {
+    is_read: bool,
+}
+
+impl Read for Open {
+    fn read(&mut self, buffer: &mut [u8]) -> io::Result<usize> {
+        let left = if self.is_read {
+            b"".as_slice()
+        } else {
+            OK.as_bytes()
+        };
+        self.is_read = true;
+        buffer[..left.len()].copy_from_slice(left);
+        Ok(left.len())
+    }
+}
+
+impl Write for Open {
+    fn write(&mut self, bytes: &[u8]) -> io::Result<usize> {
+        Ok(bytes.len())
+    }
+
+    fn flush(&mut self) -> io::Result<()> {
+        Ok(())
+    }
+}
+
+/// Counts the files that are opened.
+#[derive(Drop)]
+struct Counting<'a> {
+    outputs: &'a Cell<u32>,
+    inputs: &'a Cell<u32>,
+}
+
+impl FileCalls for Counting<'_> {
+    type Stream = Open;
+
+    ghost outputs = { λ _ _. Unit {0} };
+
+    ghost inputs = { λ _ _. Unit {0} };
+
+    fn open_output(&self, path: &str) -> Option<Open> {
+        self.outputs.set(self.outputs.get() + 1);
+        if path == "f/request" {
+            Some(Open { is_read: false })
+        } else {
+            None
+        }
+    }
+
+    fn open_input(&self, path: &str) -> Option<Open> {
+        self.inputs.set(self.inputs.get() + 1);
+        if path == "f/response" {
+            Some(Open { is_read: false })
+        } else {
+            None
+        }
+    }
+}
+
+#[test]
+fn each_file_is_opened_once(rt: HostRuntime) -> Result<(), Fail> {
+    let alloc = rt.alloc();
+    let outputs = Cell::new(0);
+    let inputs = Cell::new(0);
+    let files = Counting {
+        outputs: &outputs,
+        inputs: &inputs,
+    };
+    let mut client = FileClient::new(alloc, RandomState::new(&rt)?, files, "f")?;
+    for count in 1..4 {
+        let sent = client.send_bytes(&request(alloc)?);
+        assert!(rt;
+            is_answer(&sent, false, &Ok((200, "{}", false))),
+            "answer {count}"
+        );
+        assert_eq!(rt; (outputs.get(), inputs.get()), (count, count));
+    }
     Ok(())
 }

@@ -10,6 +10,9 @@ returns-in_err-groups-clause-refused c =
     passed _ _ _ c.from_residual.ensures.1
     (λ no es h. c.in_err-groups.ensures.refused no h.resources h.are)
 
+pub returns-in_err-groups-clause-line : goal.returns-in_err-groups-clause-line
+returns-in_err-groups-clause-line c = passed _ _ _ c.from_residual.ensures.1 c.in_err-groups.ensures.line
+
 pub returns-clause-read : goal.returns-clause-read
 returns-clause-read c = record {
   resources = map records_of c.in_ok-groups.groups.items;

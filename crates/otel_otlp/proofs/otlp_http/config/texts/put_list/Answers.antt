@@ -3,8 +3,9 @@ use Rattle.std.proofs.lemmas.List.{length_push}
 use Rattle.std.proofs.lemmas.Iterator.Splits.{YieldsList-from_str_split}
 use Rattle.std.proofs.lemmas.Iterator.Consumers.{YieldsList-at, YieldsList-turn, YieldsList-end}
 use Rattle.otel_sdk_base.specs.ResourceTexts.{pieces}
-use Rattle.otel_otlp.specs.HttpTexts.{NamesPiece}
-use Rattle.otel_otlp.proofs.HeaderLists.{one_more, all_set, named}
+use Rattle.otel_otlp.specs.HttpTexts.{NamesPiece, OneIsRefused}
+use Rattle.otel_otlp.specs.HttpConfig.{IfHeader}
+use Rattle.otel_otlp.proofs.HeaderLists.{one_more, all_set, named, one_refused}
 use Rattle.otel_otlp.proofs.HttpDelivery.{is_error}
 use Rattle.otel_otlp.proofs.otlp_http.config.texts.put_list.Goals as goal
 
@@ -22,6 +23,15 @@ returns-in_err-put_piece-clause-err c =
     let e = c.in_err-put_piece.field-0.0 in
     let failed : c.from_residual-in_err-put_piece.result ≡ Err e = is_error c.from_residual-in_err-put_piece.result e c.from_residual-in_err-put_piece.ensures.1 in
     subst (λ r. IfErr r (NamesPiece c.args.list.now)) (sym failed) (named c.args.list.now (length c.loop-piece.yielded) c.in-Some.piece.now turn e c.in_err-put_piece.ensures.err)
+
+pub returns-in_err-put_piece-clause-why : goal.returns-in_err-put_piece-clause-why
+returns-in_err-put_piece-clause-why c =
+    let road = YieldsList-at c.into_iter-piece-iterator.ensures.into_iter_gives (YieldsList-from_str_split 44 c.args.list.now (lit< tt) c.split-piece-items.ensures.text c.split-piece-items.ensures.has_more c.split-piece-items.ensures.pattern) in
+    let turn = YieldsList-turn road c.loop-piece.yielded _ c.loop-piece.yielded_by _ _ c.in-Some.piece c.in-Some.is c.next.ensures.steps in
+    let e = c.in_err-put_piece.field-0.0 in
+    let failed : c.from_residual-in_err-put_piece.result ≡ Err e = is_error c.from_residual-in_err-put_piece.result e c.from_residual-in_err-put_piece.ensures.1 in
+    subst (λ r. IfErr r (IfHeader (OneIsRefused c.args.headers.now c.args.list.now))) (sym failed)
+    (one_refused c.args.list.now (length c.loop-piece.yielded) c.in-Some.piece.now turn c.args.headers.now c.loop-piece.headers c.loop-piece.invariant e c.in_err-put_piece.ensures.why)
 
 pub returns-clause-ok : goal.returns-clause-ok
 returns-clause-ok c =

@@ -13,7 +13,7 @@ pub returns-clause-answer : goal.returns-clause-answer
 returns-clause-answer g c =
     let p = head_of c.args.request.now in
     let body = (body_of c.args.request.now).items in
-    let (came, consumed, replies) = c.in_ok-response.ensures in
+    let (came, consumed, replies) = c.in_ok-response.ensures.answer in
     let asked = c.in_ok-connection.ensures.asking in
     let stream = c.self.inside.source.unread.items ++ came in
     let rest = c.read_response.new.self.unread.items in

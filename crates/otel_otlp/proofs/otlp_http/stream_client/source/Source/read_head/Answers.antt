@@ -8,8 +8,8 @@ use Rattle.otel_otlp.proofs.otlp_http.stream_client.source.Source.read_head.Goal
 pub step_head-requires : goal.step_head-requires
 step_head-requires g c = ap reading c.loop.invariant.2.same ∙ c.requires
 
-pub returns-in-Some : goal.returns-in-Some
-returns-in-Some g c =
+pub returns-in-Some-clause-head : goal.returns-in-Some-clause-head
+returns-in-Some-clause-head g c =
     let (before, first, skips) = c.loop.invariant in
     let (came, then, step) = c.in_ok-parts.ensures.steps in
     let finds = subst (λ o. StepsToHead c.loop.connection (c.loop.self.unread.items ++ came) c.step_head.new.connection c.step_head.new.self.unread.items o) c.in-Some.is step in (

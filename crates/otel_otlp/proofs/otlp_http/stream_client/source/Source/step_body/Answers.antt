@@ -38,7 +38,7 @@ pub returns-then-branch-gt0-clause-steps : goal.returns-then-branch-gt0-clause-s
 returns-then-branch-gt0-clause-steps g c =
     let input = c.args.self.now.unread.items in
     let found = subst (λ (xs : List ℕ). ClientReads c.args.connection.now xs c.read.new.headers c.read.new.self c.in-Ok.read) c.as_slice.ensures c.in-Ok.ensures.ok in
-    let (came, counted, gained) = c.in_ok-fill-in-NeedMore.ensures in (
+    let (came, counted, gained) = c.in_ok-fill-in-NeedMore.ensures.gains in (
       came,
       gained.1,
       (
@@ -52,7 +52,7 @@ pub returns-in-Ok-End-clause-steps : goal.returns-in-Ok-End-clause-steps
 returns-in-Ok-End-clause-steps g c =
     let input = c.args.self.now.unread.items in
     let found = subst (λ (xs : List ℕ). ClientReads c.args.connection.now xs c.read.new.headers c.read.new.self c.in-Ok.read) c.as_slice.ensures c.in-Ok.ensures.ok in
-    let (came, counted, gained) = c.in_ok-fill-in-NeedMore.ensures in
+    let (came, counted, gained) = c.in_ok-fill-in-NeedMore.ensures.gains in
     let none : came ≡ [] = nil_from_length came (omega (arith, counted, c.if-branch-gt0.false)) in
     let closed = until_close (reading c.read.new.self) c.read.new.self c.in-Ok-End.field-0-0 (sym c.read_eof.ensures.answer ∙ search rules) in (
       [],

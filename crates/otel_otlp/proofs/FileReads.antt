@@ -1,0 +1,23 @@
+-- An answer that a client over two files has read.
+use Rattle.std.proofs.Common.{◌≡◌, List, ℕ, Option, Result, Ok, Err, OnOk, IfOk, subst}
+use Rattle.std.specs.Io.KnownBytes.{Appends}
+use Rattle.http.specs.declared.request.Parts as Request
+use Rattle.otel_otlp.specs.FileClient.{Opens, Reads}
+use Rattle.otel_otlp.specs.HttpClient.{Received, Answer}
+use Rattle.otel_otlp.specs.StreamClient.{Streaming, ReadsAnswer, request_text, initial}
+
+module _ {F : Type 0} (outputs inputs : List ℕ → Option F → Type 0) (contents remaining : F → Option (List ℕ)) (p : Request.Parts) (body folder : List ℕ) (input output : F) where
+  pub over_files : (r : Answer) (client left : Streaming F F)
+      → Opens outputs inputs folder input output → client ≡ initial input output
+      → OnOk r (Appends (contents client.writer) (contents left.writer) (request_text p body))
+      → IfOk r (λ answer. ReadsAnswer remaining p client answer left)
+      → IfOk r (Reads outputs inputs contents remaining p body folder)
+  over_files (Ok answer) client left opens new writes reads = record {
+    input = input;
+    output = output;
+    opens = opens;
+    left = left;
+    writes = subst (λ (c : Streaming F F). Appends (contents c.writer) (contents left.writer) (request_text p body)) new writes;
+    reads = subst (λ (c : Streaming F F). ReadsAnswer remaining p c answer left) new reads;
+  }
+  over_files (Err error) client left opens new writes reads = tt

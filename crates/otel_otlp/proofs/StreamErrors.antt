@@ -1,0 +1,44 @@
+-- Why a client over a reader and a writer has no answer.
+use Rattle.std.proofs.Common.{◌≡◌, ◌≢◌, ℕ, List, [], Option, Some, None, Result, Ok, Err, IfErr, refl, sym, ap, subst, true≢false}
+use Rattle.std.specs.Prelude.{is_some, alloc_error}
+use Rattle.std.specs.Result.{IsErrAnd}
+use Rattle.std.specs.declared.io.Error.{Error}
+use Rattle.http.specs.declared.request.Parts as Request
+use Rattle.http1.specs.Output.{GivesOrRefuses}
+use Rattle.http1.specs.declared.error.WriteError.{WriteError}
+use Rattle.http1.specs.declared.error.WriteError.TheVariants as refused
+use Rattle.otel_sdk_base.specs.Writers.{IsStuck}
+use Rattle.otel_otlp.specs.StreamClient.{IsWritable, CannotWrite, IsReadError, refusal_of}
+use Rattle.otel_otlp.specs.declared.otlp_http.client.HttpError.{HttpError}
+use Rattle.otel_otlp.specs.declared.otlp_http.client.HttpError.TheVariants.{Memory, Malformed, Unreachable}
+
+-- the error that a `?` passes is the same
+pub passed : {T : Type 0} (P : HttpError → Type 0) (r : Result T HttpError) (e : HttpError)
+    → IsErrAnd r (λ f. f ≡ e) → P e → IfErr r P
+passed P (Ok x) e is h = tt
+passed P (Err f) e is h = subst P (sym is) h
+
+-- an error of the reader, which hasn't read bytes that are none of a response
+pub read_error : (may_read : Result ℕ Error → Type 0) (unread : List ℕ) (e : HttpError)
+    → (e ≡ Unreachable → IsStuck may_read) → e ≢ Malformed → IsReadError may_read unread e
+read_error may_read unread Unreachable stuck other = stuck refl
+read_error may_read unread Malformed stuck other = absurd (other refl)
+read_error may_read unread (Memory failed) stuck other = tt
+
+-- ---- a request that isn't written
+module _ (p : Request.Parts) (body : List ℕ) where
+  unwritable : (e : WriteError) → ¬ (IsWritable p body) → CannotWrite p body (refusal_of e)
+  unwritable refused.OutOfMemory never = tt
+  unwritable e never = never
+
+  no_memory : (e : WriteError) → e ≡ refused.OutOfMemory → CannotWrite p body (refusal_of e)
+  no_memory e is = subst (λ x. CannotWrite p body (refusal_of x)) (sym is) tt
+
+  -- a call of the connection that failed
+  pub refused_by : {T : Type 0} (o : Option WriteError) (spare len : ℕ) (r : Result T WriteError) (e : WriteError)
+      → GivesOrRefuses o spare len r → r ≡ Err e → (IsWritable p body → o ≡ None) → CannotWrite p body (refusal_of e)
+  refused_by None spare len r e h is takes =
+      let why = subst (λ x. GivesOrRefuses None spare len x) is h in
+      no_memory e why.0
+  refused_by (Some x) spare len r e h is takes =
+      unwritable e (λ w. true≢false (ap is_some (takes w)))

@@ -1,0 +1,44 @@
+//! The calls that open files, of whose results no contract of [`Files`] speaks.
+
+use std::fs::{Files, OpenOptions};
+use std::io::{Read, Write};
+
+/// The calls that open files. Every [`Files`] has them.
+///
+/// The ghost members `outputs` and `inputs` relate a path and the file that was opened there, to be
+/// written or to be read, or `None` if that failed. Code that is generic over this trait knows
+/// nothing of them: only a call shows that a file was opened.
+pub trait FileCalls {
+    ghost use Rattle.std.specs.Prelude.{ℕ, List, Option};
+
+    /// An open file.
+    type Stream: Read + Write + Drop;
+
+    ghost outputs: { List ℕ → Option Self.Stream → Type 0 };
+
+    ghost inputs: { List ℕ → Option Self.Stream → Type 0 };
+
+    /// Opens the file of the path to write to it. Returns `None` if that failed.
+    fn open_output(&self, path: &str) -> Option<Self::Stream>
+        ensures { outputs path.now result };
+
+    /// Opens the file of the path to read it. Returns `None` if that failed.
+    fn open_input(&self, path: &str) -> Option<Self::Stream>
+        ensures { inputs path.now result };
+}
+
+impl<R: Files> FileCalls for R {
+    type Stream = R::File;
+
+    ghost outputs = { λ _ _. Unit {0} };
+
+    ghost inputs = { λ _ _. Unit {0} };
+
+    fn open_output(&self, path: &str) -> Option<R::File> {
+        OpenOptions::new().write(true).open(self, path).ok()
+    }
+
+    fn open_input(&self, path: &str) -> Option<R::File> {
+        OpenOptions::new().read(true).open(self, path).ok()
+    }
+}
