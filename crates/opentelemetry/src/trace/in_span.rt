@@ -162,6 +162,8 @@ fn attach_copy(stack: &mut ContextStack, context: &Context) -> Result<u16, Alloc
 
 /// Inserts the span into the table, and attaches a copy of the parent's context in which it is
 /// active.
+// Inlined, since a call copies the span.
+#[inline(always)]
 pub(crate) fn enter<S: Span>(
     alloc: Global,
     stack: &mut ContextStack,

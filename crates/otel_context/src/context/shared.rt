@@ -78,6 +78,8 @@ impl Shared {
     }
 
     /// Returns the same with this active span.
+    // Inlined, since a call copies the span context.
+    #[inline(always)]
     pub fn with_span(
         &self,
         alloc: Global,

@@ -178,6 +178,8 @@ impl<S: Drop> Spans<S> {
     ///
     /// `NumbersUsedUp` if the next number is 18446744073709551615, and otherwise `Memory` if out of
     /// memory. The table is unchanged. The error returns the span.
+    // Inlined, since a call copies the span.
+    #[inline(always)]
     pub fn insert(&mut self, span: S) -> Result<u64, SpanRefused<S>>
         ensures numbered { IsNumbered self.old }
         ensures number { IfOk result (λ number. number ≡ self.old.next_number) }
@@ -245,6 +247,8 @@ impl<S: Drop> Spans<S> {
     ///
     /// A table with room for many times the remaining spans is shrunk, or left as it is if out of
     /// memory.
+    // Inlined, since a call copies the span.
+    #[inline(always)]
     pub fn take(&mut self, number: u64) -> Option<S>
         ensures value { result ≡ get self.old number }
         ensures taken { self.new ≡ take self.old number }
