@@ -1,13 +1,15 @@
--- A list of shared entries in rising order of their keys, and the finite map that it holds.
-use Rattle.std.proofs.Common.{bytes_eq, drop-cons, ◌+◌, Ordering, Less, Equal, Greater, ◌≡◌, ◌<◌, zero, suc, ℕ, List, [], ◌∷◌, ◌++◌, length, get_or, take, drop, add-one, append_assoc, None, Some, Bool, true, false, cond, ◌&&◌, T, HoldsAt, nat_cmp, is_eq, is_lt, refl, sym, ap, subst, ◌∙◌, arith}
-use Rattle.std.specs.List.{AllZip}
+-- A list of shared entries in rising order of their slots and keys, and the finite map that it holds.
+use Rattle.std.proofs.Common.{bytes_eq, slice_index, set, ⊎_elim, ◌+◌, Ordering, Less, Equal, Greater, ◌≡◌, ◌<◌, zero, suc, ℕ, List, [], ◌∷◌, ◌++◌, length, get_or, take, drop, add-one, append_assoc, None, Some, Bool, true, false, cond, ◌&&◌, T, HoldsAt, nat_cmp, is_eq, is_lt, refl, sym, ap, subst, ◌∙◌, arith}
+use Rattle.std.specs.List.{AllZip, All}
+use Rattle.std.proofs.lemmas.List.Elements.{All-head, All-tail, All-cons, All-more, All-weaker, All-get_or}
 use Rattle.std.specs.List.Sorted.{IsNonDecreasingBy, IsPartitionPoint}
 use Rattle.std.specs.Ordering.{ordering_index, ordering_reverse}
 use Rattle.std.specs.FinMap.Entries.{by_order, put, below_all, is_sorted, is_sorted-put, find-put}
-use Rattle.std.proofs.lemmas.Bool.{cond-true, cond-false}
-use Rattle.std.proofs.lemmas.List.{map-append}
+use Rattle.std.proofs.lemmas.Bool.{cases_Bool, cases_eq, cond-true, cond-false}
+use Rattle.std.proofs.lemmas.List.{map-append, get_or-set_same, get_or-set_other}
+use Rattle.std.proofs.lemmas.Nat.{mod_below}
 use Rattle.std.proofs.lemmas.List.Sorted.{searchable_from_sorted}
-use Rattle.std.proofs.lemmas.Cmp.{nat_list_cmp_total}
+use Rattle.std.proofs.lemmas.Cmp.{nat_list_cmp_total, tied_itself}
 use Rattle.std.proofs.lemmas.Map.Lookups.{exact_bytes}
 use Rattle.std.proofs.lemmas.Map.Text.{is_eq-slice_cmp}
 use Rattle.std.specs.Cmp.Lexicographic.{slice_cmp}
@@ -19,10 +21,7 @@ use Rattle.std.specs.declared.rc.Rc.{Rc}
 use Rattle.otel_base.specs.AnyValue.{Tree}
 use Rattle.otel_base.specs.View.{tree}
 use Rattle.otel_context.specs.declared.context.entries.Entry.{Entry}
-use Rattle.otel_context.specs.View.{pairs, by_key, entries_seen, IsRising}
-
-abbrev pub text_cmp : List ℕ → List ℕ → Ordering
-text_cmp = slice_cmp nat_cmp
+use Rattle.otel_context.specs.View.{pairs, rows, text_cmp, sort_key, slot_number, by_key, entries_seen, IsRising, AreInSlots, AreGuessed}
 
 pub get_seen : (es : List (Rc Entry Global)) (q : List ℕ) → get (entries_seen es) q ≡ find text_cmp q (pairs es)
 get_seen es q = get-from_entries nat_list_cmp_total (pairs es) q
@@ -39,16 +38,94 @@ pub find_later : (e : Rc Entry Global) (es : List (Rc Entry Global)) (q : List �
     → find text_cmp q (pairs (e ∷ es)) ≡ find text_cmp q (pairs es)
 find_later e es q h = find_first (e.value.key, tree e.value.value) (pairs es) q ∙ cond-false _ _ _ h
 
--- the entries from index i on
-pub from_index : (es : List (Rc Entry Global)) (i : ℕ) (e : Rc Entry Global) → e ≡ get_or es i e → i < length es → drop i es ≡ e ∷ drop (i + 1) es
-from_index es i e is within = drop-cons es i e within ∙ ap (λ f. f ∷ drop (suc i) es) (sym is) ∙ ap (λ n. e ∷ drop n es) (sym (add-one i))
+-- copies that share the entries have what holds of each value
+pub All-shared : (P : Entry → Type 0) (es fs : List (Rc Entry Global)) → AllZip (λ e f. f.value ≡ e.value) es fs → All (λ e. P e.value) es → All (λ e. P e.value) fs
+All-shared P [] [] h all = all
+All-shared P [] (f ∷ fs) h all = absurd h
+All-shared P (e ∷ es) [] h all = absurd h
+All-shared P (e ∷ es) (f ∷ fs) h all =
+    All-cons (λ e. P e.value) f fs (subst P (sym h.0) (All-head (λ e. P e.value) e es all)) (All-shared P es fs h.1 (All-tail (λ e. P e.value) e es all))
 
--- a copy that shares the entries has the same pairs
+-- and the same rows and pairs
+pub rows-AllZip : (es fs : List (Rc Entry Global)) → AllZip (λ e f. f.value ≡ e.value) es fs → rows fs ≡ rows es
+rows-AllZip [] [] h = refl
+rows-AllZip [] (f ∷ fs) h = absurd h
+rows-AllZip (e ∷ es) [] h = absurd h
+rows-AllZip (e ∷ es) (f ∷ fs) h = λ i. (sort_key (h.0 i), tree (h.0 i).value) ∷ rows-AllZip es fs h.1 i
+
 pub pairs-AllZip : (es fs : List (Rc Entry Global)) → AllZip (λ e f. f.value ≡ e.value) es fs → pairs fs ≡ pairs es
 pairs-AllZip [] [] h = refl
 pairs-AllZip [] (f ∷ fs) h = absurd h
 pairs-AllZip (e ∷ es) [] h = absurd h
 pairs-AllZip (e ∷ es) (f ∷ fs) h = λ i. ((h.0 i).key, tree (h.0 i).value) ∷ pairs-AllZip es fs h.1 i
+
+-- ---- slots
+
+same_text : (q k : List ℕ) → bytes_eq q k ≡ true → q ≡ k
+same_text q k h = (bytes_eq-Decides q k).0 h
+
+-- texts in their slots are equal if the texts are
+eq_in_slots : (s r : ℕ) (q k : List ℕ) → s ≡ slot_number q → r ≡ slot_number k → bytes_eq (s ∷ q) (r ∷ k) ≡ bytes_eq q k
+eq_in_slots s r q k is of =
+    ⊎_elim
+    (λ t.
+    (bytes_eq-Decides (s ∷ q) (r ∷ k)).1 (λ i. (is ∙ ap slot_number (same_text q k t) ∙ sym of) i ∷ same_text q k t i)
+    ∙ sym t)
+    (λ f.
+    ⊎_elim
+    (λ t. absurd (subst T (sym ((bytes_eq-Decides q k).1 (ap (drop 1) (same_text (s ∷ q) (r ∷ k) t))) ∙ f) tt))
+    (λ g. g ∙ sym f)
+    (cases_Bool (bytes_eq (s ∷ q) (r ∷ k))))
+    (cases_Bool (bytes_eq q k))
+
+cmp_in_slots : (s r : ℕ) (q k : List ℕ) → s ≡ slot_number q → r ≡ slot_number k → is_eq (text_cmp (s ∷ q) (r ∷ k)) ≡ is_eq (text_cmp q k)
+cmp_in_slots s r q k is of = is_eq-slice_cmp (s ∷ q) (r ∷ k) ∙ eq_in_slots s r q k is of ∙ sym (is_eq-slice_cmp q k)
+
+abbrev InSlot : Rc Entry Global → Type 0
+InSlot e = e.value.slot ≡ slot_number e.value.key
+
+-- a text is found in its slot
+pub find_in_slot : (s : ℕ) (q : List ℕ) (es : List (Rc Entry Global)) → s ≡ slot_number q → AreInSlots es
+    → find text_cmp q (pairs es) ≡ find text_cmp (s ∷ q) (rows es)
+find_in_slot s q [] is h = refl
+find_in_slot s q (e ∷ es) is h =
+    ap (λ b. cond b (Some (tree e.value.value)) (find text_cmp q (pairs es))) (sym (cmp_in_slots s e.value.slot q e.value.key is (All-head InSlot e es h)))
+    ∙ ap (cond (is_eq (text_cmp (s ∷ q) (sort_key e.value))) (Some (tree e.value.value))) (find_in_slot s q es is (All-tail InSlot e es h))
+
+-- a text isn't found if its slot is empty
+pub find_empty : (guesses : List ℕ) (q : List ℕ) (es : List (Rc Entry Global)) → slice_index guesses (slot_number q) ≡ 255 → AreInSlots es → AreGuessed guesses es
+    → find text_cmp q (pairs es) ≡ None
+find_empty guesses q [] empty h g = refl
+find_empty guesses q (e ∷ es) empty h g =
+    let slot = All-head InSlot e es h in
+    let guess = All-head (λ (e : Rc Entry Global). slice_index guesses e.value.slot < 255) e es g in
+    let rest = find_empty guesses q es empty (All-tail InSlot e es h) (All-tail (λ (e : Rc Entry Global). slice_index guesses e.value.slot < 255) e es g) in
+    ⊎_elim
+    (λ t.
+    let full = ap (slice_index guesses) (slot ∙ ap slot_number (sym (same_text q e.value.key t))) ∙ empty in
+    absurd (omega (arith, full, guess)))
+    (λ f. find_later e es q f ∙ rest)
+    (cases_Bool (bytes_eq q e.value.key))
+
+-- a guess for one more entry
+guess_kept : (g : List ℕ) (n m v : ℕ) → n < length g → v < 255 → slice_index g m < 255 → slice_index (set g n v) m < 255
+guess_kept g n m v within low h =
+    ⊎_elim
+    (λ same. subst (λ x. x < 255) (sym (ap (slice_index (set g n v)) same ∙ get_or-set_same g n v 0 within)) low)
+    (λ other. subst (λ x. x < 255) (sym (get_or-set_other g n m v 0 other)) h)
+    (cases_eq m n)
+
+pub guess_more : (g : List ℕ) (es : List (Rc Entry Global)) (i n v : ℕ) (e : Rc Entry Global) → e ≡ get_or es i e → i < length es
+    → n ≡ e.value.slot → n < length g → v < 255 → AreGuessed g (take i es) → AreGuessed (set g n v) (take (i + 1) es)
+guess_more g es i n v e is in' slot within low all =
+    let P : Rc Entry Global → Type 0 = λ e. slice_index (set g n v) e.value.slot < 255 in
+    All-more P es i e in'
+    (All-weaker (λ (e : Rc Entry Global). slice_index g e.value.slot < 255) P (λ e h. guess_kept g n e.value.slot v within low h) (take i es) all)
+    (subst P is (subst (λ x. x < 255) (sym (ap (slice_index (set g n v)) (sym slot) ∙ get_or-set_same g n v 0 within)) low))
+
+-- a slot's number
+pub slot_below : (q : List ℕ) → slot_number q < 64
+slot_below q = mod_below _ 64 (omega arith)
 
 first : (a b : Bool) → T (a && b) → T a
 first true b h = tt
@@ -66,59 +143,72 @@ less Greater h = absurd h
 turned : (xs ys : List ℕ) (r : Ordering) → text_cmp xs ys ≡ r → text_cmp ys xs ≡ ordering_reverse r
 turned xs ys r h = nat_list_cmp_total.antisymm ys xs ∙ ap ordering_reverse h
 
-below_at : (k : List ℕ) (es : List (Rc Entry Global)) (i : ℕ) (d : Rc Entry Global) → T (below_all text_cmp k (pairs es)) → i < length es
-    → text_cmp k (get_or es i d).value.key ≡ Less
+below_at : (k : List ℕ) (es : List (Rc Entry Global)) (i : ℕ) (d : Rc Entry Global) → T (below_all text_cmp k (rows es)) → i < length es
+    → text_cmp k (sort_key (get_or es i d).value) ≡ Less
 below_at k [] i d h w = absurd (omega arith)
 below_at k (e ∷ es) zero d h w = less _ (first _ _ h)
 below_at k (e ∷ es) (suc i) d h w = below_at k es i d (second _ _ h) (omega arith)
 
 next_above : (es : List (Rc Entry Global)) → IsRising es → (i : ℕ) (d : Rc Entry Global) → suc i < length es
-    → is_lt (text_cmp (get_or es (suc i) d).value.key (get_or es i d).value.key) ≡ false
+    → is_lt (text_cmp (sort_key (get_or es (suc i) d).value) (sort_key (get_or es i d).value)) ≡ false
 next_above [] h i d w = absurd (omega arith)
-next_above (e ∷ es) h zero d w = ap is_lt (turned e.value.key _ Less (below_at e.value.key es 0 d (first _ _ h) (omega arith)))
+next_above (e ∷ es) h zero d w = ap is_lt (turned (sort_key e.value) (sort_key (get_or es 0 d).value) Less (below_at (sort_key e.value) es 0 d (first _ _ h) (omega arith)))
 next_above (e ∷ es) h (suc i) d w = next_above es (second _ _ h) i d (omega arith)
 
 -- the conditions of a binary search for k among the entries
 pub searchable : (es : List (Rc Entry Global)) (k : List ℕ) → IsRising es → IsNonDecreasingBy (λ e. ordering_index (by_key k e)) es
-searchable es k h = searchable_from_sorted nat_list_cmp_total (λ e. e.value.key) es k
-    (λ i d _ w. ap (λ n. is_lt (text_cmp (get_or es n d).value.key (get_or es i d).value.key)) (add-one i) ∙ next_above es h i d (omega arith))
+searchable es k h = searchable_from_sorted nat_list_cmp_total (λ e. sort_key e.value) es k
+    (λ i d _ w. ap (λ n. is_lt (text_cmp (sort_key (get_or es n d).value) (sort_key (get_or es i d).value))) (add-one i) ∙ next_above es h i d (omega arith))
 
 -- the first entry of a list, by how its key compares with k
 module _ (k : List ℕ) (e : Rc Entry Global) (es : List (Rc Entry Global)) (r : Ordering) (h : by_key k e ≡ r) where
-  find_head : find text_cmp k (pairs (e ∷ es)) ≡ cond (is_eq (ordering_reverse r)) (Some (tree e.value.value)) (find text_cmp k (pairs es))
-  find_head = ap (λ r. cond (is_eq r) (Some (tree e.value.value)) (find text_cmp k (pairs es))) (turned e.value.key k r h)
+  find_head : find text_cmp k (rows (e ∷ es)) ≡ cond (is_eq (ordering_reverse r)) (Some (tree e.value.value)) (find text_cmp k (rows es))
+  find_head = ap (λ r. cond (is_eq r) (Some (tree e.value.value)) (find text_cmp k (rows es))) (turned (sort_key e.value) k r h)
 
-  put_head : (t : Tree) → put text_cmp k t (pairs (e ∷ es))
-      ≡ by_order (ordering_reverse r) ((k, t) ∷ pairs (e ∷ es)) ((e.value.key, t) ∷ pairs es) ((e.value.key, tree e.value.value) ∷ put text_cmp k t (pairs es))
+  put_head : (t : Tree) → put text_cmp k t (rows (e ∷ es))
+      ≡ by_order (ordering_reverse r) ((k, t) ∷ rows (e ∷ es)) ((sort_key e.value, t) ∷ rows es) ((sort_key e.value, tree e.value.value) ∷ put text_cmp k t (rows es))
   put_head t =
-      ap (λ r. by_order r ((k, t) ∷ pairs (e ∷ es)) ((e.value.key, t) ∷ pairs es) ((e.value.key, tree e.value.value) ∷ put text_cmp k t (pairs es)))
-      (turned e.value.key k r h)
+      ap (λ r. by_order r ((k, t) ∷ rows (e ∷ es)) ((sort_key e.value, t) ∷ rows es) ((sort_key e.value, tree e.value.value) ∷ put text_cmp k t (rows es)))
+      (turned (sort_key e.value) k r h)
 
 -- if k is the key at a place
 module _ (k : List ℕ) where
   head_below : (e : Rc Entry Global) (es : List (Rc Entry Global)) (at : ℕ) → IsRising (e ∷ es) → at < length es → HoldsAt (λ e. by_key k e ≡ Equal) es at
       → by_key k e ≡ Less
-  head_below e es at h w is = ap (text_cmp e.value.key) (sym (exact_bytes _ k (is e))) ∙ below_at e.value.key es at e (first _ _ h) w
+  head_below e es at h w is =
+      ap (text_cmp (sort_key e.value)) (sym (exact_bytes (sort_key (get_or es at e).value) k (is e))) ∙ below_at (sort_key e.value) es at e (first _ _ h) w
 
   pub find-found : (es : List (Rc Entry Global)) (at : ℕ) (d : Rc Entry Global) → IsRising es → at < length es → HoldsAt (λ e. by_key k e ≡ Equal) es at
-      → find text_cmp k (pairs es) ≡ Some (tree (get_or es at d).value.value)
+      → find text_cmp k (rows es) ≡ Some (tree (get_or es at d).value.value)
   find-found [] at d h w is = absurd (omega arith)
   find-found (e ∷ es) zero d h w is = find_head k e es Equal (is d)
   find-found (e ∷ es) (suc at) d h w is =
       find_head k e es Less (head_below e es at h (omega arith) is) ∙ find-found es at d (second _ _ h) (omega arith) is
 
   pub put-found : (t : Tree) (es : List (Rc Entry Global)) (at : ℕ) → IsRising es → at < length es → HoldsAt (λ e. by_key k e ≡ Equal) es at
-      → put text_cmp k t (pairs es) ≡ pairs (take at es) ++ (k, t) ∷ pairs (drop (suc at) es)
+      → put text_cmp k t (rows es) ≡ rows (take at es) ++ (k, t) ∷ rows (drop (suc at) es)
   put-found t [] at h w is = absurd (omega arith)
-  put-found t (e ∷ es) zero h w is = put_head k e es Equal (is e) t ∙ ap (λ l. (l, t) ∷ pairs es) (exact_bytes e.value.key k (is e))
+  put-found t (e ∷ es) zero h w is = put_head k e es Equal (is e) t ∙ ap (λ l. (l, t) ∷ rows es) (exact_bytes (sort_key e.value) k (is e))
   put-found t (e ∷ es) (suc at) h w is =
       put_head k e es Less (head_below e es at h (omega arith) is) t
-      ∙ ap (λ ps. (e.value.key, tree e.value.value) ∷ ps) (put-found t es at (second _ _ h) (omega arith) is)
+      ∙ ap (λ ps. (sort_key e.value, tree e.value.value) ∷ ps) (put-found t es at (second _ _ h) (omega arith) is)
+
+-- the entry at an index with that key is the one that is found
+pub find_at : (q : List ℕ) (es : List (Rc Entry Global)) (at : ℕ) (e : Rc Entry Global) → IsRising es → AreInSlots es
+    → at < length es → ((d : Rc Entry Global) → e ≡ get_or es at d) → bytes_eq q e.value.key ≡ true
+    → find text_cmp q (pairs es) ≡ Some (tree e.value.value)
+find_at q es at e rising slots within is named =
+    let slot = subst InSlot (sym (is e)) (All-get_or InSlot es at e within slots) in
+    let key = same_text q e.value.key named in
+    let equal = ap (text_cmp (sort_key e.value)) {y = sort_key e.value} (λ i. (ap slot_number key ∙ sym slot) i ∷ key i) ∙ tied_itself nat_list_cmp_total (sort_key e.value) in
+    find_in_slot (slot_number q) q es refl slots
+    ∙ find-found (slot_number q ∷ q) es at e rising within (λ d. ap (by_key (slot_number q ∷ q)) (sym (is d)) ∙ equal)
+    ∙ ap (λ (e : Rc Entry Global). Some (tree e.value.value)) (sym (is e))
 
 -- if the keys below a place are less than k, and the others greater
 module _ (k : List ℕ) where
   pub find-missed : (es : List (Rc Entry Global)) (at : ℕ) → IsPartitionPoint (λ e. by_key k e ≡ Less) (λ e. by_key k e ≡ Greater) es at
-      → find text_cmp k (pairs es) ≡ None
+      → find text_cmp k (rows es) ≡ None
   find-missed [] at h = refl
   find-missed (e ∷ es) zero h =
       find_head k e es Greater (h.1 0 e (omega arith) (omega arith))
@@ -128,36 +218,38 @@ module _ (k : List ℕ) where
       ∙ find-missed es at (λ i d a b. h.0 (suc i) d (omega arith) (omega arith), λ i d a b. h.1 (suc i) d (omega arith) (omega arith))
 
   pub put-missed : (t : Tree) (es : List (Rc Entry Global)) (at : ℕ) → IsPartitionPoint (λ e. by_key k e ≡ Less) (λ e. by_key k e ≡ Greater) es at
-      → put text_cmp k t (pairs es) ≡ pairs (take at es) ++ (k, t) ∷ pairs (drop at es)
+      → put text_cmp k t (rows es) ≡ rows (take at es) ++ (k, t) ∷ rows (drop at es)
   put-missed t [] zero h = refl
   put-missed t [] (suc at) h = refl
   put-missed t (e ∷ es) zero h = put_head k e es Greater (h.1 0 e (omega arith) (omega arith)) t
   put-missed t (e ∷ es) (suc at) h =
       put_head k e es Less (h.0 0 e (omega arith) (omega arith)) t
-      ∙ ap (λ ps. (e.value.key, tree e.value.value) ∷ ps)
+      ∙ ap (λ ps. (sort_key e.value, tree e.value.value) ∷ ps)
       (put-missed t es at (λ i d a b. h.0 (suc i) d (omega arith) (omega arith), λ i d a b. h.1 (suc i) d (omega arith) (omega arith)))
 
--- the pairs of copies of two parts with e between them
-pub pairs-joined : (front back ys zs fs : List (Rc Entry Global)) (e : Rc Entry Global) (k : List ℕ) (t : Tree)
+-- the rows of copies of two parts with e between them
+pub rows-joined : (front back ys zs fs : List (Rc Entry Global)) (e : Rc Entry Global) (k : List ℕ) (t : Tree)
     → AllZip (λ e f. f.value ≡ e.value) front ys → AllZip (λ e f. f.value ≡ e.value) back zs → fs ≡ (ys ++ e ∷ []) ++ zs
-    → e.value.key ≡ k → tree e.value.value ≡ t → pairs fs ≡ pairs front ++ (k, t) ∷ pairs back
-pairs-joined front back ys zs fs e k t h g is key value =
-    let pair : Rc Entry Global → List ℕ × Tree = λ f. (f.value.key, tree f.value.value) in
-    ap pairs (is ∙ append_assoc ys (e ∷ []) zs)
+    → sort_key e.value ≡ k → tree e.value.value ≡ t → rows fs ≡ rows front ++ (k, t) ∷ rows back
+rows-joined front back ys zs fs e k t h g is key value =
+    let pair : Rc Entry Global → List ℕ × Tree = λ f. (sort_key f.value, tree f.value.value) in
+    ap rows (is ∙ append_assoc ys (e ∷ []) zs)
     ∙ map-append pair ys (e ∷ zs)
-    ∙ (λ i. pairs-AllZip front ys h i ++ (key i, value i) ∷ pairs-AllZip back zs g i)
+    ∙ (λ i. rows-AllZip front ys h i ++ (key i, value i) ∷ rows-AllZip back zs g i)
 
--- entries whose pairs are the ones of es with k put at t
-module _ (es fs : List (Rc Entry Global)) (k : List ℕ) (t : Tree) (is : pairs fs ≡ put text_cmp k t (pairs es)) where
+-- entries whose rows are the ones of es with k put at t in its slot
+module _ (es fs : List (Rc Entry Global)) (s : ℕ) (k : List ℕ) (t : Tree) (is : rows fs ≡ put text_cmp (s ∷ k) t (rows es)) where
   pub IsRising-put : IsRising es → IsRising fs
-  IsRising-put h = subst (λ ps. T (is_sorted text_cmp ps)) (sym is) (is_sorted-put text_cmp nat_list_cmp_total k t (pairs es) h)
+  IsRising-put h = subst (λ ps. T (is_sorted text_cmp ps)) (sym is) (is_sorted-put text_cmp nat_list_cmp_total (s ∷ k) t (rows es) h)
 
-  pub insert-put : entries_seen fs ≡ insert (entries_seen es) k t
-  insert-put = same_map nat_list_cmp_total exact_bytes _ _ (λ q.
+  pub insert-put : s ≡ slot_number k → AreInSlots es → AreInSlots fs → entries_seen fs ≡ insert (entries_seen es) k t
+  insert-put slot h g = same_map nat_list_cmp_total exact_bytes _ _ (λ q.
       get_seen fs q
-      ∙ ap (find text_cmp q) is
-      ∙ find-put text_cmp nat_list_cmp_total q k t (pairs es)
-      ∙ ap (cond (is_eq (text_cmp q k)) (Some t)) (sym (get_seen es q))
+      ∙ find_in_slot (slot_number q) q fs refl g
+      ∙ ap (find text_cmp (slot_number q ∷ q)) is
+      ∙ find-put text_cmp nat_list_cmp_total (slot_number q ∷ q) (s ∷ k) t (rows es)
+      ∙ ap (λ b. cond b (Some t) (find text_cmp (slot_number q ∷ q) (rows es))) (cmp_in_slots (slot_number q) s q k refl slot)
+      ∙ ap (cond (is_eq (text_cmp q k)) (Some t)) (sym (get_seen es q ∙ find_in_slot (slot_number q) q es refl h))
       ∙ sym (get-insert nat_list_cmp_total (entries_seen es) k t q))
 
 -- the map is empty only if there are no entries

@@ -1,6 +1,7 @@
 -- From code to models: the views of the fields of a context, and the codes with which a model's
 -- value contains contexts, slots, stacks and span tables. No public contract cites this file.
-use Rattle.std.specs.Prelude.{ℕ, ◌+◌, ◌≤◌, List, [], ◌∷◌, Bool, Option, Some, None, T, map, refl}
+use Rattle.std.specs.Prelude.{ℕ, ◌+◌, ◌-◌, ◌*◌, ◌%◌, ◌≡◌, ◌<◌, ◌≤◌, List, [], ◌∷◌, Bool, Option, Some, None, T, map, refl}
+use Rattle.std.specs.Prelude.{length, slice_index, All}
 use Rattle.std.specs.declared.rc.Rc.{Rc}
 use Rattle.std.specs.declared.alloc.Global.{Global}
 use Rattle.std.specs.Coded.{Coded, code_by, coded×, coded_ℕ, coded_bool, coded_list, coded_option}
@@ -25,13 +26,39 @@ use Rattle.otel_context.specs.declared.span.spans.Slot.{Slot}
 abbrev pub pairs : List (Rc Entry Global) → List (List ℕ × Tree)
 pairs = map (λ e. (e.value.key, tree e.value.value))
 
--- the order of an entry's key and that key, by bytes
-abbrev pub by_key : List ℕ → Rc Entry Global → Ordering
-by_key key e = slice_cmp nat_cmp e.value.key key
+-- the slot of a name: a mix of its length, its first byte and its last two
+abbrev pub slot_number : List ℕ → ℕ
+slot_number name =
+    (length name % 64 + 3 * slice_index name 0 + 9 * slice_index name (length name - 2)
+    + 33 * slice_index name (length name - 1)) % 64
 
--- each key is less than those after it
+-- the order of two lists, of bytes or of a slot and bytes
+abbrev pub text_cmp : List ℕ → List ℕ → Ordering
+text_cmp = slice_cmp nat_cmp
+
+-- an entry's slot and then its key: the entries are in the order of these lists
+abbrev pub sort_key : Entry → List ℕ
+sort_key e = e.slot ∷ e.key
+
+-- each slot and key with the tree of the value
+abbrev pub rows : List (Rc Entry Global) → List (List ℕ × Tree)
+rows = map (λ e. (sort_key e.value, tree e.value.value))
+
+-- the order of an entry's slot and key, and these
+abbrev pub by_key : List ℕ → Rc Entry Global → Ordering
+by_key key e = text_cmp (sort_key e.value) key
+
+-- each slot and key is less than those after it
 abbrev pub IsRising : List (Rc Entry Global) → Type 0
-IsRising entries = T (is_sorted (slice_cmp nat_cmp) (pairs entries))
+IsRising entries = T (is_sorted text_cmp (rows entries))
+
+-- each entry's slot is the one of its key
+abbrev pub AreInSlots : List (Rc Entry Global) → Type 0
+AreInSlots = All (λ e. e.value.slot ≡ slot_number e.value.key)
+
+-- the guess for each entry's slot is an index
+abbrev pub AreGuessed : List ℕ → List (Rc Entry Global) → Type 0
+AreGuessed guesses = All (λ e. slice_index guesses e.value.slot < 255)
 
 -- the finite map held by a list of shared entries
 abbrev pub entries_seen : List (Rc Entry Global) → EntryMap
