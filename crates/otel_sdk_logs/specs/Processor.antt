@@ -5,6 +5,7 @@ use Rattle.std.specs.Prelude.{Option, option_map, Result, Err, string_bytes}
 use denote.Ref.{Bor}
 use Rattle.otel_context.specs.Context.{ContextRecord, is_telemetry_suppressed, span_context}
 use Rattle.otel_sdk_base.specs.Queue.{QueueState, counted, has_space, queued}
+use Rattle.otel_sdk_base.specs.Resource.{Parts}
 use Rattle.otel_sdk_base.specs.declared.error.OTelSdkError.{OTelSdkError}
 use Rattle.otel_sdk_base.specs.declared.error.OTelSdkError.TheVariants.{InternalFailure, Memory}
 use Rattle.otel_sdk_logs.specs.LogRecord.{IsEmitted, IsInSpan, LogEntry, LoggerParts, LogState}
@@ -22,6 +23,8 @@ pub record LogCalls (P : Type 0) : Type 1 where
   pub flushes : P → Result (Unit {0}) OTelSdkError → P → Type 0
   -- it answered this to a shutdown
   pub shuts_down : P → Result (Unit {0}) OTelSdkError → P → Type 0
+  -- it was told the resource of later records
+  pub takes_resource : P → Parts → P → Type 0
 
 -- any answer to any call
 abbrev pub any_log_calls : {P : Type 0} → LogCalls P
@@ -29,6 +32,7 @@ any_log_calls = record {
   emits = λ _ _ _. Unit {0};
   flushes = λ _ _ _. Unit {0};
   shuts_down = λ _ _ _. Unit {0};
+  takes_resource = λ _ _ _. Unit {0};
 }
 
 -- The fate of an emitted record: it got its time and scope, and then the processor received it, or

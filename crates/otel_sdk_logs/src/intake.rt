@@ -1,5 +1,5 @@
 //! The calls of loggers and providers whose results no contract sees.
-ghost use Rattle.std.specs.Prelude.{◌≡◌, ◌⊎◌, true, false, IsErrOf, OnOk, option_map};
+ghost use Rattle.std.specs.Prelude.{◌≡◌, ◌⊎◌, true, false, IsErrOf, OnOk, is_ok, option_map};
 ghost use Rattle.std.specs.Rc.{rc_value};
 ghost use Rattle.otel_sdk_base.specs.Queue.{IsKeptOrDropped};
 ghost use Rattle.otel_sdk_base.specs.declared.error.OTelSdkError.TheVariants.{AlreadyShutdown};
@@ -12,7 +12,7 @@ use otel_sdk_base::Clock;
 use otel_sdk_base::error::{OTelSdkError, OTelSdkResult};
 use otel_sdk_base::resource::Resource;
 use std::alloc::{AllocError, Global};
-use std::cell::{BorrowError, BorrowMutError, Cell};
+use std::cell::{BorrowError, BorrowMutError, Cell, Ref, RefCell};
 use std::rc::Rc;
 
 /// A processor that loggers hand records to. Every [`LogProcessor`] is one.
@@ -21,7 +21,7 @@ use std::rc::Rc;
 /// So each call ensures a ghost member of which code that is generic over this trait knows nothing:
 /// only the call shows it. A contract that cites it says that the call was made.
 pub trait RecordIntake: LogProcessor {
-    ghost use Rattle.std.specs.Prelude.{ℕ, List, Option, Result};
+    ghost use Rattle.std.specs.Prelude.{ℕ, Bool, List, Option, Result};
     ghost use Rattle.otel_base.specs.declared.severity.Severity.{Severity};
     ghost use Rattle.otel_sdk_base.specs.Resource.{Parts};
     ghost use Rattle.otel_sdk_base.specs.declared.error.OTelSdkError.{OTelSdkError};
@@ -38,6 +38,8 @@ pub trait RecordIntake: LogProcessor {
     ghost is_unwanted: { Severity → List ℕ → Option (List ℕ) → Type 0 };
 
     ghost is_at_work: { Type 0 };
+
+    ghost may_lend: { Bool → Type 0 };
 
     ghost is_told: { Parts → Type 0 };
 
@@ -75,6 +77,8 @@ pub trait RecordIntake: LogProcessor {
         ensures unwanted { let asked = option_map (λ n. n.now) name.entry in
             result ≡ false → is_unwanted severity target.now asked }
         ensures open { result ≡ true → Self.receives self.now ≡ true }
+        ensures wished { let asked = option_map (λ n. n.now) name.entry in
+            result ≡ true → Self.may_want self.now severity target.now asked }
         ensures refused { let asked = option_map (λ n. n.now) name.entry in
             result ≡ false → (Self.receives self.now ≡ false)
             ⊎ Self.may_refuse self.now severity target.now asked };
@@ -91,11 +95,16 @@ pub trait RecordIntake: LogProcessor {
         ensures says { SaysAtWork result }
         ensures at_work { is_at_work };
 
+    /// Borrows the processor, unless it is at work.
+    fn lend(processor: &RefCell<Self>) -> Result<Ref<'_, Self>, BorrowError>
+        ensures { may_lend (is_ok result) };
+
     /// Sets the exporter's resource, as [`LogProcessor::set_resource`].
     fn tell(&mut self, resource: Rc<Resource>)
         ensures told { is_told (rc_value resource) }
         ensures same { Self.received self.new ≡ Self.received self.old }
-        ensures open { Self.receives self.new ≡ Self.receives self.old };
+        ensures open { Self.receives self.new ≡ Self.receives self.old }
+        ensures called { Self.calls.takes_resource self.old (rc_value resource) self.new };
 
     /// Flushes the processor, as [`LogProcessor::force_flush`].
     fn flush(&mut self) -> OTelSdkResult
@@ -145,6 +154,8 @@ impl<P: LogProcessor> RecordIntake for P {
 
     ghost is_at_work = { Unit {0} };
 
+    ghost may_lend = { λ _. Unit {0} };
+
     ghost is_told = { λ _. Unit {0} };
 
     ghost may_flush = { λ _. Unit {0} };
@@ -182,6 +193,10 @@ impl<P: LogProcessor> RecordIntake for P {
             Ok(words) => OTelSdkError::InternalFailure(words),
             Err(error) => OTelSdkError::from(error),
         }
+    }
+
+    fn lend(processor: &RefCell<P>) -> Result<Ref<'_, P>, BorrowError> {
+        processor.try_borrow()
     }
 
     fn tell(&mut self, resource: Rc<Resource>) {

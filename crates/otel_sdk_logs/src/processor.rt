@@ -1,5 +1,6 @@
 //! Processors of log records, which hand them to an exporter.
 ghost use Rattle.std.specs.Prelude.{◌≡◌, true, false, IsErrOf, OnOk, option_map};
+ghost use Rattle.std.specs.Rc.{rc_value};
 ghost use Rattle.otel_sdk_base.specs.Queue.{IsKeptOrDropped, with_dropped};
 ghost use Rattle.otel_sdk_base.specs.declared.error.OTelSdkError.TheVariants.{AlreadyShutdown};
 
@@ -16,10 +17,11 @@ use std::rc::Rc;
 /// no threads: records are exported only during calls.
 ///
 /// The ghost member `received` gives the records that the processor received and keeps, in order,
-/// and how many it dropped. The ghost member `receives` says whether it is open. The ghost member
-/// `may_refuse` gives the severities, targets and event names of records that it may not want, by
-/// default none. The ghost member `calls` says what each record, flush and shutdown did, by default
-/// anything: each relates the states before and after, and the record or the answer.
+/// and how many it dropped. The ghost member `receives` says whether it is open. The ghost members
+/// `may_want` and `may_refuse` give the severities, targets and event names of records that it may
+/// want, by default all, and that it may not want, by default none. The ghost member `calls` says
+/// what each record, flush, shutdown and resource did, by default anything: each relates the states
+/// before and after, and the record, the answer or the resource.
 ///
 /// See [`crate::BatchLogProcessor`].
 pub trait LogProcessor: Drop {
@@ -32,6 +34,8 @@ pub trait LogProcessor: Drop {
     ghost received: { Self → Received LogEntry };
 
     ghost receives: { Self → Bool };
+
+    ghost may_want: { Self → Severity → List ℕ → Option (List ℕ) → Type 0 } = { λ _ _ _ _. Unit {0} };
 
     ghost may_refuse: { Self → Severity → List ℕ → Option (List ℕ) → Type 0 } = { λ _ _ _ _. ⊥ };
 
@@ -79,21 +83,22 @@ pub trait LogProcessor: Drop {
         ensures { result ≡ receives self.now };
 
     /// Returns `false` if the processor doesn't want records with this severity, target and event
-    /// name, so that they needn't be made. Returns `true` by default.
-    fn event_enabled(&self, _severity: Severity, _target: &str, _name: Option<&str>) -> bool
-        ensures { let asked = option_map (λ n. n.now) _name.entry in
-            result ≡ false → may_refuse self.now _severity _target.now asked }
-    {
-        true
-    }
+    /// name, so that they needn't be made.
+    // No default body: it couldn't prove `may_want`, which an `impl` may replace.
+    fn event_enabled(&self, severity: Severity, target: &str, name: Option<&str>) -> bool
+        ensures wanted { let asked = option_map (λ n. n.now) name.entry in
+            result ≡ true → may_want self.now severity target.now asked }
+        ensures refused { let asked = option_map (λ n. n.now) name.entry in
+            result ≡ false → may_refuse self.now severity target.now asked };
 
     /// Returns the number of dropped records.
     fn dropped_records(&self) -> u64
         ensures { result ≡ (received self.now).dropped };
 
-    /// Sets the exporter's resource for later records. Does nothing by default.
-    fn set_resource(&mut self, _resource: Rc<Resource>)
+    /// Sets the exporter's resource for later records.
+    // No default body: it couldn't prove `calls`, which an `impl` may replace.
+    fn set_resource(&mut self, resource: Rc<Resource>)
         ensures same { received self.new ≡ received self.old }
         ensures open { receives self.new ≡ receives self.old }
-    {}
+        ensures told { calls.takes_resource self.old (rc_value resource) self.new };
 }

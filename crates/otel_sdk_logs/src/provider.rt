@@ -1,6 +1,6 @@
 //! The provider of the SDK's loggers.
 ghost use Rattle.std.specs.Prelude.{◌≡◌, ◌⊎◌, true, false, IfOk, IsTrue, OnOk, Some, None};
-ghost use Rattle.std.specs.Prelude.{option_map};
+ghost use Rattle.std.specs.Prelude.{is_ok, option_map};
 ghost use Rattle.std.specs.Option.{option_map_or, unwrap_or};
 ghost use Rattle.otel_sdk_base.specs.Resource.{merge, with_defaults};
 ghost use Rattle.otel_sdk_logs.specs.Attributes.{default_limits};
@@ -160,8 +160,10 @@ impl<P: RecordIntake, C: Clock> SdkLoggerProvider<P, C> {
     /// # Errors
     ///
     /// `BorrowError` if called from within the processor's own work.
-    pub fn processor(&self) -> Result<Ref<'_, P>, BorrowError> {
-        self.inner.processor.try_borrow()
+    pub fn processor(&self) -> Result<Ref<'_, P>, BorrowError>
+        ensures { P.may_lend (is_ok result) }
+    {
+        P::lend(&self.inner.processor)
     }
 
     /// Returns the number of records that the processor dropped or that didn't reach it. If called

@@ -5,6 +5,7 @@ ghost use Rattle.otel_sdk_base.specs.QueueView as queue_view;
 
 use crate::export::{LogData, LogExporter};
 use crate::processor::LogProcessor;
+use opentelemetry::logs::Severity;
 use otel_sdk_base::error::OTelSdkResult;
 use otel_sdk_base::resource::Resource;
 use otel_sdk_base::{BatchConfig, Queue};
@@ -119,6 +120,11 @@ impl<E: LogExporter> LogProcessor for BatchLogProcessor<E> {
         ensures { result ≡ not (state self.now).is_shut_down }
     {
         !self.queue.is_shut_down()
+    }
+
+    /// Returns `true`.
+    fn event_enabled(&self, _severity: Severity, _target: &str, _name: Option<&str>) -> bool {
+        true
     }
 
     /// Returns the number of dropped records, saturating at `u64::MAX`.

@@ -11,6 +11,7 @@ ghost use Rattle.otel_sdk_logs.specs.Batch.{simple_state};
 use crate::export::{LogData, LogExporter};
 use crate::processor::LogProcessor;
 use crate::processor::batch::BatchLogProcessor;
+use opentelemetry::logs::Severity;
 use otel_sdk_base::BatchConfigBuilder;
 use otel_sdk_base::error::OTelSdkResult;
 use otel_sdk_base::resource::Resource;
@@ -112,6 +113,11 @@ impl<E: LogExporter> LogProcessor for SimpleLogProcessor<E> {
         ensures { result ≡ not (simple_state self.now).is_shut_down }
     {
         self.inner.is_open()
+    }
+
+    /// Returns `true`.
+    fn event_enabled(&self, _severity: Severity, _target: &str, _name: Option<&str>) -> bool {
+        true
     }
 
     /// Returns the number of dropped records, saturating at `u64::MAX`.

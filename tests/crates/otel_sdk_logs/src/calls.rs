@@ -1,6 +1,6 @@
 //! The calls that loggers and providers make on their processor, each counted.
 use crate::processor::data;
-use opentelemetry::logs::{LogRecord, Logger, LoggerProvider};
+use opentelemetry::logs::{LogRecord, Logger, LoggerProvider, Severity};
 use opentelemetry::{Context, StringValue};
 use otel_sdk_base::error::{OTelSdkError, OTelSdkResult};
 use otel_sdk_base::resource::Resource;
@@ -56,6 +56,10 @@ impl LogProcessor for Noted {
     }
 
     fn is_open(&self) -> bool {
+        true
+    }
+
+    fn event_enabled(&self, _severity: Severity, _target: &str, _name: Option<&str>) -> bool {
         true
     }
 

@@ -342,6 +342,10 @@ impl<P: LogProcessor> LogProcessor for OfTarget<P> {
     fn dropped_records(&self) -> u64 {
         self.inner.dropped_records()
     }
+
+    fn set_resource(&mut self, resource: Rc<Resource>) {
+        self.inner.set_resource(resource);
+    }
 }
 
 #[test]
