@@ -19,14 +19,11 @@ pub fn play(task: &Task<'_>) -> Option<u64> {
         "context_clone_remote" => copy(task, &remote()),
         "context_clone_current" => {
             let _guard = named().attach();
-            task.repeat(|| look_at(&Context::current()))
+            task.repeat(|| look_at(&current_of()))
         }
         "context_get_oldest" => {
             let context = with_entries(task.size);
-            task.repeat(|| {
-                let found = black_box(&context).get::<Name>();
-                black_box(found.map_or(0, |name| name.0.len()))
-            })
+            task.repeat(|| look_up_name(black_box(&context)))
         }
         "context_get_newest" => match task.size {
             3 => get::<2>(task),
@@ -38,22 +35,17 @@ pub fn play(task: &Task<'_>) -> Option<u64> {
         },
         "context_get_absent" => {
             let context = with_entries(task.size);
-            task.repeat(|| {
-                let found = black_box(&context).get::<Number>();
-                black_box(found.map_or(0, |number| number.0 as usize))
-            })
+            task.repeat(|| look_up_number(black_box(&context)))
         }
         "context_with_value" => {
             let context = with_entries(task.size);
-            task.repeat(|| look_at(&black_box(&context).with_value(Number(1))))
+            task.repeat(|| look_at(&with_number(black_box(&context))))
         }
         "context_with_value_clone_get" => {
             let context = with_entries(task.size);
             task.repeat(|| {
-                let more = black_box(&context).with_value(Number(1));
-                let copy = black_box(&more).clone();
-                let found = black_box(&copy).get::<Number>();
-                black_box(found.map_or(0, |number| number.0 as usize))
+                let more = with_number(black_box(&context));
+                look_up_number(&clone_of(&more))
             })
         }
         _ => None,
@@ -80,10 +72,40 @@ pub fn remote() -> Context {
 /// Looks up the value of type `Extra<NUMBER>`, the last that was set.
 fn get<const NUMBER: usize>(task: &Task<'_>) -> Option<u64> {
     let context = with_entries(task.size);
-    task.repeat(|| {
-        let found = black_box(&context).get::<Extra<NUMBER>>();
-        black_box(found.map_or(0, |extra| extra.0 as usize))
-    })
+    task.repeat(|| look_up_extra::<NUMBER>(black_box(&context)))
+}
+
+#[inline(never)]
+fn clone_of(context: &Context) -> Context {
+    context.clone()
+}
+
+#[inline(never)]
+fn current_of() -> Context {
+    Context::current()
+}
+
+#[inline(never)]
+fn look_up_name(context: &Context) -> usize {
+    let found = context.get::<Name>();
+    black_box(found.map_or(0, |name| name.0.len()))
+}
+
+#[inline(never)]
+fn look_up_number(context: &Context) -> usize {
+    let found = context.get::<Number>();
+    black_box(found.map_or(0, |number| number.0 as usize))
+}
+
+#[inline(never)]
+fn look_up_extra<const NUMBER: usize>(context: &Context) -> usize {
+    let found = context.get::<Extra<NUMBER>>();
+    black_box(found.map_or(0, |extra| extra.0 as usize))
+}
+
+#[inline(never)]
+fn with_number(context: &Context) -> Context {
+    context.with_value(Number(1))
 }
 
 /// Uses a context before it is dropped.
@@ -93,7 +115,7 @@ fn look_at(context: &Context) -> usize {
 }
 
 fn copy(task: &Task<'_>, context: &Context) -> Option<u64> {
-    task.repeat(|| look_at(&black_box(context).clone()))
+    task.repeat(|| look_at(&clone_of(black_box(context))))
 }
 
 /// The context with the value of type `Extra<NUMBER>`, if `size` has room for it.

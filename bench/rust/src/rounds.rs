@@ -1,6 +1,7 @@
 //! Rounds of many attaches, followed by the removal of each.
 use crate::contexts::named;
 use crate::random::mixed;
+use crate::stacks::{attach_clone, attach_empty, detach};
 use crate::task::Task;
 use opentelemetry::{Context, ContextGuard};
 use std::hint::black_box;
@@ -26,9 +27,9 @@ pub fn play(task: &Task<'_>) -> Option<u64> {
 fn attach_all(guards: &mut impl Extend<ContextGuard>, context: Option<&Context>, size: usize) {
     match context {
         Some(context) => {
-            guards.extend((0..size).map(|_| black_box(context).clone().attach()));
+            guards.extend((0..size).map(|_| attach_clone(black_box(context))));
         }
-        None => guards.extend((0..size).map(|_| black_box(Context::new()).attach())),
+        None => guards.extend((0..size).map(|_| attach_empty())),
     }
 }
 
@@ -37,7 +38,7 @@ fn newest_first(task: &Task<'_>, context: Option<&Context>) -> Option<u64> {
     task.repeat(|| {
         attach_all(&mut guards, context, task.size);
         while let Some(guard) = guards.pop() {
-            drop(black_box(guard));
+            detach(guard);
         }
         task.size
     })
@@ -48,7 +49,7 @@ fn oldest_first(task: &Task<'_>, context: Option<&Context>) -> Option<u64> {
     task.repeat(|| {
         attach_all(&mut guards, context, task.size);
         for guard in guards.drain(..) {
-            drop(black_box(guard));
+            detach(guard);
         }
         task.size
     })
@@ -70,7 +71,7 @@ fn in_mixed_order(task: &Task<'_>, context: Option<&Context>) -> Option<u64> {
         attach_all(&mut guards, context, task.size);
         for number in black_box(&order) {
             if let Some(guard) = guards.0[*number].take() {
-                drop(black_box(guard));
+                detach(guard);
             }
         }
         guards.0.clear();

@@ -14,7 +14,7 @@ use std::time::SystemTime;
 pub fn play(task: &Task<'_>) -> Option<u64> {
     match task.name {
         "span_into_context" => task.repeat(|| {
-            let context = black_box(Context::new()).with_span(span_of());
+            let context = with_span(&Context::new());
             1 + usize::from(black_box(&context).has_active_span())
         }),
         "span_into_entries" => {
@@ -23,16 +23,16 @@ pub fn play(task: &Task<'_>) -> Option<u64> {
                 size => with_entries(size),
             };
             task.repeat(|| {
-                let context = black_box(&context).with_span(span_of());
+                let context = with_span(black_box(&context));
                 1 + usize::from(black_box(&context).has_active_span())
             })
         }
         "span_is_recording" => {
             let context = Context::new().with_span(span_of());
-            task.repeat(|| usize::from(black_box(&context).span().is_recording()))
+            task.repeat(|| ask(black_box(&context)))
         }
         "span_mark_active" => task.repeat(|| {
-            drop(black_box(mark_span_as_active(span_of())));
+            mark();
             1
         }),
         "span_in_span" => in_span(
@@ -54,11 +54,30 @@ fn in_span<T: Tracer>(task: &Task<'_>, tracer: &T) -> Option<u64>
 where
     T::Span: Send + Sync + 'static,
 {
-    task.repeat(|| {
-        black_box(tracer).in_span("work", |context| {
-            1 + usize::from(black_box(&context).has_active_span())
-        })
-    })
+    task.repeat(|| 1 + usize::from(work(black_box(tracer))))
+}
+
+#[inline(never)]
+fn with_span(context: &Context) -> Context {
+    context.with_span(span_of())
+}
+
+#[inline(never)]
+fn ask(context: &Context) -> usize {
+    usize::from(context.span().is_recording())
+}
+
+#[inline(never)]
+fn mark() {
+    drop(black_box(mark_span_as_active(span_of())));
+}
+
+#[inline(never)]
+fn work<T: Tracer>(tracer: &T) -> bool
+where
+    T::Span: Send + Sync + 'static,
+{
+    tracer.in_span("work", |context| black_box(&context).has_active_span())
 }
 
 #[inline(never)]

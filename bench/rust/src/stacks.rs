@@ -9,7 +9,7 @@ pub fn play(task: &Task<'_>) -> Option<u64> {
     let below: Vec<ContextGuard> = (0..task.size).map(|_| Context::new().attach()).collect();
     let sum = match task.name {
         "attach_empty" | "push_empty" => task.repeat(|| {
-            drop(black_box(black_box(Context::new()).attach()));
+            detach(attach_empty());
             1
         }),
         "attach_cloned" | "push_cloned" => cloned(task, &named()),
@@ -24,7 +24,22 @@ pub fn play(task: &Task<'_>) -> Option<u64> {
 
 fn cloned(task: &Task<'_>, context: &Context) -> Option<u64> {
     task.repeat(|| {
-        drop(black_box(black_box(context).clone().attach()));
+        detach(attach_clone(black_box(context)));
         1
     })
+}
+
+#[inline(never)]
+pub fn attach_empty() -> ContextGuard {
+    Context::new().attach()
+}
+
+#[inline(never)]
+pub fn attach_clone(context: &Context) -> ContextGuard {
+    context.clone().attach()
+}
+
+#[inline(never)]
+pub fn detach(guard: ContextGuard) {
+    drop(guard);
 }

@@ -13,19 +13,16 @@ pub fn play(task: &Task<'_>) -> Option<u64> {
             let mut spans = table_of(task.size);
             let mut next = task.size as u64;
             task.repeat(|| {
-                black_box(&mut spans).insert(next, span_of());
-                let taken = black_box(&mut spans).remove(&next);
+                insert(&mut spans, next);
+                let taken = take(&mut spans, next);
                 next += 1;
-                usize::from(black_box(taken).is_some())
+                taken
             })
         }
         "table_get" => {
             let spans = table_of(task.size);
             let number = (task.size / 2) as u64;
-            task.repeat(|| {
-                let found = black_box(&spans).get(&black_box(number));
-                usize::from(found.is_some_and(RecordingSpan::is_recording))
-            })
+            task.repeat(|| look_up(black_box(&spans), black_box(number)))
         }
         "table_oldest" => turn(task, 0, None),
         "table_mixed" => turn(task, 0, Some(Random::new())),
@@ -42,15 +39,31 @@ fn turn(task: &Task<'_>, kept: usize, mut order: Option<Random>) -> Option<u64> 
     let mut live: Vec<u64> = (kept as u64..next).collect();
     let mut at = 0;
     task.repeat(|| {
-        black_box(&mut spans).insert(next, span_of());
+        insert(&mut spans, next);
         at = match &mut order {
             None => (at + 1) % live.len(),
             Some(random) => random.next() % live.len(),
         };
         let taken = std::mem::replace(&mut live[at], next);
         next += 1;
-        usize::from(black_box(black_box(&mut spans).remove(&taken)).is_some())
+        take(&mut spans, taken)
     })
+}
+
+#[inline(never)]
+fn insert(spans: &mut HashMap<u64, RecordingSpan>, number: u64) {
+    spans.insert(number, span_of());
+}
+
+#[inline(never)]
+fn take(spans: &mut HashMap<u64, RecordingSpan>, number: u64) -> usize {
+    usize::from(black_box(spans.remove(&number)).is_some())
+}
+
+#[inline(never)]
+fn look_up(spans: &HashMap<u64, RecordingSpan>, number: u64) -> usize {
+    let found = spans.get(&number);
+    usize::from(found.is_some_and(RecordingSpan::is_recording))
 }
 
 fn table_of(size: usize) -> HashMap<u64, RecordingSpan> {
