@@ -15,8 +15,8 @@ import built
 from built import TOP, below
 from functions import functions
 
-# How a line begins that is a comment, by the ending of the file.
-COMMENTS = {".rt": "//", ".antt": "--"}
+# How a line begins on which no proof depends, a comment or a hint, by the ending of the file.
+SKIPPED = {".rt": ("//", "#[inline"), ".antt": "--"}
 # The lists of modules, which grow with the crate.
 LIST = "Lib.antt"
 # An item of a source that has a name.
@@ -25,8 +25,8 @@ ITEM = r"\b(?:fn|struct|enum|union|trait|type|const|static)\s+{}\b"
 
 @functools.cache
 def read(path):
-    """The text of the file, without the lines that are comments: no proof depends on them."""
-    begins = COMMENTS.get(os.path.splitext(path)[1])
+    """The text of the file, without the lines on which no proof depends."""
+    begins = SKIPPED.get(os.path.splitext(path)[1])
     with open(path, encoding="utf-8") as file:
         return "".join(it for it in file if not (begins and it.lstrip().startswith(begins)))
 
