@@ -1,12 +1,13 @@
 -- A list of shared entries in rising order of their slots and keys, and the finite map that it holds.
-use Rattle.std.proofs.Common.{bytes_eq, slice_index, set, ⊎_elim, ◌+◌, Ordering, Less, Equal, Greater, ◌≡◌, ◌<◌, zero, suc, ℕ, List, [], ◌∷◌, ◌++◌, length, get_or, take, drop, add-one, append_assoc, None, Some, Bool, true, false, cond, ◌&&◌, T, HoldsAt, nat_cmp, is_eq, is_lt, refl, sym, ap, subst, ◌∙◌, arith}
+use Rattle.std.proofs.Common.{bytes_eq, slice_index, set, min, ◌-◌, ⊎_elim, ◌+◌, Ordering, Less, Equal, Greater, ◌≡◌, ◌<◌, ◌≤◌, zero, suc, ℕ, List, [], ◌∷◌, ◌++◌, length, get_or, take, drop, replicate, add-one, append_assoc, None, Some, Bool, true, false, cond, ◌&&◌, T, HoldsAt, nat_cmp, is_eq, is_lt, refl, sym, ap, subst, ◌∙◌, arith}
 use Rattle.std.specs.List.{AllZip, All}
-use Rattle.std.proofs.lemmas.List.Elements.{All-head, All-tail, All-cons, All-more, All-weaker, All-get_or}
+use Rattle.std.proofs.lemmas.List.Elements.{All-head, All-tail, All-cons, All-get_or, at_read, length_all_zip}
 use Rattle.std.specs.List.Sorted.{IsNonDecreasingBy, IsPartitionPoint}
-use Rattle.std.specs.Ordering.{ordering_index, ordering_reverse}
+use Rattle.std.specs.Ordering.{ordering_index, ordering_reverse, ordering_then}
+use Rattle.std.specs.Cmp.{nat_cmp_is}
 use Rattle.std.specs.FinMap.Entries.{by_order, put, below_all, is_sorted, is_sorted-put, find-put}
 use Rattle.std.proofs.lemmas.Bool.{cases_Bool, cases_eq, cond-true, cond-false}
-use Rattle.std.proofs.lemmas.List.{map-append, get_or-set_same, get_or-set_other}
+use Rattle.std.proofs.lemmas.List.{map-append, get_or-replicate, get_or-set_same, get_or-set_other}
 use Rattle.std.proofs.lemmas.Nat.{mod_below}
 use Rattle.std.proofs.lemmas.List.Sorted.{searchable_from_sorted}
 use Rattle.std.proofs.lemmas.Cmp.{nat_list_cmp_total, tied_itself}
@@ -21,7 +22,7 @@ use Rattle.std.specs.declared.rc.Rc.{Rc}
 use Rattle.otel_base.specs.AnyValue.{Tree}
 use Rattle.otel_base.specs.View.{tree}
 use Rattle.otel_context.specs.declared.context.entries.Entry.{Entry}
-use Rattle.otel_context.specs.View.{pairs, rows, text_cmp, sort_key, slot_number, by_key, entries_seen, IsRising, AreInSlots, AreGuessed}
+use Rattle.otel_context.specs.View.{pairs, rows, text_cmp, sort_key, slot_number, by_key, entries_seen, slots, IsRising, AreInSlots, IsLast, AreLasts, IsOtherAt}
 
 pub get_seen : (es : List (Rc Entry Global)) (q : List ℕ) → get (entries_seen es) q ≡ find text_cmp q (pairs es)
 get_seen es q = get-from_entries nat_list_cmp_total (pairs es) q
@@ -81,7 +82,7 @@ eq_in_slots s r q k is of =
 cmp_in_slots : (s r : ℕ) (q k : List ℕ) → s ≡ slot_number q → r ≡ slot_number k → is_eq (text_cmp (s ∷ q) (r ∷ k)) ≡ is_eq (text_cmp q k)
 cmp_in_slots s r q k is of = is_eq-slice_cmp (s ∷ q) (r ∷ k) ∙ eq_in_slots s r q k is of ∙ sym (is_eq-slice_cmp q k)
 
-abbrev InSlot : Rc Entry Global → Type 0
+abbrev pub InSlot : Rc Entry Global → Type 0
 InSlot e = e.value.slot ≡ slot_number e.value.key
 
 -- a text is found in its slot
@@ -92,40 +93,59 @@ find_in_slot s q (e ∷ es) is h =
     ap (λ b. cond b (Some (tree e.value.value)) (find text_cmp q (pairs es))) (sym (cmp_in_slots s e.value.slot q e.value.key is (All-head InSlot e es h)))
     ∙ ap (cond (is_eq (text_cmp (s ∷ q) (sort_key e.value))) (Some (tree e.value.value))) (find_in_slot s q es is (All-tail InSlot e es h))
 
--- a text isn't found if its slot is empty
-pub find_empty : (guesses : List ℕ) (q : List ℕ) (es : List (Rc Entry Global)) → slice_index guesses (slot_number q) ≡ 255 → AreInSlots es → AreGuessed guesses es
-    → find text_cmp q (pairs es) ≡ None
-find_empty guesses q [] empty h g = refl
-find_empty guesses q (e ∷ es) empty h g =
-    let slot = All-head InSlot e es h in
-    let guess = All-head (λ (e : Rc Entry Global). slice_index guesses e.value.slot < 255) e es g in
-    let rest = find_empty guesses q es empty (All-tail InSlot e es h) (All-tail (λ (e : Rc Entry Global). slice_index guesses e.value.slot < 255) e es g) in
+-- an entry in another slot has another name
+other_name : (q : List ℕ) (e : Rc Entry Global) → InSlot e → (e.value.slot ≡ slot_number q → ⊥) → bytes_eq q e.value.key ≡ false
+other_name q e slot out =
     ⊎_elim
-    (λ t.
-    let full = ap (slice_index guesses) (slot ∙ ap slot_number (sym (same_text q e.value.key t))) ∙ empty in
-    absurd (omega (arith, full, guess)))
-    (λ f. find_later e es q f ∙ rest)
+    (λ t. absurd (out (slot ∙ ap slot_number (sym (same_text q e.value.key t)))))
+    (λ f. f)
     (cases_Bool (bytes_eq q e.value.key))
 
--- a guess for one more entry
-guess_kept : (g : List ℕ) (n m v : ℕ) → n < length g → v < 255 → slice_index g m < 255 → slice_index (set g n v) m < 255
-guess_kept g n m v within low h =
-    ⊎_elim
-    (λ same. subst (λ x. x < 255) (sym (ap (slice_index (set g n v)) same ∙ get_or-set_same g n v 0 within)) low)
-    (λ other. subst (λ x. x < 255) (sym (get_or-set_other g n m v 0 other)) h)
-    (cases_eq m n)
+-- a text isn't found among the first n if none of them is in its slot
+pub find_none : (q : List ℕ) (es : List (Rc Entry Global)) (n : ℕ) → AreInSlots es
+    → ((k : ℕ) → k < n → k < length es → slice_index (slots es) k ≡ slot_number q → ⊥) → find text_cmp q (pairs (take n es)) ≡ None
+find_none q [] zero h out = refl
+find_none q [] (suc n) h out = refl
+find_none q (e ∷ es) zero h out = refl
+find_none q (e ∷ es) (suc n) h out =
+    find_later e (take n es) q (other_name q e (All-head InSlot e es h) (out 0 (omega arith) (omega arith)))
+    ∙ find_none q es n (All-tail InSlot e es h) (λ k a b. out (suc k) (omega arith) (omega arith))
 
-pub guess_more : (g : List ℕ) (es : List (Rc Entry Global)) (i n v : ℕ) (e : Rc Entry Global) → e ≡ get_or es i e → i < length es
-    → n ≡ e.value.slot → n < length g → v < 255 → AreGuessed g (take i es) → AreGuessed (set g n v) (take (i + 1) es)
-guess_more g es i n v e is in' slot within low all =
-    let P : Rc Entry Global → Type 0 = λ e. slice_index (set g n v) e.value.slot < 255 in
-    All-more P es i e in'
-    (All-weaker (λ (e : Rc Entry Global). slice_index g e.value.slot < 255) P (λ e h. guess_kept g n e.value.slot v within low h) (take i es) all)
-    (subst P is (subst (λ x. x < 255) (sym (ap (slice_index (set g n v)) (sym slot) ∙ get_or-set_same g n v 0 within)) low))
+-- entries in other slots can be cut off
+pub find_cut : (q : List ℕ) (es : List (Rc Entry Global)) (n : ℕ) → AreInSlots es
+    → ((k : ℕ) → n ≤ k → k < length es → slice_index (slots es) k ≡ slot_number q → ⊥)
+    → find text_cmp q (pairs es) ≡ find text_cmp q (pairs (take n es))
+find_cut q [] zero h out = refl
+find_cut q [] (suc n) h out = refl
+find_cut q (e ∷ es) zero h out =
+    find_later e es q (other_name q e (All-head InSlot e es h) (out 0 (omega arith) (omega arith)))
+    ∙ find_cut q es zero (All-tail InSlot e es h) (λ k a b. out (suc k) (omega arith) (omega arith))
+find_cut q (e ∷ es) (suc n) h out =
+    ap (cond (is_eq (text_cmp q e.value.key)) (Some (tree e.value.value)))
+    (find_cut q es n (All-tail InSlot e es h) (λ k a b. out (suc k) (omega arith) (omega arith)))
+
+other_cut : (q : List ℕ) (es : List (Rc Entry Global)) (n : ℕ) → n < length es → IsOtherAt q es n
+    → find text_cmp q (pairs (take (suc n) es)) ≡ find text_cmp q (pairs (take n es))
+other_cut q [] n w other = absurd (omega arith)
+other_cut q (e ∷ es) zero w other = find_later e [] q (other e)
+other_cut q (e ∷ es) (suc n) w other = ap (cond (is_eq (text_cmp q e.value.key)) (Some (tree e.value.value))) (other_cut q es n (omega arith) other)
+
+-- and so can one with another name
+pub find_step : (q : List ℕ) (es : List (Rc Entry Global)) (at : ℕ) (e : Rc Entry Global) → 0 < at → at ≤ length es → e ≡ get_or es (at - 1) e
+    → bytes_eq q e.value.key ≡ false → find text_cmp q (pairs (take at es)) ≡ find text_cmp q (pairs (take (at - 1) es))
+find_step q es at e some within is other =
+    let before : at - 1 < length es = omega arith in
+    let next : suc (at - 1) ≡ at = omega arith in
+    subst (λ n. find text_cmp q (pairs (take n es)) ≡ find text_cmp q (pairs (take (at - 1) es))) next
+    (other_cut q es (at - 1) before (at_read es (λ (e : Rc Entry Global). bytes_eq q e.value.key ≡ false) (at - 1) e before is other))
 
 -- a slot's number
 pub slot_below : (q : List ℕ) → slot_number q < 64
 slot_below q = mod_below _ 64 (omega arith)
+
+pub slot_within : (es : List (Rc Entry Global)) (i : ℕ) (e : Rc Entry Global) → AreInSlots es → i < length es → e ≡ get_or es i e → e.value.slot < 64
+slot_within es i e h w is =
+    subst (λ n. n < 64) (sym (subst InSlot (sym is) (All-get_or InSlot es i e w h))) (slot_below e.value.key)
 
 first : (a b : Bool) → T (a && b) → T a
 first true b h = tt
@@ -149,11 +169,119 @@ below_at k [] i d h w = absurd (omega arith)
 below_at k (e ∷ es) zero d h w = less _ (first _ _ h)
 below_at k (e ∷ es) (suc i) d h w = below_at k es i d (second _ _ h) (omega arith)
 
+rising_at : (es : List (Rc Entry Global)) → IsRising es → (i j : ℕ) (d : Rc Entry Global) → i < j → j < length es
+    → text_cmp (sort_key (get_or es i d).value) (sort_key (get_or es j d).value) ≡ Less
+rising_at [] h i j d a b = absurd (omega arith)
+rising_at (e ∷ es) h i zero d a b = absurd (omega arith)
+rising_at (e ∷ es) h zero (suc j) d a b = below_at (sort_key e.value) es j d (first _ _ h) (omega arith)
+rising_at (e ∷ es) h (suc i) (suc j) d a b = rising_at es (second _ _ h) i j d (omega arith) (omega arith)
+
 next_above : (es : List (Rc Entry Global)) → IsRising es → (i : ℕ) (d : Rc Entry Global) → suc i < length es
     → is_lt (text_cmp (sort_key (get_or es (suc i) d).value) (sort_key (get_or es i d).value)) ≡ false
 next_above [] h i d w = absurd (omega arith)
 next_above (e ∷ es) h zero d w = ap is_lt (turned (sort_key e.value) (sort_key (get_or es 0 d).value) Less (below_at (sort_key e.value) es 0 d (first _ _ h) (omega arith)))
 next_above (e ∷ es) h (suc i) d w = next_above es (second _ _ h) i d (omega arith)
+
+-- ---- the last entry of each slot
+
+pub slot_at : (es : List (Rc Entry Global)) (k : ℕ) (d : Rc Entry Global) → k < length es → slice_index (slots es) k ≡ (get_or es k d).value.slot
+slot_at [] k d h = absurd (omega arith)
+slot_at (e ∷ es) zero d h = refl
+slot_at (e ∷ es) (suc k) d h = slot_at es k d (omega arith)
+
+pub slots-AllZip : (es fs : List (Rc Entry Global)) → AllZip (λ e f. f.value ≡ e.value) es fs → slots fs ≡ slots es
+slots-AllZip [] [] h = refl
+slots-AllZip [] (f ∷ fs) h = absurd h
+slots-AllZip (e ∷ es) [] h = absurd h
+slots-AllZip (e ∷ es) (f ∷ fs) h = λ i. (h.0 i).slot ∷ slots-AllZip es fs h.1 i
+
+-- copies that share the entries have them at the same places
+pub AreLasts-AllZip : (lasts : List ℕ) (es fs : List (Rc Entry Global)) → AllZip (λ e f. f.value ≡ e.value) es fs → AreLasts lasts es → AreLasts lasts fs
+AreLasts-AllZip lasts es fs h last s below =
+    subst (λ (p : List ℕ × ℕ). IsLast p.0 p.1 s (slice_index lasts s)) {x = (slots es, length es)} {y = (slots fs, length fs)}
+    (λ i. (sym (slots-AllZip es fs h) i, length_all_zip _ es fs h i)) (last s below)
+
+not_greater : (o p : Ordering) → ordering_then o p ≡ Less → o ≡ Greater → ⊥
+not_greater Less p h g = cc
+not_greater Equal p h g = cc
+not_greater Greater p h g = cc
+
+slot_order : (s r : ℕ) (k l : List ℕ) → text_cmp (s ∷ k) (r ∷ l) ≡ Less → s ≤ r
+slot_order s r k l h =
+    let out : r < s → ⊥ = λ above. not_greater (nat_cmp s r) (text_cmp k l) h (sym (nat_cmp_is s r Greater above)) in
+    omega (arith, out)
+
+slots_rise : (es : List (Rc Entry Global)) (d : Rc Entry Global) → IsRising es → (i j : ℕ) → i < j → j < length es
+    → slice_index (slots es) i ≤ slice_index (slots es) j
+slots_rise es d h i j a b =
+    let e = (get_or es i d).value in
+    let f = (get_or es j d).value in
+    let order = slot_order e.slot f.slot e.key f.key (rising_at es h i j d a b) in
+    omega (arith, order, slot_at es i d (omega arith), slot_at es j d b)
+
+-- a text isn't found below an entry in its slot if the one just below is in another
+pub find_below : (q : List ℕ) (es : List (Rc Entry Global)) (at : ℕ) (e : Rc Entry Global) → IsRising es → AreInSlots es → 0 < at → at < length es
+    → slice_index (slots es) at ≡ slot_number q → e ≡ get_or es (at - 1) e → (e.value.slot ≡ slot_number q → ⊥)
+    → find text_cmp q (pairs (take at es)) ≡ None
+find_below q es at e rising h some within in' is out =
+    let before : at - 1 < at = omega arith in
+    let slot = slot_at es (at - 1) e (omega arith) ∙ sym (ap (λ (e : Rc Entry Global). e.value.slot) is) in
+    find_none q es at h (λ k a b same.
+    let above = slots_rise es e rising (at - 1) at before within in
+    let below : k < at - 1 → slice_index (slots es) k ≤ slice_index (slots es) (at - 1) = λ c. slots_rise es e rising k (at - 1) c (omega arith) in
+    ⊎_elim
+    (λ eq. out (sym slot ∙ ap (slice_index (slots es)) (sym eq) ∙ same))
+    (λ ne. out (sym slot ∙ omega (arith, below, above, in', same, ne)))
+    (cases_eq k (at - 1)))
+
+-- if a slot's last entry has another name, the entries below it are left
+pub find_older : (q : List ℕ) (lasts : List ℕ) (es : List (Rc Entry Global)) (s last : ℕ) → s ≡ slot_number q → last ≡ slice_index lasts s → last < 254
+    → AreInSlots es → AreLasts lasts es → IsOtherAt q es (slice_index lasts (slot_number q))
+    → (last < length es) × (slice_index (slots es) last ≡ s) × (find text_cmp q (pairs es) ≡ find text_cmp q (pairs (take last es)))
+find_older q lasts es s last is_slot is_last low h all other =
+    let known = subst (IsLast (slots es) (length es) s) (sym is_last) (all s (subst (λ n. n < 64) (sym is_slot) (slot_below q))) in
+    let within = known.0 (omega arith) in (
+      within,
+      known.1 low,
+      find_cut q es (suc last) h (λ k a b same.
+          let place = known.2 k b (same ∙ sym is_slot) in
+          absurd (omega (arith, place.1, a, low)))
+          ∙ other_cut q es last within (subst (IsOtherAt q es) (ap (slice_index lasts) (sym is_slot) ∙ sym is_last) other),
+    )
+
+-- and a text isn't found if its slot is empty
+pub find_empty : (q : List ℕ) (lasts : List ℕ) (es : List (Rc Entry Global)) → slice_index lasts (slot_number q) ≡ 255 → AreInSlots es → AreLasts lasts es
+    → find text_cmp q (pairs es) ≡ None
+find_empty q lasts es empty h all =
+    find_cut q es 0 h (λ k a b same.
+    let place = (all (slot_number q) (slot_below q)).2 k b same in
+    omega (arith, place.0, empty))
+
+-- of no entries
+pub lasts_none : (xs : List ℕ) (s : ℕ) → s < 64 → IsLast xs 0 s (slice_index (replicate 64 255) s)
+lasts_none xs s below =
+    subst (IsLast xs 0 s) (sym (get_or-replicate 64 s 255 0 below))
+    (λ h. absurd (omega (arith, h)), λ h. absurd (omega (arith, h)), λ k a is. absurd (omega (arith, a)))
+
+-- and one more
+pub lasts_more : (lasts xs : List ℕ) (i n v : ℕ) → length lasts ≡ 64 → n < 64 → v ≡ min i 254 → slice_index xs i ≡ n
+    → ((s : ℕ) → s < 64 → IsLast xs i s (slice_index lasts s)) → (s : ℕ) → s < 64 → IsLast xs (i + 1) s (slice_index (set lasts n v) s)
+lasts_more lasts xs i n v long within index at old s below =
+    ⊎_elim
+    (λ same. subst (IsLast xs (i + 1) s) (sym (ap (slice_index (set lasts n v)) same ∙ get_or-set_same lasts n v 0 (omega arith))) (
+      omega arith,
+      λ low. ap (slice_index xs) (omega arith) ∙ at ∙ sym same,
+      λ k a is. (omega arith, omega arith),
+    ))
+    (λ other.
+    let kept = old s below in
+    let not_here : (k : ℕ) → slice_index xs k ≡ s → k ≡ i → ⊥ = λ k is here. other (sym is ∙ ap (slice_index xs) here ∙ at) in
+    subst (IsLast xs (i + 1) s) (sym (get_or-set_other lasts n s v 0 other)) (
+      λ low. omega (arith, kept.0 low),
+      kept.1,
+      λ k a is. kept.2 k (omega (arith, not_here k is)) is,
+    ))
+    (cases_eq s n)
 
 -- the conditions of a binary search for k among the entries
 pub searchable : (es : List (Rc Entry Global)) (k : List ℕ) → IsRising es → IsNonDecreasingBy (λ e. ordering_index (by_key k e)) es
@@ -195,15 +323,16 @@ module _ (k : List ℕ) where
 
 -- the entry at an index with that key is the one that is found
 pub find_at : (q : List ℕ) (es : List (Rc Entry Global)) (at : ℕ) (e : Rc Entry Global) → IsRising es → AreInSlots es
-    → at < length es → ((d : Rc Entry Global) → e ≡ get_or es at d) → bytes_eq q e.value.key ≡ true
+    → at < length es → e ≡ get_or es at e → bytes_eq q e.value.key ≡ true
     → find text_cmp q (pairs es) ≡ Some (tree e.value.value)
 find_at q es at e rising slots within is named =
-    let slot = subst InSlot (sym (is e)) (All-get_or InSlot es at e within slots) in
+    let slot = subst InSlot (sym is) (All-get_or InSlot es at e within slots) in
     let key = same_text q e.value.key named in
+    let k = slot_number q ∷ q in
     let equal = ap (text_cmp (sort_key e.value)) {y = sort_key e.value} (λ i. (ap slot_number key ∙ sym slot) i ∷ key i) ∙ tied_itself nat_list_cmp_total (sort_key e.value) in
     find_in_slot (slot_number q) q es refl slots
-    ∙ find-found (slot_number q ∷ q) es at e rising within (λ d. ap (by_key (slot_number q ∷ q)) (sym (is d)) ∙ equal)
-    ∙ ap (λ (e : Rc Entry Global). Some (tree e.value.value)) (sym (is e))
+    ∙ find-found k es at e rising within (at_read es (λ e. by_key k e ≡ Equal) at e within is equal)
+    ∙ ap (λ (e : Rc Entry Global). Some (tree e.value.value)) (sym is)
 
 -- if the keys below a place are less than k, and the others greater
 module _ (k : List ℕ) where

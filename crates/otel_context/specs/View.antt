@@ -1,7 +1,7 @@
 -- From code to models: the views of the fields of a context, and the codes with which a model's
 -- value contains contexts, slots, stacks and span tables. No public contract cites this file.
 use Rattle.std.specs.Prelude.{ℕ, ◌+◌, ◌-◌, ◌*◌, ◌%◌, ◌≡◌, ◌<◌, ◌≤◌, List, [], ◌∷◌, Bool, Option, Some, None, T, map, refl}
-use Rattle.std.specs.Prelude.{length, slice_index, All}
+use Rattle.std.specs.Prelude.{length, slice_index, All, HoldsAt, min, false, bytes_eq, nat_lt, if◌then◌else◌}
 use Rattle.std.specs.declared.rc.Rc.{Rc}
 use Rattle.std.specs.declared.alloc.Global.{Global}
 use Rattle.std.specs.Coded.{Coded, code_by, coded×, coded_ℕ, coded_bool, coded_list, coded_option}
@@ -29,8 +29,9 @@ pairs = map (λ e. (e.value.key, tree e.value.value))
 -- the slot of a name: a mix of its length, its first byte and its last two
 abbrev pub slot_number : List ℕ → ℕ
 slot_number name =
-    (length name % 64 + 3 * slice_index name 0 + 9 * slice_index name (length name - 2)
-    + 33 * slice_index name (length name - 1)) % 64
+    (if nat_lt (length name) 2 then slice_index name 0
+    else 4 * (length name % 64) + slice_index name 0 + 10 * slice_index name (length name - 2)
+    + slice_index name (length name - 1)) % 64
 
 -- the order of two lists, of bytes or of a slot and bytes
 abbrev pub text_cmp : List ℕ → List ℕ → Ordering
@@ -39,6 +40,10 @@ text_cmp = slice_cmp nat_cmp
 -- an entry's slot and then its key: the entries are in the order of these lists
 abbrev pub sort_key : Entry → List ℕ
 sort_key e = e.slot ∷ e.key
+
+-- the slots of entries
+abbrev pub slots : List (Rc Entry Global) → List ℕ
+slots = map (λ e. e.value.slot)
 
 -- each slot and key with the tree of the value
 abbrev pub rows : List (Rc Entry Global) → List (List ℕ × Tree)
@@ -56,9 +61,22 @@ IsRising entries = T (is_sorted text_cmp (rows entries))
 abbrev pub AreInSlots : List (Rc Entry Global) → Type 0
 AreInSlots = All (λ e. e.value.slot ≡ slot_number e.value.key)
 
--- the guess for each entry's slot is an index
-abbrev pub AreGuessed : List ℕ → List (Rc Entry Global) → Type 0
-AreGuessed guesses = All (λ e. slice_index guesses e.value.slot < 255)
+-- of the first n slots, the one at this index is the last s; 254 stands for each index from
+-- there on, and 255 for none
+abbrev pub IsLast : List ℕ → ℕ → ℕ → ℕ → Type 0
+IsLast slots n s last =
+    (last < 255 → last < n)
+    × (last < 254 → slice_index slots last ≡ s)
+    × ((k : ℕ) → k < n → slice_index slots k ≡ s → (last < 255) × (min k 254 ≤ last))
+
+-- each slot's last entry is where the table says
+abbrev pub AreLasts : List ℕ → List (Rc Entry Global) → Type 0
+AreLasts lasts entries =
+    (s : ℕ) → s < 64 → IsLast (slots entries) (length entries) s (slice_index lasts s)
+
+-- the entry at the index has another name
+abbrev pub IsOtherAt : List ℕ → List (Rc Entry Global) → ℕ → Type 0
+IsOtherAt name entries = HoldsAt (λ e. bytes_eq name e.value.key ≡ false) entries
 
 -- the finite map held by a list of shared entries
 abbrev pub entries_seen : List (Rc Entry Global) → EntryMap

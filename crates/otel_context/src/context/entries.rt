@@ -1,11 +1,11 @@
 //! The named entries of a context.
-ghost use Rattle.std.specs.Prelude.{◌≡◌, ◌↔◌, ◌∷◌, IsTrue, length, IfOk, option_map};
+ghost use Rattle.std.specs.Prelude.{◌≡◌, ◌↔◌, ◌<◌, ◌∷◌, IsTrue, length, IfOk, option_map};
+ghost use Rattle.std.specs.Prelude.{slice_index};
 ghost use Rattle.std.specs.FinMap as map;
 ghost use Rattle.std.specs.List.Sorted.{IsSearchInRange, IsBinarySearchResult};
 ghost use Rattle.otel_base.specs.View.{tree};
-ghost use Rattle.otel_context.specs.View.{by_key, IsRising, entries_seen, AreInSlots, AreGuessed};
-ghost use Rattle.otel_context.specs.View.{text_cmp, sort_key};
-ghost use Rattle.otel_context.specs.View.{slot_number};
+ghost use Rattle.otel_context.specs.View.{by_key, IsRising, entries_seen, AreInSlots, AreLasts};
+ghost use Rattle.otel_context.specs.View.{IsOtherAt, text_cmp, sort_key, slot_number};
 
 use otel_base::{AnyValue, Key};
 use std::alloc::{AllocError, Global};
@@ -17,15 +17,26 @@ use std::rc::Rc;
 /// with fewer, more names share a slot.
 const SLOTS: usize = 64;
 
-/// Stands for the index of an entry where none falls into the slot.
+/// Stands for the index of a slot's last entry if the slot has none.
 const EMPTY: u8 = u8::MAX;
+
+/// Stands for each index that is too high for a table, and for itself.
+const FAR: u8 = EMPTY - 1;
 
 #[derive(Drop)]
 struct Entry {
     // The slot of the key. Kept because a map that shares the entry asks for it again.
-    slot: u8,
+    slot: usize,
     key: Key,
     value: AnyValue,
+}
+
+#[derive(Drop)]
+struct Table {
+    // In ascending order of their slots, and in a slot of the bytes of their keys.
+    items: Vec<Rc<Entry>>,
+    // For each slot the index of its last entry, `FAR` or `EMPTY`.
+    lasts: [u8; SLOTS],
 }
 
 /// A map from names to values, with distinct names.
@@ -33,26 +44,22 @@ struct Entry {
 /// Immutable. A map that differs in one entry shares the others.
 #[derive(Drop)]
 pub struct Entries {
-    // In ascending order of their slots, and in a slot of the bytes of their keys. A search compares
-    // few texts then.
-    items: Vec<Rc<Entry>>,
-    // For each slot an index at which `get` looks first, or `EMPTY` if no entry falls into the slot.
-    guesses: [u8; SLOTS],
+    table: Table,
 }
 
 impl Model for Entries {
     ghost use Rattle.otel_context.specs.Context.{EntryMap};
     ghost use Rattle.otel_context.specs.View.{entries_code};
-    ghost use Rattle.otel_context.specs.View.{entries_seen, IsRising, AreInSlots, AreGuessed};
+    ghost use Rattle.otel_context.specs.View.{entries_seen, IsRising, AreInSlots, AreLasts};
 
     ghost Value = { EntryMap };
 
     ghost coded = { entries_code };
 
-    ghost view = { λ e. entries_seen e.items.items };
+    ghost view = { λ e. entries_seen e.table.items.items };
 
-    ghost invariant = { λ e.
-        IsRising e.items.items × AreInSlots e.items.items × AreGuessed e.guesses e.items.items };
+    ghost invariant = { λ e. IsRising e.table.items.items
+        × AreInSlots e.table.items.items × AreLasts e.table.lasts e.table.items.items };
 }
 
 impl Entries {
@@ -61,38 +68,35 @@ impl Entries {
         ensures { result ≡ map.empty }
     {
         Entries {
-            items: Vec::new(alloc),
-            guesses: [EMPTY; SLOTS],
+            table: Table {
+                items: Vec::new(alloc),
+                lasts: [EMPTY; SLOTS],
+            },
         }
     }
 
     /// Returns the value named `key`.
     ///
-    /// Compares one text, unless names share a slot. Then a binary search follows.
+    /// Compares one text, unless names share a slot. Then the last one is compared first.
     pub fn get(&self, key: &str) -> Option<&AnyValue>
         ensures { option_map (λ v. tree v.now) result ≡ map.get self.now key.now }
     {
-        let slot = slot_of(key);
-        let guess = self.guesses[usize::from(slot)];
-        if guess == EMPTY {
+        let last = self.table.lasts[slot_of(key)];
+        if last == EMPTY {
             return None;
         }
-        if let Some(entry) = self.items.get(usize::from(guess)) {
-            if key == entry.key.as_str() {
-                return Some(&entry.as_ref().value);
-            }
+        let entry = &self.table.items[usize::from(last)];
+        if key == entry.key.as_str() {
+            return Some(&entry.as_ref().value);
         }
-        match search(&self.items, slot, key) {
-            Ok(at) => Some(&self.items[at].as_ref().value),
-            Err(_) => None,
-        }
+        self.table.get_older(key)
     }
 
     /// Returns `true` if the map has no entries.
     pub fn is_empty(&self) -> bool
         ensures { IsTrue result ↔ (self.now ≡ map.empty) }
     {
-        self.items.is_empty()
+        self.table.items.is_empty()
     }
 
     /// Returns a map with the entry set, replacing any entry named `key`.
@@ -105,9 +109,11 @@ impl Entries {
     {
         let slot = slot_of(key.as_str());
         let entry = Rc::new(alloc, Entry { slot, key, value })?;
-        let items = with_entry(alloc, &self.items, entry)?;
-        let guesses = guesses_of(&items);
-        Ok(Entries { items, guesses })
+        let items = with_entry(alloc, &self.table.items, entry)?;
+        let lasts = lasts_of(&items);
+        Ok(Entries {
+            table: Table { items, lasts },
+        })
     }
 }
 
@@ -116,9 +122,60 @@ impl Clone for Entries {
 
     fn clone(&self) -> Result<Entries, AllocError> {
         Ok(Entries {
-            items: self.items.clone()?,
-            guesses: self.guesses,
+            table: Table {
+                items: self.table.items.clone()?,
+                lasts: self.table.lasts,
+            },
         })
+    }
+}
+
+impl Table {
+    /// Returns the value named `key`, which isn't the name of its slot's last entry.
+    // Not inlined: `get`, which rarely comes here, needs fewer registers then.
+    #[inline(never)]
+    fn get_older(&self, key: &str) -> Option<&AnyValue>
+        requires rising { IsRising self.now.items.items }
+        requires in_slots { AreInSlots self.now.items.items }
+        requires lasts { AreLasts self.now.lasts self.now.items.items }
+        requires has_last { slice_index self.now.lasts (slot_number key.now) < 255 }
+        requires is_older { IsOtherAt key.now self.now.items.items
+            (slice_index self.now.lasts (slot_number key.now)) }
+        ensures { option_map (λ v. tree v.now) result
+            ≡ map.get (entries_seen self.now.items.items) key.now }
+    {
+        let slot = slot_of(key);
+        let last = self.lasts[slot];
+        if last == FAR {
+            return get_far(&self.items, slot, key);
+        }
+        let mut at = usize::from(last);
+        while at > 0 {
+            at -= 1;
+            let entry = &self.items[at];
+            if entry.slot != slot {
+                return None;
+            }
+            if key == entry.key.as_str() {
+                return Some(&entry.as_ref().value);
+            }
+        }
+        None
+    }
+}
+
+/// Returns the value named `key`, by binary search.
+// Not inlined: `get_older`, which rarely comes here, needs fewer registers then.
+#[inline(never)]
+fn get_far<'a>(items: &'a [Rc<Entry>], slot: usize, key: &str) -> Option<&'a AnyValue>
+    requires rising { IsRising items.now }
+    requires in_slots { AreInSlots items.now }
+    requires slot { slot ≡ slot_number key.now }
+    ensures { option_map (λ v. tree v.now) result ≡ map.get (entries_seen items.now) key.now }
+{
+    match search(items, slot, key) {
+        Ok(at) => Some(&items[at].as_ref().value),
+        Err(_) => None,
     }
 }
 
@@ -149,7 +206,7 @@ fn with_entry(
 
 /// Returns the index of the entry in this slot named `key`, or the index at which to insert it, by
 /// binary search.
-fn search(items: &[Rc<Entry>], slot: u8, key: &str) -> Result<usize, usize>
+fn search(items: &[Rc<Entry>], slot: usize, key: &str) -> Result<usize, usize>
     ensures bound { IsSearchInRange result (length items.now) }
     ensures position { IsBinarySearchResult (by_key (slot ∷ key.now)) items.now result }
 {
@@ -157,7 +214,7 @@ fn search(items: &[Rc<Entry>], slot: u8, key: &str) -> Result<usize, usize>
 }
 
 /// Compares the slots, and the keys if the slots are equal.
-fn compare(entry: &Entry, slot: u8, key: &str) -> Ordering
+fn compare(entry: &Entry, slot: usize, key: &str) -> Ordering
     ensures { result ≡ text_cmp (sort_key entry.now) (slot ∷ key.now) }
 {
     if entry.slot == slot {
@@ -169,34 +226,32 @@ fn compare(entry: &Entry, slot: u8, key: &str) -> Ordering
 
 /// Returns the slot of a name: a mix of its length and three of its bytes, the first one and, since
 /// names are often numbered, the last two.
-fn slot_of(name: &str) -> u8
+fn slot_of(name: &str) -> usize
     ensures { result ≡ slot_number name.now }
 {
     let bytes = name.as_bytes();
     let length = bytes.len();
-    if length == 0 {
-        return 0;
+    if length < 2 {
+        return bytes.first().map_or(0, |byte| usize::from(*byte) % SLOTS);
     }
     let first = usize::from(bytes[0]);
-    let last_but_one = usize::from(bytes[length.saturating_sub(2)]);
+    let last_but_one = usize::from(bytes[length - 2]);
     let last = usize::from(bytes[length - 1]);
-    let mixed = length % SLOTS + 3 * first + 9 * last_but_one + 33 * last;
-    (mixed % SLOTS) as u8
+    (4 * (length % SLOTS) + first + 10 * last_but_one + last) % SLOTS
 }
 
-/// Returns for each slot the index of its last entry, or the highest index below `EMPTY` if that one
-/// is higher. `EMPTY` if no entry falls into the slot.
-fn guesses_of(items: &[Rc<Entry>]) -> [u8; SLOTS]
+/// Returns for each slot the index of its last entry, `FAR` or `EMPTY`.
+fn lasts_of(items: &[Rc<Entry>]) -> [u8; SLOTS]
     requires { AreInSlots items.now }
-    ensures { AreGuessed result items.now }
+    ensures { AreLasts result items.now }
 {
-    let mut guesses = [EMPTY; SLOTS];
+    let mut lasts = [EMPTY; SLOTS];
     let mut index = 0u8;
     for entry in items {
-        guesses[usize::from(entry.slot)] = index;
-        if index < EMPTY - 1 {
+        lasts[entry.slot] = index;
+        if index < FAR {
             index += 1;
         }
     }
-    guesses
+    lasts
 }

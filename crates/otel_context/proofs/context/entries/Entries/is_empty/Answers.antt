@@ -5,7 +5,7 @@ use Rattle.otel_context.proofs.context.entries.Entries.is_empty.Goals as goal
 
 pub returns : goal.returns
 returns c =
-    let empty : IsTrue c.is_empty.result ↔ (length c.self.inside.items.items ≡ 0) = search rules in (
-      λ yes. sym c.self.view_is ∙ seen_none c.self.inside.items.items (empty.0 yes),
-      λ none. empty.1 (none_seen c.self.inside.items.items (c.self.view_is ∙ none)),
+    let empty : IsTrue c.is_empty.result ↔ (length c.self.inside.table.items.items ≡ 0) = search rules in (
+      λ yes. sym c.self.view_is ∙ seen_none c.self.inside.table.items.items (empty.0 yes),
+      λ none. empty.1 (none_seen c.self.inside.table.items.items (c.self.view_is ∙ none)),
     )

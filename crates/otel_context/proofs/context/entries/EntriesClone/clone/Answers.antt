@@ -1,7 +1,7 @@
-use Rattle.std.proofs.Common.{T, ◌≡◌, ◌<◌, slice_index, sym, ap, subst, ◌∙◌}
+use Rattle.std.proofs.Common.{T, ◌≡◌, sym, ap, subst, ◌∙◌}
 use Rattle.std.specs.FinMap.{from_entries, is_sorted}
 use Rattle.otel_context.specs.View.{text_cmp, slot_number}
-use Rattle.otel_context.proofs.EntryLemmas.{All-shared, pairs-AllZip, rows-AllZip}
+use Rattle.otel_context.proofs.EntryLemmas.{All-shared, AreLasts-AllZip, pairs-AllZip, rows-AllZip}
 use Rattle.otel_context.proofs.context.entries.EntriesClone.clone.Goals as goal
 
 pub invariant_of-result : goal.invariant_of-result
@@ -9,7 +9,7 @@ invariant_of-result c =
     let same = c.in_ok-clone.ensures.cases.0 in (
       subst (λ ps. T (is_sorted text_cmp ps)) (sym (rows-AllZip _ _ same)) c.self.invariant.0,
       All-shared (λ e. e.slot ≡ slot_number e.key) _ _ same c.self.invariant.1,
-      All-shared (λ e. slice_index c.self.inside.guesses e.slot < 255) _ _ same c.self.invariant.2,
+      AreLasts-AllZip _ _ _ same c.self.invariant.2,
     )
 
 pub returns : goal.returns
