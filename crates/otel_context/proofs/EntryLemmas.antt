@@ -7,7 +7,7 @@ use Rattle.std.specs.Ordering.{ordering_index, ordering_reverse, ordering_then}
 use Rattle.std.specs.Cmp.{nat_cmp_is}
 use Rattle.std.specs.FinMap.Entries.{by_order, put, below_all, is_sorted, is_sorted-put, find-put}
 use Rattle.std.proofs.lemmas.Bool.{cases_Bool, cases_eq, cond-true, cond-false}
-use Rattle.std.proofs.lemmas.List.{map-append, get_or-replicate, get_or-set_same, get_or-set_other}
+use Rattle.std.proofs.lemmas.List.{map-append, length-take, length-drop, get_or-take, get_or-drop, get_or-replicate, get_or-set_same, get_or-set_other}
 use Rattle.std.proofs.lemmas.Nat.{mod_below}
 use Rattle.std.proofs.lemmas.List.Sorted.{searchable_from_sorted}
 use Rattle.std.proofs.lemmas.Cmp.{nat_list_cmp_total, tied_itself}
@@ -131,13 +131,11 @@ other_cut q (e ∷ es) zero w other = find_later e [] q (other e)
 other_cut q (e ∷ es) (suc n) w other = ap (cond (is_eq (text_cmp q e.value.key)) (Some (tree e.value.value))) (other_cut q es n (omega arith) other)
 
 -- and so can one with another name
-pub find_step : (q : List ℕ) (es : List (Rc Entry Global)) (at : ℕ) (e : Rc Entry Global) → 0 < at → at ≤ length es → e ≡ get_or es (at - 1) e
-    → bytes_eq q e.value.key ≡ false → find text_cmp q (pairs (take at es)) ≡ find text_cmp q (pairs (take (at - 1) es))
-find_step q es at e some within is other =
-    let before : at - 1 < length es = omega arith in
-    let next : suc (at - 1) ≡ at = omega arith in
-    subst (λ n. find text_cmp q (pairs (take n es)) ≡ find text_cmp q (pairs (take (at - 1) es))) next
-    (other_cut q es (at - 1) before (at_read es (λ (e : Rc Entry Global). bytes_eq q e.value.key ≡ false) (at - 1) e before is other))
+pub find_step : (q : List ℕ) (es : List (Rc Entry Global)) (i : ℕ) (e : Rc Entry Global) → i < length es → e ≡ get_or es i e
+    → bytes_eq q e.value.key ≡ false → find text_cmp q (pairs (take (i + 1) es)) ≡ find text_cmp q (pairs (take i es))
+find_step q es i e within is other =
+    ap (λ n. find text_cmp q (pairs (take n es))) (add-one i)
+    ∙ other_cut q es i within (at_read es (λ (e : Rc Entry Global). bytes_eq q e.value.key ≡ false) i e within is other)
 
 -- a slot's number
 pub slot_below : (q : List ℕ) → slot_number q < 64
@@ -247,6 +245,22 @@ find_older q lasts es s last is_slot is_last low h all other =
           let place = known.2 k b (same ∙ sym is_slot) in
           absurd (omega (arith, place.1, a, low)))
           ∙ other_cut q es last within (subst (IsOtherAt q es) (ap (slice_index lasts) (sym is_slot) ∙ sym is_last) other),
+    )
+
+-- the length of a range of n from first on, and an entry in it
+range_length : (es : List (Rc Entry Global)) (first n : ℕ) → length (take n (drop first es)) ≡ min n (length es - first)
+range_length es first n = length-take n (drop first es) ∙ ap (min n) (length-drop first es)
+
+pub range_end : (es : List (Rc Entry Global)) (first end j : ℕ) → first ≤ end → end ≤ length es → j ≤ length (take (end - first) (drop first es))
+    → length (take (end - first) (drop first es)) ≤ j → first + j ≡ end
+range_end es first end j low high below above = omega (arith, range_length es first (end - first), low, high, below, above)
+
+pub range_at : (es : List (Rc Entry Global)) (first n j : ℕ) (e : Rc Entry Global) → j < length (take n (drop first es)) → e ≡ get_or (take n (drop first es)) j e
+    → (first + j < length es) × (e ≡ get_or es (first + j) e)
+range_at es first n j e h is =
+    let long = range_length es first n in (
+      omega (arith, long, h),
+      is ∙ get_or-take n (drop first es) j e (omega (arith, long, h)) ∙ get_or-drop first es j e,
     )
 
 -- and a text isn't found if its slot is empty

@@ -20,7 +20,7 @@ const SLOTS: usize = 64;
 /// Stands for the index of a slot's last entry if the slot has none.
 const EMPTY: u8 = u8::MAX;
 
-/// Stands for each index that is too high for a table, and for itself.
+/// Stands for the index of a slot's last entry if that is this or higher.
 const FAR: u8 = EMPTY - 1;
 
 #[derive(Drop)]
@@ -31,6 +31,7 @@ struct Entry {
     value: AnyValue,
 }
 
+/// Entries, and where to find those of a slot.
 #[derive(Drop)]
 struct Table {
     // In ascending order of their slots, and in a slot of the bytes of their keys.
@@ -77,7 +78,7 @@ impl Entries {
 
     /// Returns the value named `key`.
     ///
-    /// Compares one text, unless names share a slot. Then the last one is compared first.
+    /// Compares `key` with the last name of its slot, and with the others only if they differ.
     pub fn get(&self, key: &str) -> Option<&AnyValue>
         ensures { option_map (λ v. tree v.now) result ≡ map.get self.now key.now }
     {
@@ -131,8 +132,8 @@ impl Clone for Entries {
 }
 
 impl Table {
-    /// Returns the value named `key`, which isn't the name of its slot's last entry.
-    // Not inlined: `get`, which rarely comes here, needs fewer registers then.
+    /// Returns the value named `key`, which isn't the name of the entry that `get` compared.
+    // Not inlined, so that `get`, which rarely calls it, needs fewer registers.
     #[inline(never)]
     fn get_older(&self, key: &str) -> Option<&AnyValue>
         requires rising { IsRising self.now.items.items }
@@ -149,15 +150,14 @@ impl Table {
         if last == FAR {
             return get_far(&self.items, slot, key);
         }
-        let mut at = usize::from(last);
-        while at > 0 {
-            at -= 1;
-            let entry = &self.items[at];
-            if entry.slot != slot {
-                return None;
-            }
-            if key == entry.key.as_str() {
-                return Some(&entry.as_ref().value);
+        let end = usize::from(last);
+        let mut first = end;
+        while first > 0 && self.items[first - 1].slot == slot {
+            first -= 1;
+        }
+        for older in &self.items[first..end] {
+            if key == older.key.as_str() {
+                return Some(&older.as_ref().value);
             }
         }
         None
@@ -165,7 +165,7 @@ impl Table {
 }
 
 /// Returns the value named `key`, by binary search.
-// Not inlined: `get_older`, which rarely comes here, needs fewer registers then.
+// Not inlined, so that `get_older`, which rarely calls it, needs fewer registers.
 #[inline(never)]
 fn get_far<'a>(items: &'a [Rc<Entry>], slot: usize, key: &str) -> Option<&'a AnyValue>
     requires rising { IsRising items.now }
