@@ -1,4 +1,4 @@
-use Rattle.std.proofs.Common.{◌∷◌, Some, get_or, sym, ap, ◌∙◌}
+use Rattle.std.proofs.Common.{◌∷◌, Some, sym, ap, ◌∙◌}
 use Rattle.std.specs.declared.alloc.Global.{Global}
 use Rattle.std.specs.declared.rc.Rc.{Rc}
 use Rattle.otel_base.specs.View.{tree}

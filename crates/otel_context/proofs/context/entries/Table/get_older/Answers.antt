@@ -1,4 +1,4 @@
-use Rattle.std.proofs.Common.{List, ◌≡◌, ◌+◌, ◌<◌, ◌≤◌, true, false, None, Some, bytes_eq, length, take, get_or, slice_index, refl, sym, ap, subst, ◌∙◌, arith, rules}
+use Rattle.std.proofs.Common.{List, ◌≡◌, ◌+◌, ◌<◌, ◌≤◌, true, false, Some, bytes_eq, length, take, get_or, slice_index, sym, ap, subst, ◌∙◌, arith, rules}
 use Rattle.std.specs.FinMap.Entries.{find}
 use Rattle.std.specs.declared.alloc.Global.{Global}
 use Rattle.std.specs.declared.rc.Rc.{Rc}
