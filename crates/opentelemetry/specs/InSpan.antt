@@ -1,11 +1,12 @@
 -- The effect of the calls that run a body in a span.
-use Rattle.std.specs.Prelude.{◌≡◌, ℕ, List, ◌++◌, codes, Option}
+use Rattle.std.specs.Prelude.{◌≡◌, ℕ, List, ◌++◌, codes, Option, IsSome}
 use Rattle.otel_context.specs.declared.span.spans.SpanRefused.{SpanRefused}
 use Rattle.otel_ids.specs.SpanContext.{SpanContextRecord}
 use Rattle.otel_context.specs.Context.{ContextRecord, with_span}
 use Rattle.otel_context.specs.Active.{AttachesAt}
 use Rattle.otel_context.specs.Stack.{StackState, Detaches, current}
-use Rattle.otel_context.specs.Spans.{SpansState, HasSameSpans, cause_text, insert, refusal}
+use Rattle.otel_context.specs.Spans.{SpansState, HasSameSpans, cause_text, get, insert, refusal}
+use Rattle.opentelemetry.specs.declared.trace.in_span.Entered.{Entered}
 use Rattle.opentelemetry.specs.declared.trace.in_span.StartError.{StartError}
 use Rattle.opentelemetry.specs.declared.trace.in_span.StartError.TheVariants.{Build, Refused}
 
@@ -52,6 +53,29 @@ module _ {S : Type 0} where
       → StackState → SpansState S → Out × ℕ → Type 0
   RanUnderCurrent MayBuild context_of may_leave old spans new new_spans answer =
       RanInSpan MayBuild context_of may_leave (current old.live) old spans new new_spans answer
+
+  -- the table has a span of that number
+  abbrev pub Holds : SpansState S → ℕ → Type 0
+  Holds spans number = IsSome (get spans number)
+
+  -- the span was inserted into the table, and the parent's context with that span attached
+  pub record Enters (context_of : S → SpanContextRecord) (parent : ContextRecord) (span : S)
+      (old : StackState) (spans : SpansState S)
+      (new : StackState) (new_spans : SpansState S) (entered : Entered) : Type 0 where
+    pub context : entered.context ≡ with_span parent (context_of span) spans.next_number
+    pub number : entered.number ≡ spans.next_number
+    pub attached : AttachesAt entered.position entered.context old new
+    pub inserted : new_spans ≡ insert spans span
+
+  -- the body ran once in the context that was entered, which was then detached
+  pub record RunsAt {Out : Type 0} (may_leave : MayLeave S Out) (entered : Entered)
+      (old : StackState) (spans : SpansState S)
+      (new : StackState) (new_spans : SpansState S) (answer : Out × ℕ) : Type 0 where
+    pub left : StackState
+    pub ran : may_leave old spans entered.context answer.0 left new_spans
+    pub removed : Option ContextRecord
+    pub detached : Detaches entered.position left new removed
+    pub number : answer.1 ≡ entered.number
 
   -- the error contains the span that was built, and the table has the same spans
   pub record IsRefused (MayBuild : S → Type 0) (old new : SpansState S) (refused : SpanRefused S)

@@ -1,9 +1,11 @@
 //! Work that runs in a span.
-ghost use Rattle.std.specs.Prelude.{◌≡◌, IfOk, IfErr, IsErr, OnOk, OnErr};
+ghost use Rattle.std.specs.Prelude.{◌≡◌, Some, alloc_error, IfOk, IfErr, IsErr, OnOk, OnErr};
 ghost use Rattle.otel_context.specs.Active.{AttachesAt};
-ghost use Rattle.otel_context.specs.Context.{with_span};
-ghost use Rattle.otel_context.specs.Spans.{HasSameSpans, insert, used_up, refusal};
+ghost use Rattle.otel_context.specs.Spans.{HasSameSpans, get, take, used_up, refusal};
+ghost use Rattle.otel_context.specs.Stack.{current};
+ghost use Rattle.otel_context.specs.declared.span.spans.SpanCause.TheVariants as Cause;
 ghost use Rattle.opentelemetry.specs.Closure.{CallLeaves};
+ghost use Rattle.opentelemetry.specs.InSpan.{Holds, Enters, RunsAt};
 
 use otel_context::{Context, ContextStack, Span, SpanCause, SpanRefused, Spans};
 use std::alloc::{AllocError, Global};
@@ -171,11 +173,8 @@ pub(crate) fn enter<S: Span>(
     parent: &Context,
     span: S,
 ) -> Result<Entered, SpanRefused<S>>
-    ensures context { IfOk result (λ e.
-        e.context ≡ with_span parent.now (S.context_of span) spans.old.next_number) }
-    ensures number { IfOk result (λ e. e.number ≡ spans.old.next_number) }
-    ensures attached { IfOk result (λ e. AttachesAt e.position e.context stack.old stack.new) }
-    ensures inserted { OnOk result (spans.new ≡ insert spans.old span) }
+    ensures entered { IfOk result (λ e.
+        Enters S.context_of parent.now span stack.old spans.old stack.new spans.new e) }
     ensures same_stack { OnErr result (stack.new ≡ stack.old) }
     ensures same_spans { OnErr result (HasSameSpans spans.old spans.new) }
     ensures used_up { spans.old.next_number ≡ used_up
@@ -183,10 +182,53 @@ pub(crate) fn enter<S: Span>(
     ensures refused { IfErr result (λ refused. refused ≡ refusal spans.old span) }
 {
     let number = spans.next_number();
-    let context = match parent.with_span(alloc, spans, span) {
-        Ok(context) => context,
-        Err(refused) => return Err(refused),
-    };
+    match parent.with_span(alloc, spans, span) {
+        Ok(context) => attach_span(stack, spans, number, context),
+        Err(refused) => Err(refused),
+    }
+}
+
+/// Does the same with the current context as the parent, which needn't be cloned.
+#[inline(always)]
+pub(crate) fn enter_current<S: Span>(
+    alloc: Global,
+    stack: &mut ContextStack,
+    spans: &mut Spans<S>,
+    span: S,
+) -> Result<Entered, SpanRefused<S>>
+    ensures entered { IfOk result (λ e. Enters S.context_of (current stack.old.live) span
+        stack.old spans.old stack.new spans.new e) }
+    ensures same_stack { OnErr result (stack.new ≡ stack.old) }
+    ensures same_spans { OnErr result (HasSameSpans spans.old spans.new) }
+    ensures used_up { spans.old.next_number ≡ used_up
+        → IsErr result × (spans.new ≡ spans.old) }
+    ensures refused { IfErr result (λ refused. refused ≡ refusal spans.old span) }
+{
+    let number = spans.next_number();
+    match stack.current().with_span(alloc, spans, span) {
+        Ok(context) => attach_span(stack, spans, number, context),
+        Err(refused) => Err(refused),
+    }
+}
+
+/// Attaches a copy of the context of the span with the number. If out of memory, takes the span.
+#[inline(always)]
+fn attach_span<S: Span>(
+    stack: &mut ContextStack,
+    spans: &mut Spans<S>,
+    number: u64,
+    context: Context,
+) -> Result<Entered, SpanRefused<S>>
+    requires found { Holds spans.now number }
+    ensures context { IfOk result (λ e. e.context ≡ context) }
+    ensures number { IfOk result (λ e. e.number ≡ number) }
+    ensures attached { IfOk result (λ e. AttachesAt e.position context stack.old stack.new) }
+    ensures inserted { OnOk result (spans.new ≡ spans.old) }
+    ensures same_stack { OnErr result (stack.new ≡ stack.old) }
+    ensures taken { OnErr result (spans.new ≡ take spans.old number) }
+    ensures refused { IfErr result (λ refused. (get spans.old number ≡ Some refused.span)
+        × (refused.cause ≡ Cause.Memory alloc_error)) }
+{
     match attach_copy(stack, &context) {
         Ok(position) => Ok(Entered {
             context,
@@ -201,4 +243,25 @@ pub(crate) fn enter<S: Span>(
             None => unreachable!(),
         },
     }
+}
+
+/// Runs the body in the context that was entered, and removes whatever is attached at its position
+/// then. Returns the body's result and the span's number.
+pub(crate) fn run_entered<S: Span, F: SpanBody<S>>(
+    stack: &mut ContextStack,
+    spans: &mut Spans<S>,
+    entered: Entered,
+    f: F,
+) -> (F::Out, u64)
+    requires { F.can_call f }
+    ensures { RunsAt (F.may_leave f) entered stack.old spans.old stack.new spans.new result }
+{
+    let Entered {
+        context,
+        number,
+        position,
+    } = entered;
+    let answer = f.call(stack, spans, context);
+    stack.pop_id(position);
+    (answer, number)
 }

@@ -7,7 +7,7 @@ ghost use Rattle.opentelemetry.specs.InSpan.{RanInSpan, RanUnderCurrent};
 ghost use Rattle.opentelemetry.specs.InSpan.{NotStarted, NotStartedOn};
 ghost use Rattle.opentelemetry.specs.View.{builder_of};
 
-use crate::trace::in_span::{Entered, SpanBody, StartError, enter};
+use crate::trace::in_span::{SpanBody, StartError, enter, enter_current, run_entered};
 use crate::trace::span_builder::SpanBuilder;
 use otel_base::StringValue;
 use otel_context::{Context, ContextStack, Span, Spans};
@@ -139,14 +139,7 @@ pub trait Tracer {
             Ok(entered) => entered,
             Err(refused) => return Err(StartError::Refused(refused)),
         };
-        let Entered {
-            context,
-            number,
-            position,
-        } = entered;
-        let answer = f.call(stack, spans, context);
-        stack.pop_id(position);
-        Ok((answer, number))
+        Ok(run_entered(stack, spans, entered, f))
     }
 
     /// Runs a body in a span named `name`, with the given parent context, as
@@ -201,13 +194,15 @@ pub trait Tracer {
         ensures used_up { spans.old.next_number ≡ used_up
             → IsErr result × (spans.new ≡ spans.old) }
     {
-        let copied: Result<_, _> = stack.current().clone();
-        match copied {
-            Ok(parent) => self.in_span_with_builder_and_context(
-                alloc, stack, spans, builder, &parent, f,
-            ),
-            Err(error) => Err(StartError::Build(error)),
-        }
+        let span = match self.build_with_context(alloc, builder, stack.current()) {
+            Ok(span) => span,
+            Err(error) => return Err(StartError::Build(error)),
+        };
+        let entered = match enter_current(alloc, stack, spans, span) {
+            Ok(entered) => entered,
+            Err(refused) => return Err(StartError::Refused(refused)),
+        };
+        Ok(run_entered(stack, spans, entered, f))
     }
 
     /// Runs a body in a span named `name`, with the current context as its parent, as

@@ -1,8 +1,10 @@
+use Rattle.std.proofs.Common.{◌∙◌}
 use Rattle.opentelemetry.proofs.trace.tracer.Tracer.in_span_with_builder_and_context.Goals as goal
 
 pub returns-clause-ran : goal.returns-clause-ran
 returns-clause-ran g c =
-    let entered = c.in-Ok-enter.ensures in
+    let entered = c.in-Ok-enter.ensures.entered in
+    let run = c.run_entered.ensures in
     record {
       span = c.in-Ok.span;
       built = c.in-Ok.ensures;
@@ -11,9 +13,9 @@ returns-clause-ran g c =
       of_parent = entered.context;
       lent = c.enter.new.stack;
       attached = entered.attached;
-      left = c.call-answer.new.stack;
-      ran = rw entered.inserted at c.call-answer.ensures;
-      removed = c.pop_id.result;
-      detached = c.pop_id.ensures;
-      number = entered.number;
+      left = run.left;
+      ran = rw entered.inserted at run.ran;
+      removed = run.removed;
+      detached = run.detached;
+      number = run.number ∙ entered.number;
     }
