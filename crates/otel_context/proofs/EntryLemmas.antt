@@ -101,7 +101,7 @@ other_name q e slot out =
     (cases_Bool (bytes_eq q e.value.key))
 
 -- a text isn't found among the first n if none of them is in its slot
-pub find_none : (q : List ℕ) (es : List (Rc Entry Global)) (n : ℕ) → AreInSlots es
+find_none : (q : List ℕ) (es : List (Rc Entry Global)) (n : ℕ) → AreInSlots es
     → ((k : ℕ) → k < n → k < length es → slice_index (slots es) k ≡ slot_number q → ⊥) → find text_cmp q (pairs (take n es)) ≡ None
 find_none q [] zero h out = refl
 find_none q [] (suc n) h out = refl
@@ -110,8 +110,8 @@ find_none q (e ∷ es) (suc n) h out =
     find_later e (take n es) q (other_name q e (All-head InSlot e es h) (out 0 (omega arith) (omega arith)))
     ∙ find_none q es n (All-tail InSlot e es h) (λ k a b. out (suc k) (omega arith) (omega arith))
 
--- entries in other slots can be cut off
-pub find_cut : (q : List ℕ) (es : List (Rc Entry Global)) (n : ℕ) → AreInSlots es
+-- entries in other slots can be left out
+find_cut : (q : List ℕ) (es : List (Rc Entry Global)) (n : ℕ) → AreInSlots es
     → ((k : ℕ) → n ≤ k → k < length es → slice_index (slots es) k ≡ slot_number q → ⊥)
     → find text_cmp q (pairs es) ≡ find text_cmp q (pairs (take n es))
 find_cut q [] zero h out = refl
@@ -139,10 +139,6 @@ find_step q es i e within is other =
 -- a slot's number
 pub slot_below : (q : List ℕ) → slot_number q < 64
 slot_below q = mod_below _ 64 (omega arith)
-
-pub slot_within : (es : List (Rc Entry Global)) (i : ℕ) (e : Rc Entry Global) → AreInSlots es → i < length es → e ≡ get_or es i e → e.value.slot < 64
-slot_within es i e h w is =
-    subst (λ n. n < 64) (sym (subst InSlot (sym is) (All-get_or InSlot es i e w h))) (slot_below e.value.key)
 
 first : (a b : Bool) → T (a && b) → T a
 first true b h = tt
@@ -186,7 +182,7 @@ slot_at [] k d h = absurd (omega arith)
 slot_at (e ∷ es) zero d h = refl
 slot_at (e ∷ es) (suc k) d h = slot_at es k d (omega arith)
 
-pub slots-AllZip : (es fs : List (Rc Entry Global)) → AllZip (λ e f. f.value ≡ e.value) es fs → slots fs ≡ slots es
+slots-AllZip : (es fs : List (Rc Entry Global)) → AllZip (λ e f. f.value ≡ e.value) es fs → slots fs ≡ slots es
 slots-AllZip [] [] h = refl
 slots-AllZip [] (f ∷ fs) h = absurd h
 slots-AllZip (e ∷ es) [] h = absurd h

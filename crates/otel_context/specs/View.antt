@@ -61,8 +61,8 @@ IsRising entries = T (is_sorted text_cmp (rows entries))
 abbrev pub AreInSlots : List (Rc Entry Global) → Type 0
 AreInSlots = All (λ e. e.value.slot ≡ slot_number e.value.key)
 
--- of the first n slots, the one at this index is the last s; 254 stands for each index from
--- there on, and 255 for none
+-- the last s of the first n slots is at this index, or at 254 or above if this is 254, or nowhere
+-- if this is 255
 abbrev pub IsLast : List ℕ → ℕ → ℕ → ℕ → Type 0
 IsLast slots n s last =
     (last < 255 → last < n)
