@@ -2,7 +2,8 @@
 name, in the crate and in the crates below.
 
 The prover knows of another function only its contract, and of another file only what it can name. So the texts are the source itself
-and the proofs of its functions, whole; of every other source only what is outside the bodies of functions; and the files of
+and the proofs of its functions, whole; of every other source of the crate only what is outside the bodies of functions; of a
+source of a crate below only what is public: no private function or field, and of a type's model only its values; and the files of
 specs/ and proofs/ that are imported. Whether a file is named is read from its imports, and from the `impl`s of the types and traits
 in the files that are: such a source is taken too.
 """
@@ -17,6 +18,10 @@ from functions import functions
 
 # How a line begins on which no proof depends, a comment or a hint, by the ending of the file.
 SKIPPED = {".rt": ("//", "#[inline"), ".antt": "--"}
+# An import of a source that isn't exported.
+IMPORT = r"(?m)^ *(?:pub\(\w+\) |ghost )?use ([^;]*);\n?"
+# How the line of a private type or constant begins.
+PRIVATE = r"(?:pub\(\w+\) )?(?:struct|enum|union|type|const|static)\b"
 # The lists of modules, which grow with the crate.
 LIST = "Lib.antt"
 # An item of a source that has a name.
@@ -41,6 +46,123 @@ def without_bodies(file, text):
         if opens is not None:
             del lines[it.begin + opens + 1 : it.end]
     return "\n".join(lines)
+
+
+def is_public(line):
+    return line.lstrip().startswith("pub ")
+
+
+def without_private(file, text):
+    """The text of a source without its private functions, types, constants and fields, and without the members of a model but
+    `Value`: other crates can name none of these."""
+    lines = text.split("\n")
+    for it in reversed(list(functions(file, text))):
+        if not (it.is_of_trait or is_public(lines[it.begin])):
+            del lines[it.begin : it.end + 1]
+    kept, block, is_kept = [], "", True
+    for line in lines:
+        if re.match(r"[^\s})]", line):
+            found = re.match(r"pub struct\b|impl\b.*\bModel for\b", line)
+            block, is_kept = found[0][:4] if found and line.endswith("{") else "", not re.match(PRIVATE, line)
+            while not is_kept and kept and kept[-1].startswith("#["):
+                kept.pop()
+            line = re.sub(r"^(pub struct \w+[^({]*)\((?!pub ).*", r"\1", line)
+        elif block == "pub ":
+            is_kept = is_public(line)
+        elif block and (member := re.match(r" {4}ghost (\w+)", line)):
+            is_kept = member[1] in ("use", "Value")
+        if is_kept and line:
+            kept.append(line)
+    return re.sub(r"(?m)^impl.*\{\n\}\n", "", "\n".join([*kept, ""]))
+
+
+def without_imports(text):
+    """The text of a source without its imports. The ones that it exports are kept."""
+    return re.sub(IMPORT, "", text)
+
+
+def without_unused(text):
+    """The text of a source without the imports that nothing else in it names."""
+    words = {*re.findall(r"\w+", without_imports(text))}
+
+    def used(found):
+        names = re.findall(r"[^\s.:{},]+(?=\s*(?:[},]|$))", found[1])
+        return found[0] if any(not it.isidentifier() or it in words for it in names) else ""
+    return re.sub(IMPORT, used, text)
+
+
+class Part:
+    """A definition of a file of specs/ or proofs/: its names, with the ones of its cases, and its text. A part without names, such
+    as the head of a module, is named by all."""
+
+    def __init__(self, names, lines):
+        self.names, self.text = names, "".join(f"{line}\n" for line in lines)
+        # Without the variables of its equations.
+        sides = (line.partition("=") for line in lines if not re.match(r" *abbrev | *pub | {4}", line))
+        bound = {it for left, equals, _ in sides if equals and ":" not in left for it in words(left) if it[:1].islower()}
+        self.words = words(self.text) - (bound - names)
+
+
+@functools.cache
+def words(text):
+    """The words of a text, as far as a name can be one of them."""
+    return frozenset(text.split()) | frozenset(re.split(r"[\s(){}\[\];,.:&<>|!*=]+", text))
+
+
+@functools.cache
+def parts(text):
+    """The definitions of a file of specs/ or proofs/, without its imports."""
+    found, indent = [], 0
+    for line in text.split("\n"):
+        own = re.match(r"( *)(?:abbrev |pub |record |data )*(\w[^\s:({]*)", line)
+        name = own[2] if own and len(own[1]) in (0, indent) else "unfolding"
+        if name in ("module", "mutual", "use"):
+            indent = 0 if name == "use" else 2
+            found.append((None if name == "use" else set(), [line]))
+        elif name != "unfolding":
+            indent = len(own[1])
+            if not found or name not in (found[-1][0] or ()):
+                found.append((set() if "◌" in line.partition("=")[0] else {name}, []))
+            found[-1][1].append(line)
+        elif found:
+            names, lines = found[-1]
+            if names and "data " in lines[0]:
+                names |= {*re.findall(r"^ +(\w\S*) :", line)}
+            lines.append(line)
+    return [Part(*it) for it in found if it[0] is not None]
+
+
+@functools.cache
+def listed(path, is_own):
+    """The names that this file imports from files of specs/ or proofs/, by file: each with its name there. A file of which it
+    imports more than names has none."""
+    found, text = {}, read(path) if is_own else interface(path, is_own)
+    for it, tail, names in re.findall(r"\bRattle\.(\w+)((?:\.[\w+-]+)*)(?:\.\{([^}]*)\})?", text):
+        file = crate(it).home(tail.strip(".").split(".")) if it in crates() else None
+        if file and file.endswith(".antt"):
+            pairs = [(*leaf.split(" as "), leaf)[:2] for leaf in map(str.strip, names.split(","))]
+            known = found.get(file, {})
+            found[file] = known | {new: old for old, new in pairs} if names and known is not None else None
+    return found
+
+
+def without_unnamed(texts, name):
+    """These texts, without the definitions and imports of other crates that none of the texts which import them names."""
+    left = {it: parts(text) for it, text in texts.items() if it.endswith(".antt") and crate_of(it) != name}
+    found, kept = {it: set() for it in left}, {it: [] for it in left}
+    due = [(it, words(text)) for it, text in texts.items() if it not in left]
+    while due:
+        path, more = due.pop()
+        for it, names in {**listed(path, crate_of(path) == name), path: None}.items():
+            if it in left:
+                found[it] |= more if names is None else {old for new, old in names.items() if new in more or "◌" in new}
+                for part in left[it]:
+                    if part not in kept[it] and (not part.names or part.names & found[it]):
+                        kept[it].append(part)
+                        due.append((it, part.words))
+    for it in left:
+        texts[it] = "".join(part.text for part in left[it] if part in kept[it])
+    return {it: text if crate_of(it) == name or it in left else without_imports(text) for it, text in texts.items()}
 
 
 @functools.cache
@@ -112,7 +234,11 @@ def leaves(text):
 @functools.cache
 def imports(path, module, name):
     """The paths that a source of this module and crate imports or names, each a list of words that begins with a crate."""
-    text = read(path)
+    return paths_of(read(path), module, name)
+
+
+def paths_of(text, module, name):
+    """The same of a text."""
     found = [leaf for it in re.findall(r"(?m)^\s*(?:pub(?:\(\w+\))? )?use ([^;]*);", text) for leaf in leaves(it)]
     found += re.findall(r"\b(?:crate|super)(?:::\w+)+(?!\w|::)", text)
     paths = []
@@ -140,18 +266,24 @@ def of_functions(path, of):
 
 
 @functools.cache
-def interface(path):
-    """The text of a file that other files can name."""
-    return without_bodies(path.partition("/src/")[2], read(path)) if path.endswith(".rt") else read(path)
+def interface(path, is_own):
+    """The text of a file that other files can name: of the same crate, or of the crates above."""
+    if not path.endswith(".rt"):
+        return read(path)
+    file, text = path.partition("/src/")[2], read(path)
+    if is_own:
+        return without_bodies(file, text)
+    text = without_private(file, text)
+    return without_unused(without_bodies(file, text))
 
 
 @functools.cache
-def named(path):
-    """The files of our crates that this one names."""
-    name = crate_of(path)
-    paths = [[it, *tail.strip(".").split(".")] for it, tail in re.findall(r"\bRattle\.(\w+)((?:\.[\w+-]+)*)", read(path))]
+def named(path, is_own):
+    """The files of our crates that this one names, or what other crates can name of it."""
+    name, text = crate_of(path), read(path) if is_own else interface(path, is_own)
+    paths = [[it, *tail.strip(".").split(".")] for it, tail in re.findall(r"\bRattle\.(\w+)((?:\.[\w+-]+)*)", text)]
     if path.endswith(".rt"):
-        paths += imports(path, next(it for it, source in crate(name).sources.items() if source == path), name)
+        paths += paths_of(text, next(it for it, source in crate(name).sources.items() if source == path), name)
     found = {crate(it[0]).home(it[1:]) for it in paths if it[0] in crates()}
     return frozenset(it for it in found if it and os.path.basename(it) != LIST)
 
@@ -183,10 +315,11 @@ def texts_of(name, file):
         while due:
             path = due.pop()
             found.add(path)
-            due |= named(path) - found
+            due |= named(path, crate_of(path) == name) - found
         known = frozenset().union(*(declared(it) for it in found if it.endswith(".rt")))
         due = {it for it in sources if it not in found and any(header & known and header & ours <= known for header in implemented(it))}
-    return {it: read(it) if it == own else interface(it) for it in sorted(found)}
+    texts = {it: read(it) if it == own else interface(it, crate_of(it) == name) for it in sorted(found)}
+    return without_unnamed(texts, name)
 
 
 def crate_of(path):
