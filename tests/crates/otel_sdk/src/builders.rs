@@ -86,3 +86,42 @@ fn help_names_each_variable(rt: HostRuntime) -> Result<(), Fail> {
     }
     Ok(())
 }
+
+/// The default that stands in parentheses at the end of a line of the help, unless it is another
+/// variable.
+fn default_in(line: &str) -> Option<&str> {
+    let (_, default) = line.strip_suffix(")")?.rsplit_once('(')?;
+    if default.starts_with("OTEL_") {
+        None
+    } else {
+        Some(default)
+    }
+}
+
+/// The configuration of these variables, as `Debug` prints it.
+fn printed(alloc: Global, vars: &[(&str, &str)]) -> Result<String, Fail> {
+    let config = config(alloc, vars)?;
+    Ok(format!(in alloc; "{config:?}")?)
+}
+
+#[test]
+fn help_tells_the_defaults(rt: HostRuntime) -> Result<(), Fail> {
+    let alloc = rt.alloc();
+    let unset = printed(alloc, &[])?;
+    let mut name = "";
+    let mut told = 0;
+    for line in EnvConfig::HELP.lines() {
+        if let Some((word, _)) = line.split_once(' ')
+            && !word.is_empty()
+        {
+            name = word;
+        }
+        if let Some(default) = default_in(line) {
+            let set = printed(alloc, &[(name, default)])?;
+            assert_eq!(rt; set.as_str(), unset.as_str(), "{name}");
+            told += 1;
+        }
+    }
+    assert_eq!(rt; told, 21);
+    Ok(())
+}

@@ -3,7 +3,7 @@
 use opentelemetry::propagation::PropagationError;
 use opentelemetry::trace::{SpanCause, SpanRefused, StartError};
 use otel_sdk::error::{OTelSdkError, OTelSdkResult};
-use otel_sdk::trace::{EndRefused, NotEntered};
+use otel_sdk::trace::{EndRefused, IdError, NotEntered};
 use std::alloc::{AllocError, Global};
 use std::io;
 use std::test::Fail;
@@ -133,6 +133,25 @@ fn a_refused_end_prints_its_error(rt: HostRuntime) -> Result<(), Fail> {
     for (error, text) in rows {
         let refused = EndRefused { span: None, error };
         assert_eq!(rt; refused.to_string(alloc)?.as_str(), text);
+    }
+    Ok(())
+}
+
+#[test]
+fn a_span_that_was_not_entered_and_ids_print_why(rt: HostRuntime) -> Result<(), Fail> {
+    let alloc = rt.alloc();
+    for (error, text) in [
+        (NotEntered::NumbersUsedUp, "no span number left"),
+        (NotEntered::PositionsUsedUp, "no position left"),
+        (NotEntered::Memory(AllocError), "no memory"),
+    ] {
+        assert_eq!(rt; error.to_string(alloc)?.as_str(), text);
+    }
+    for (error, text) in [
+        (IdError::Zero, "no valid id was drawn"),
+        (IdError::Source, "the source of random numbers failed"),
+    ] {
+        assert_eq!(rt; error.to_string(alloc)?.as_str(), text);
     }
     Ok(())
 }

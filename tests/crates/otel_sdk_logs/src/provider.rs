@@ -237,6 +237,9 @@ fn records_that_meet_a_busy_processor_are_counted(rt: HostRuntime) -> Result<(),
     assert!(rt; logger.event_enabled(Severity::Info, "t", None));
     emit(alloc, &logger, 1)?;
     emit(alloc, &logger, 2)?;
+    for answer in [provider.force_flush(), provider.shutdown()] {
+        assert!(rt; is_failure(answer, "the processor is at work"));
+    }
     drop(busy);
     assert_eq!(rt; provider.dropped_records(), 2);
     emit(alloc, &logger, 3)?;
