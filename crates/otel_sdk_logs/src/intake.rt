@@ -7,6 +7,7 @@ ghost use Rattle.otel_sdk_logs.specs.Processor.{SaysAtWork};
 
 use crate::export::LogData;
 use crate::processor::LogProcessor;
+use crate::record::SdkLogRecord;
 use opentelemetry::logs::Severity;
 use otel_sdk_base::Clock;
 use otel_sdk_base::error::{OTelSdkError, OTelSdkResult};
@@ -25,13 +26,15 @@ pub trait RecordIntake: LogProcessor {
     ghost use Rattle.otel_base.specs.declared.severity.Severity.{Severity};
     ghost use Rattle.otel_sdk_base.specs.Resource.{Parts};
     ghost use Rattle.otel_sdk_base.specs.declared.error.OTelSdkError.{OTelSdkError};
-    ghost use Rattle.otel_sdk_logs.specs.LogRecord.{LogEntry};
+    ghost use Rattle.otel_sdk_logs.specs.LogRecord.{LogEntry, LogState};
 
     ghost is_taken: { LogEntry → Type 0 };
 
     ghost is_counted: { Type 0 };
 
     ghost is_unmade: { Type 0 };
+
+    ghost is_left_out: { LogState → Type 0 };
 
     ghost is_wanted: { Severity → List ℕ → Option (List ℕ) → Type 0 };
 
@@ -68,6 +71,10 @@ pub trait RecordIntake: LogProcessor {
     /// Counts a record for whose scope there is no memory, up to `u64::MAX`.
     fn count_unmade(missed: &Cell<u64>, error: AllocError)
         ensures { is_unmade };
+
+    /// Drops a record that no processor is to receive. It isn't counted.
+    fn leave_out(emitted: SdkLogRecord)
+        ensures { is_left_out emitted };
 
     /// Returns `true` if the processor is open and wants records with this severity, target and
     /// event name: see [`LogProcessor::event_enabled`].
@@ -148,6 +155,8 @@ impl<P: LogProcessor> RecordIntake for P {
 
     ghost is_unmade = { Unit {0} };
 
+    ghost is_left_out = { λ _. Unit {0} };
+
     ghost is_wanted = { λ _ _ _. Unit {0} };
 
     ghost is_unwanted = { λ _ _ _. Unit {0} };
@@ -179,6 +188,8 @@ impl<P: LogProcessor> RecordIntake for P {
     fn count_unmade(missed: &Cell<u64>, _error: AllocError) {
         missed.set(missed.get().saturating_add(1));
     }
+
+    fn leave_out(_emitted: SdkLogRecord) {}
 
     fn wants(&self, severity: Severity, target: &str, name: Option<&str>) -> bool {
         self.is_open() && self.event_enabled(severity, target, name)

@@ -3,7 +3,7 @@ ghost use Rattle.std.specs.Prelude.{◌≡◌, ◌⊎◌, true, false, IfOk, IsT
 ghost use Rattle.std.specs.Option.{unwrap_or};
 ghost use Rattle.otel_context.specs.Context.{is_telemetry_suppressed, span_context};
 ghost use Rattle.otel_sdk_logs.specs.LogRecord.{IsEmitted, IsInSpan};
-ghost use Rattle.otel_sdk_logs.specs.Processor.{IsHandedIn, IsHandedInFrom, asked};
+ghost use Rattle.otel_sdk_logs.specs.Processor.{IsHandedIn, IsHandedInFrom, IsHandedOver, asked};
 
 use crate::export::LogData;
 use crate::intake::RecordIntake;
@@ -88,14 +88,11 @@ impl<P: RecordIntake, C: Clock> SdkLogger<P, C> {
         })
     }
 
-    /// Hands the record to the provider's processor, or counts it. Does nothing if the logger is
-    /// disabled.
+    /// Hands the record to the provider's processor, or counts it.
     fn hand_over(&self, emitted: SdkLogRecord)
-        ensures { IsHandedIn self.now emitted P.may_show P.is_taken P.is_counted P.is_unmade }
+        ensures { IsHandedOver (IsEmitted P.may_show emitted self.now.scope)
+            P.is_taken P.is_counted P.is_unmade }
     {
-        if self.provider.is_disabled {
-            return;
-        }
         match self.data_of(emitted) {
             Ok(given) => self.provider.hand_in(given),
             Err(error) => P::count_unmade(&self.provider.dropped_records, error),
@@ -103,13 +100,17 @@ impl<P: RecordIntake, C: Clock> SdkLogger<P, C> {
     }
 
     /// Emits the record in the context, as the Rust crate's `emit` does in the thread's context. A
-    /// record without a span gets the active span of the context. Does nothing if telemetry is
-    /// suppressed in the context. Not in the Rust crate.
+    /// record without a span gets the active span of the context. Drops the record if telemetry is
+    /// suppressed in the context, or if the logger is disabled. Not in the Rust crate.
     pub fn emit_in(&self, context: &Context, emitted: SdkLogRecord)
-        ensures { IsHandedInFrom context.now self.now emitted
+        ensures handed_in { IsHandedInFrom context.now self.now emitted
             P.may_show P.is_taken P.is_counted P.is_unmade }
+        ensures suppressed { IsTrue (is_telemetry_suppressed context.now) → P.is_left_out emitted }
+        ensures disabled { IsTrue self.now.is_disabled → P.is_left_out emitted }
     {
-        if !context.is_telemetry_suppressed() {
+        if self.provider.is_disabled || context.is_telemetry_suppressed() {
+            P::leave_out(emitted);
+        } else {
             self.hand_over(in_context(emitted, context));
         }
     }
@@ -153,12 +154,18 @@ where
     }
 
     /// Hands the record to the provider's processor. Sets the observed time to now, unless it is
-    /// already set. Knows no context: see [`SdkLogger::emit_in`].
+    /// already set. Drops the record if the logger is disabled. Knows no context: see
+    /// [`SdkLogger::emit_in`].
     fn emit(&self, emitted: SdkLogRecord)
-        ensures { IsHandedIn self.now emitted P.RecordIntake.may_show
+        ensures handed_in { IsHandedIn self.now emitted P.RecordIntake.may_show
             P.RecordIntake.is_taken P.RecordIntake.is_counted P.RecordIntake.is_unmade }
+        ensures disabled { IsTrue self.now.is_disabled → P.RecordIntake.is_left_out emitted }
     {
-        self.hand_over(emitted);
+        if self.provider.is_disabled {
+            P::leave_out(emitted);
+        } else {
+            self.hand_over(emitted);
+        }
     }
 
     /// Returns `true` if the provider's processor is open and wants such records. Knows no context:
