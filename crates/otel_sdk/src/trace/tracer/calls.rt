@@ -23,7 +23,8 @@ pub trait TracerCalls: Clock {
 
     /// Returns the current time, as [`Clock::now`].
     fn show(&self) -> u64
-        ensures { may_show result };
+        ensures shown { may_show result }
+        ensures read { Self.reads self.now result };
 
     /// Returns the flag.
     fn read(flag: &Cell<bool>) -> bool

@@ -1,6 +1,7 @@
 //! How a `Tracing` reads and writes the headers of requests.
-ghost use Rattle.std.specs.Prelude.{◌≡◌, OnErr, IfOk};
+ghost use Rattle.std.specs.Prelude.{◌≡◌, IfOk, IsTrue, OnErr};
 ghost use Rattle.opentelemetry.specs.Injection.{InjectsBy};
+ghost use Rattle.opentelemetry.specs.Refusal.{is_refused};
 ghost use Rattle.otel_sdk.specs.Tracing.{AttachesContext, current};
 
 use super::{Attached, Tracing};
@@ -23,6 +24,7 @@ impl<P: Pipeline, E: SpanExporter> Tracing<P, E> {
         ensures received { IfOk result (AttachesContext (T.extracted propagator.now
             (current self.old) (texts extractor.now)) self.old self.new) }
         ensures same { OnErr result (self.new ≡ self.old) }
+        ensures refused { IsTrue (is_refused result) → IsTrue (T.may_refuse propagator.now) }
     {
         let context = propagator.extract_with_context(self.alloc, self.stack.current(), extractor)?;
         Ok(self.attach(context)?)
