@@ -11,8 +11,6 @@ use Rattle.otel_waterfall.specs.Picture.{HasEachSpan, spans_of, least_start, gre
 use Rattle.otel_waterfall.specs.Rows.{AreDrawnOnce, rows_of}
 use Rattle.otel_waterfall.specs.declared.page.PageSpan.{PageSpan}
 use Rattle.otel_waterfall.specs.declared.page.PageTrace.{PageTrace}
-use Rattle.otel_waterfall.specs.declared.page.TheConstants.{CELLS}
-use Rattle.otel_waterfall.specs.declared.page.style.TheConstants.{HEAD}
 use Rattle.otel_waterfall.specs.declared.rows.Row.{Row}
 use Rattle.otel_waterfall.specs.declared.span.Span.{Span}
 use Rattle.otel_waterfall.proofs.Traces.{has_each_span}
@@ -34,13 +32,13 @@ pub trace_shape : (alone : Bool) (trace : PageTrace) (spans : List Look) (rs : L
     → o ≡ spec.opening alone
     → a ≡ old ++ o
     → b ≡ a ++ spec.head trace from to count errors first
-    → c ≡ b ++ spec.rows CELLS from top ps rs
+    → c ≡ b ++ spec.rows spec.cells from top ps rs
     → new ≡ c ++ codes "</details>\n"
     → new ≡ old ++ spec.trace_with alone trace spans rs
 trace_shape alone trace spans rs ps from to top count errors first o old a b c new count_is from_is to_is errors_are top_is first_is ps_are o_is opened headed rowed ended =
     let own = spans_of trace.trace_id spans in
-    let shape = λ (o' : List ℕ) (f t p k e i : ℕ) (s : List PageSpan). old ++ (o' ++ (spec.head trace f t k e i ++ (spec.rows CELLS f p s rs ++ codes "</details>\n"))) in
-    joined old o (spec.head trace from to count errors first) (spec.rows CELLS from top ps rs) (codes "</details>\n") a b c new opened headed rowed ended
+    let shape = λ (o' : List ℕ) (f t p k e i : ℕ) (s : List PageSpan). old ++ (o' ++ (spec.head trace f t k e i ++ (spec.rows spec.cells f p s rs ++ codes "</details>\n"))) in
+    joined old o (spec.head trace from to count errors first) (spec.rows spec.cells from top ps rs) (codes "</details>\n") a b c new opened headed rowed ended
     ∙ ap (λ (x : List ℕ). shape x from to top count errors first ps) o_is
     ∙ ap (λ (x : List PageSpan). shape (spec.opening alone) from to top count errors first x) ps_are
     ∙ ap (λ (x : ℕ). shape (spec.opening alone) from to top count errors x trace.spans.items) first_is
@@ -64,18 +62,20 @@ adds_trace alone trace drawn rs old new looks_are once rows_are grown = record {
 }
 
 -- ---- traces
-pub no_traces : (alone : Bool) (text : List ℕ) → text ≡ HEAD.now → spec.AreTraces alone [] text
-no_traces alone text e = record { once = All-nil spec.HasEachSpan; is = e ∙ sym (append-nil HEAD.now) }
+pub no_traces : (alone : Bool) (text : List ℕ) → spec.IsHead text → spec.AreTraces alone [] text
+no_traces alone text h = record { head = text; is_head = h; once = All-nil spec.HasEachSpan; is = sym (append-nil text) }
 
 pub traces_more : (alone : Bool) (traces : List PageTrace) (trace : PageTrace) (old new : List ℕ) → spec.AreTraces alone traces old → spec.AddsTrace alone trace old new → spec.AreTraces alone (traces ++ trace ∷ []) new
 traces_more alone traces trace old new p adds =
     let f = spec.trace_text alone in
     record {
+      head = p.head;
+      is_head = p.is_head;
       once = All-append spec.HasEachSpan traces (trace ∷ []) p.once (All-cons spec.HasEachSpan trace [] adds.once (All-nil spec.HasEachSpan));
       is =
           adds.is ∙ ap (λ (x : List ℕ). x ++ f trace) p.is
-          ∙ append_assoc HEAD.now (flat_map f traces) (f trace)
-          ∙ ap (λ (x : List ℕ). HEAD.now ++ x)
+          ∙ append_assoc p.head (flat_map f traces) (f trace)
+          ∙ ap (λ (x : List ℕ). p.head ++ x)
           (ap (λ (x : List ℕ). flat_map f traces ++ x) (sym (append-nil (f trace))) ∙ sym (flat_map-append f traces (trace ∷ [])));
     }
 

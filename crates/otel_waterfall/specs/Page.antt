@@ -2,7 +2,7 @@
 use Rattle.std.specs.Prelude.{◌≡◌, ℕ, ◌==◌, max, if◌then◌else◌, codes, Bool, true, false, ◌&&◌}
 use Rattle.std.specs.Prelude.{List, [], ◌∷◌, ◌++◌, length, map, count_by, slice_get, All}
 use Rattle.std.specs.Fmt.{decimal}
-use Rattle.std.specs.List.{flat_map}
+use Rattle.std.specs.List.{flat_map, list_any}
 use Rattle.std.specs.Option.{option_map_or}
 use Rattle.otel_ids.specs.Ids.{id_text}
 use Rattle.otel_waterfall.specs.Drawn.{Look, look_of}
@@ -13,8 +13,7 @@ use Rattle.otel_waterfall.specs.Picture as picture
 use Rattle.otel_waterfall.specs.Rows.{rows_of}
 use Rattle.otel_waterfall.specs.declared.page.PageSpan.{PageSpan}
 use Rattle.otel_waterfall.specs.declared.page.PageTrace.{PageTrace}
-use Rattle.otel_waterfall.specs.declared.page.TheConstants.{CELLS}
-use Rattle.otel_waterfall.specs.declared.page.style.TheConstants.{HEAD, FOOT}
+use Rattle.otel_waterfall.specs.declared.page.style.TheConstants.{STYLE}
 use Rattle.otel_waterfall.specs.declared.rows.Row.{Row}
 use Rattle.otel_waterfall.specs.declared.rows.Row.TheVariants.{Span, Absent}
 use Rattle.otel_waterfall.specs.declared.span.Outcome.{Outcome}
@@ -88,6 +87,10 @@ opening alone =
     if alone then codes "<details class=trace open><summary>"
     else codes "<details class=trace><summary>"
 
+-- the number of cells of a bar
+abbrev pub cells : ℕ
+cells = 500
+
 -- a trace with these spans and these rows
 module _ (alone : Bool) (trace : PageTrace) (spans : List Look) where
   abbrev pub own : List Look
@@ -97,7 +100,7 @@ module _ (alone : Bool) (trace : PageTrace) (spans : List Look) where
   trace_with items =
       opening alone ++ (head trace (least_start own) (greatest_end own) (length own)
       (count_by (is_failed trace.trace_id) spans) (first_place items)
-      ++ (rows CELLS (least_start own) (max (greatest_end own) (least_start own))
+      ++ (rows cells (least_start own) (max (greatest_end own) (least_start own))
       trace.spans.items items ++ codes "</details>\n"))
 
 -- the drawn parts of the spans of a trace
@@ -117,12 +120,36 @@ pub record AddsTrace (alone : Bool) (trace : PageTrace) (old new : List ℕ) : T
   pub once : HasEachSpan trace
   pub is : new ≡ old ++ trace_text alone trace
 
+-- ---- pages
+-- the text before the style sheet: by its policy the page loads nothing and runs no script
+abbrev pub page_start : List ℕ
+page_start =
+    codes "<!DOCTYPE html>\n<html lang=en><head><meta charset=utf-8><title>Traces</title>\n"
+    ++ (codes "<meta name=viewport content=\"width=device-width, initial-scale=1\">\n"
+    ++ (codes "<meta http-equiv=Content-Security-Policy content="
+    ++ codes "\"default-src 'none'; style-src 'unsafe-inline'\">\n<style>\n"))
+
+-- the text between the style sheet and the traces
+abbrev pub page_body : List ℕ
+page_body = codes "</style></head>\n<body><main><h1>Traces</h1>\n"
+
+-- the text after the traces
+abbrev pub page_end : List ℕ
+page_end = codes "</main></body></html>\n"
+
+-- the text before the traces, of which the style sheet has no `<`, so it doesn't end its element
+pub record IsHead (text : List ℕ) : Type 0 where
+  pub is : text ≡ page_start ++ STYLE.now ++ page_body
+  pub style : list_any (λ c. c == 60) STYLE.now ≡ false
+
 -- the text is the head of a page and these traces
 pub record AreTraces (alone : Bool) (traces : List PageTrace) (text : List ℕ) : Type 0 where
+  pub head : List ℕ
+  pub is_head : IsHead head
   pub once : All HasEachSpan traces
-  pub is : text ≡ HEAD.now ++ flat_map (trace_text alone) traces
+  pub is : text ≡ head ++ flat_map (trace_text alone) traces
 
 -- the text is the page of these traces, in this order
 abbrev pub IsPage : List PageTrace → List ℕ → Type 0
 IsPage traces text =
-    (shown : List ℕ) × AreTraces (length traces == 1) traces shown × (text ≡ shown ++ FOOT.now)
+    (shown : List ℕ) × AreTraces (length traces == 1) traces shown × (text ≡ shown ++ page_end)

@@ -12,13 +12,16 @@ use Rattle.otel_waterfall.specs.Duration.{duration_text}
 use Rattle.otel_waterfall.specs.Escape.{between}
 use Rattle.otel_waterfall.specs.Line.{outcome_text}
 use Rattle.otel_waterfall.specs.declared.page.PageSpan.{PageSpan}
-use Rattle.otel_waterfall.specs.declared.page.row.TheConstants.{OPEN_BAR}
 use Rattle.otel_waterfall.specs.declared.rows.Row.{Row}
 use Rattle.otel_waterfall.specs.declared.rows.Row.TheVariants.{Span, Absent}
 use Rattle.otel_waterfall.specs.declared.span.Outcome.{Outcome}
 use Rattle.otel_waterfall.specs.declared.span.Outcome.TheVariants as outcome
 
 -- ---- bars
+-- the start of a bar, 500 cells wide
+abbrev pub open_bar : List ℕ
+open_bar = codes "<svg viewBox=\"0 0 500 16\" preserveAspectRatio=none aria-hidden=true>"
+
 -- the mark of an event in a cell
 abbrev pub mark_at : ℕ → List ℕ
 mark_at cell =
@@ -45,7 +48,7 @@ module _ (cells from to : ℕ) where
   -- the bar of a span: a rectangle from its start to its end, and a mark for each event
   abbrev pub bar : PageSpan → List ℕ
   bar s =
-      OPEN_BAR.now ++ (rectangle_of s.data.start_time s.data.end_time ++ (marks s.data.events
+      open_bar ++ (rectangle_of s.data.start_time s.data.end_time ++ (marks s.data.events
       ++ codes "</svg>"))
 
 -- ---- lines

@@ -13,7 +13,7 @@ use crate::bar::Scale;
 use crate::drawn::drawn_span;
 use crate::page::escape::{push_between, push_html};
 use crate::page::row::{push_duration, push_names, push_row};
-use crate::page::style::{FOOT, HEAD};
+use crate::page::style::{BODY, END, START, STYLE};
 use crate::pictures::{Extent, extent_of, spans_word};
 use crate::rows::{Row, rows_of};
 use crate::span::{Outcome, Span};
@@ -253,11 +253,21 @@ fn push_trace(
     )
 }
 
+/// Returns the page up to its traces.
+fn head_text(alloc: Global) -> Result<String, AllocError>
+    ensures { IfOk result (λ text. spec.IsHead (string_bytes text)) }
+{
+    let mut text = String::from_str(alloc, START)?;
+    push_html(&mut text, STYLE)?;
+    push_html(&mut text, BODY)?;
+    Ok(text)
+}
+
 /// Returns the page up to the end of its traces.
 fn traces_text(alloc: Global, is_alone: bool, traces: &[PageTrace]) -> Result<String, AllocError>
     ensures { IfOk result (λ text. spec.AreTraces is_alone traces.now (string_bytes text)) }
 {
-    let mut text = String::from_str(alloc, HEAD)?;
+    let mut text = head_text(alloc)?;
     for trace in traces {
         push_trace(alloc, &mut text, is_alone, trace)?;
     }
@@ -284,6 +294,6 @@ pub fn html_page(alloc: Global, traces: &[PageTrace]) -> Result<String, AllocErr
     ensures { IfOk result (λ page. spec.IsPage traces.now (string_bytes page)) }
 {
     let mut text = traces_text(alloc, traces.len() == 1, traces)?;
-    push_html(&mut text, FOOT)?;
+    push_html(&mut text, END)?;
     Ok(text)
 }

@@ -1,12 +1,16 @@
 //! The texts around the traces of a page.
 
-/// The text before the traces: no script, and nothing from elsewhere.
-pub(crate) const HEAD: &str = "<!DOCTYPE html>
+/// The text before the style sheet: no script, and nothing from elsewhere.
+pub(crate) const START: &str = "<!DOCTYPE html>
 <html lang=en><head><meta charset=utf-8><title>Traces</title>
 <meta name=viewport content=\"width=device-width, initial-scale=1\">
 <meta http-equiv=Content-Security-Policy content=\"default-src 'none'; style-src 'unsafe-inline'\">
 <style>
-:root{color-scheme:light dark;--back:#fff;--text:#1b1f24;--faint:#57606a;--line:#d8dee4;
+";
+
+/// The style sheet. It has no `<`, so it doesn't end its element.
+pub(crate) const STYLE: &str =
+    ":root{color-scheme:light dark;--back:#fff;--text:#1b1f24;--faint:#57606a;--line:#d8dee4;
 --over:#f3f5f8;--bar:#2f6fde;--ok:#1a7f37;--error:#c4232b}
 @media(prefers-color-scheme:dark){:root{--back:#0f1318;--text:#e6eaef;--faint:#9aa5b1;
 --line:#2b323b;--over:#1a2028;--bar:#5b96f7;--ok:#4ac26b;--error:#ff7b72}}
@@ -59,9 +63,10 @@ li dl{padding-left:16px}
 .row>summary>svg{order:4;grid-column:1/-1;margin-top:2px}
 .row>summary>.name{grid-column:1/-1;padding-left:calc(min(var(--depth),6)*8px)}
 .row>div{padding-left:12px}.trace>summary,.id,.absent{padding-left:8px;padding-right:8px}}
-</style></head>
-<body><main><h1>Traces</h1>
 ";
 
+/// The text between the style sheet and the traces.
+pub(crate) const BODY: &str = "</style></head>\n<body><main><h1>Traces</h1>\n";
+
 /// The text after the traces.
-pub(crate) const FOOT: &str = "</main></body></html>\n";
+pub(crate) const END: &str = "</main></body></html>\n";

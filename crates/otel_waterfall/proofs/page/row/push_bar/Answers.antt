@@ -4,7 +4,6 @@ use Rattle.opentelemetry.specs.View.{event_of}
 use Rattle.opentelemetry.specs.declared.trace.event.Event.{Event}
 use Rattle.otel_sdk_span.specs.SpanData.{SpanRecord}
 use Rattle.otel_waterfall.specs.PageRow as spec
-use Rattle.otel_waterfall.specs.declared.page.row.TheConstants.{OPEN_BAR}
 use Rattle.otel_waterfall.proofs.Joins.{chain4, says}
 use Rattle.otel_waterfall.proofs.Traces.{map_ok}
 use Rattle.otel_waterfall.proofs.page.row.push_bar.Goals as goal
@@ -15,11 +14,11 @@ returns c =
     let scale = c.args.scale in
     let r = spec.rectangle_of scale.cells scale.from scale.to in
     let m = spec.marks scale.cells scale.from scale.to in
-    says c.push_html-2.result (string_bytes c.args.text.now) (OPEN_BAR.now ++ (r s.start_time s.end_time ++ (m (map event_of s.events.events.items) ++ codes "</svg>")))
+    says c.push_html-2.result (string_bytes c.args.text.now) (spec.open_bar ++ (r s.start_time s.end_time ++ (m (map event_of s.events.events.items) ++ codes "</svg>")))
     (spec.bar scale.cells scale.from scale.to c.args.span.now) (string_bytes c.push_html-2.new.text)
-    (ap (λ (d : SpanRecord). OPEN_BAR.now ++ (r d.start_time d.end_time ++ (m d.events ++ codes "</svg>"))) c.span.view_is)
+    (ap (λ (d : SpanRecord). spec.open_bar ++ (r d.start_time d.end_time ++ (m d.events ++ codes "</svg>"))) c.span.view_is)
     (map_ok _ _ c.push_html-2.result
-    (chain4 OPEN_BAR.now (r s.start_time s.end_time) (m (map event_of s.events.events.items)) (codes "</svg>")
+    (chain4 spec.open_bar (r s.start_time s.end_time) (m (map event_of s.events.events.items)) (codes "</svg>")
     (string_bytes c.args.text.now) (string_bytes c.push_html.new.text) (string_bytes c.push_rectangle.new.text) (string_bytes c.push_marks.new.text) (string_bytes c.push_html-2.new.text)
     c.in_ok-push_html.ensures c.in_ok-push_rectangle.ensures
     (c.in_ok-push_marks.ensures ∙ ap (λ (xs : List Event). string_bytes c.push_rectangle.new.text ++ m (map event_of xs)) c.as_slice.ensures.value))
