@@ -1,4 +1,5 @@
 pub mod Draws
+pub mod Empty
 pub mod Forests
 pub mod Joins
 pub mod Lines

@@ -1,7 +1,7 @@
 //! The exporter.
 ghost use Rattle.std.specs.Prelude.{◌≡◌, ◌≢◌, ◌≤◌, ℕ, List, [], ◌∷◌, ◌++◌, length, take};
 ghost use Rattle.std.specs.Prelude.{false, true, None, Some, alloc_error, is_ok};
-ghost use Rattle.std.specs.Prelude.{IsTrue, IsErrOf, IfErr, IfOk, IfSome, OnOk, OnErr};
+ghost use Rattle.std.specs.Prelude.{IsTrue, IsOk, IsErrOf, IfErr, IfOk, IfSome, OnOk, OnErr};
 ghost use Rattle.std.specs.Io.KnownBytes.{Appends, Keeps};
 ghost use Rattle.std.specs.String.{string_bytes};
 ghost use Rattle.otel_waterfall.specs.Columns.{picture_width};
@@ -157,7 +157,8 @@ fn writer_failed(alloc: Global) -> OTelSdkError
     }
 }
 
-/// Writes the picture of a batch of spans.
+/// Writes the picture of a batch of spans, which is empty if the batch is.
+#[tactic(auto, using(crate::proofs::Empty::no_picture))]
 fn write_picture<W: WriterCalls>(
     alloc: Global,
     style: Style,
@@ -172,7 +173,11 @@ fn write_picture<W: WriterCalls>(
         → output.new ≡ output.old }
     ensures open { IsErrOf result OTelSdkError.AlreadyShutdown → ⊥ }
     ensures failed { IfErr result (IsWritersError W.may_write) }
+    ensures empty { batch.now ≡ [] → IsOk result }
 {
+    if batch.is_empty() {
+        return Ok(());
+    }
     let text = picture_of(alloc, style, batch)?;
     if !write_all(output, text.as_bytes()) {
         return Err(writer_failed(alloc));
@@ -224,6 +229,7 @@ impl<W: WriterCalls + Drop> Exporter<SpanData> for WaterfallExporter<W> {
             (W.contents self.old.output) (W.contents self.new.output)) }
         ensures failed { self.old.is_shut_down ≡ false
             → IfErr result (IsWritersError W.may_write) }
+        ensures empty { self.old.is_shut_down ≡ false → batch.now ≡ [] → IsOk result }
         ensures nothing { batch.now ≡ [] → OnOk result
             (Appends (W.contents self.old.output) (W.contents self.new.output) []) }
         ensures rest { self.new ≡ record self.old {
