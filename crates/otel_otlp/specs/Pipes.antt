@@ -1,5 +1,6 @@
 -- Why an exporter over named pipes wasn't made.
 use Rattle.std.specs.Prelude.{◌⊎◌, ⊤}
+use Rattle.std.specs.declared.io.Error.{Error}
 use Rattle.otel_sdk_base.specs.declared.otlp.EnvOtlp.{EnvOtlp}
 use Rattle.otel_otlp.specs.HttpConfig.{NamesEndpoint}
 use Rattle.otel_otlp.specs.HttpTexts.{of_env, NamesPiece}
@@ -18,3 +19,8 @@ NamesFault otlp (Keys error) = ⊤
 abbrev pub IfConfig : (ConfigError → Type 0) → PipeError → Type 0
 IfConfig P (Config error) = P error
 IfConfig P (Keys error) = ⊤
+
+-- a fact about the error of the random keys, if it is one
+abbrev pub IfKeys : (Error → Type 0) → PipeError → Type 0
+IfKeys P (Config error) = ⊤
+IfKeys P (Keys error) = P error

@@ -16,15 +16,15 @@ mod trees;
 mod written;
 
 pub use crate::otlp_http::{
-    Backoff, ClockCalls, ConfigError, FileCalls, FileClient, HttpClient, HttpError, OtlpHttpConfig,
-    OtlpHttpExporter, OtlpHttpLogExporter, OtlpHttpSpanExporter, PipeError, PipeExporter,
-    ReaderCalls, StreamClient, pipe_exporter,
+    Backoff, ClockCalls, ConfigError, FileCalls, FileClient, HttpClient, HttpError, KeyCalls,
+    OtlpHttpConfig, OtlpHttpExporter, OtlpHttpLogExporter, OtlpHttpSpanExporter, PipeError,
+    PipeExporter, ReaderCalls, StreamClient, pipe_exporter,
 };
 pub use crate::read::{
     ReadError, ResourceLogs, ResourceSpans, read_logs, read_resource_logs, read_resource_spans,
     read_traces,
 };
-pub use append_file::AppendFile;
+pub use append_file::{AppendCalls, AppendFile};
 pub use exporter::{OtlpJsonExporter, OtlpJsonLogExporter, OtlpJsonSpanExporter};
 pub use logs::{logs_data, logs_text};
 pub use traces::{traces_data, traces_text};

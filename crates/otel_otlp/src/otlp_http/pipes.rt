@@ -1,9 +1,9 @@
 //! An exporter over the named pipes of a folder.
-ghost use Rattle.std.specs.Prelude.{◌≡◌, codes, IfOk, OnOk, IfErr};
+ghost use Rattle.std.specs.Prelude.{◌≡◌, codes, IfOk, OnOk, IfErr, Err};
 ghost use Rattle.otel_otlp.specs.FileClient.{initial};
 ghost use Rattle.otel_otlp.specs.HttpExporter.{IsNew, IsAccounted};
 ghost use Rattle.otel_otlp.specs.HttpTexts.{AreHeaders, OneIsRefused, of_env};
-ghost use Rattle.otel_otlp.specs.Pipes.{NamesFault, IfConfig};
+ghost use Rattle.otel_otlp.specs.Pipes.{NamesFault, IfConfig, IfKeys};
 ghost use Rattle.otel_otlp.specs.HttpConfig.{HasNoTarget, IfEndpoint, IfHeader, added, local};
 ghost use Rattle.otel_otlp.specs.declared.otlp_http.pipes.PipeError.TheVariants as Pipe;
 ghost use Rattle.otel_otlp.specs.declared.otlp_http.config.ConfigError.TheVariants.{Memory};
@@ -11,13 +11,12 @@ ghost use Rattle.otel_otlp.specs.declared.otlp_http.config.ConfigError.TheVarian
 use crate::otlp_http::config::{ConfigError, OtlpHttpConfig};
 use crate::otlp_http::exporter::OtlpHttpSpanExporter;
 use crate::otlp_http::file_client::FileClient;
+use crate::otlp_http::key_calls::KeyCalls;
 use otel_sdk_base::SystemClock;
 use otel_sdk_base::otlp::EnvOtlp;
 use std::alloc::{AllocError, Global};
 use std::fs::Files;
-use std::hash::RandomState;
 use std::io;
-use std::random::RandomSource;
 use std::time::Clock;
 use thiserror::Error;
 
@@ -75,7 +74,7 @@ impl From<AllocError> for PipeError {
 /// - `Config` with the refusal of [`OtlpHttpConfig::from_env`] or of
 ///   [`OtlpHttpExporter::new`](crate::OtlpHttpExporter::new), or if out of memory.
 /// - `Keys` if the runtime gives no random keys.
-pub fn pipe_exporter<R: Files + RandomSource + Clock + Copy + Drop>(
+pub fn pipe_exporter<R: Files + KeyCalls + Clock + Copy + Drop>(
     alloc: Global,
     rt: R,
     folder: &str,
@@ -90,8 +89,9 @@ pub fn pipe_exporter<R: Files + RandomSource + Clock + Copy + Drop>(
         (of_env otlp.now).endpoint (added (of_env otlp.now) (codes "/v1/traces"))))) }
     ensures header { IfErr result
         (IfConfig (IfHeader (OneIsRefused local.headers otlp.now.headers))) }
+    ensures keys { IfErr result (IfKeys (λ error. R.draws (Err error))) }
 {
     let config = OtlpHttpConfig::from_env(alloc, otlp)?;
-    let client = FileClient::new(alloc, RandomState::new(&rt)?, rt, folder)?;
+    let client = FileClient::new(alloc, rt.draw_keys()?, rt, folder)?;
     Ok(OtlpHttpSpanExporter::new(alloc, client, config, rt, SystemClock::new(rt))?)
 }
