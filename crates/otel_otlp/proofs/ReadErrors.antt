@@ -7,10 +7,9 @@ use Rattle.std.specs.Result.{IsErrAnd}
 use Rattle.serde_json.specs.Data.{Data, null, boolean, number, string, array, object}
 use Rattle.otel_otlp.specs.HttpResponse.{IsCount}
 use Rattle.otel_otlp.specs.ReadMembers.{IsWideIn, member_of}
-use Rattle.otel_otlp.specs.declared.read.error.ReadError.{ReadError}
 
 -- the error that a `?` passes is the same
-pub passed : {T : Type 0} (P : ReadError → Type 0) (r : Result T ReadError) (e : ReadError)
+pub passed : {T E : Type 0} (P : E → Type 0) (r : Result T E) (e : E)
     → IsErrAnd r (λ f. f ≡ e) → P e → IfErr r P
 passed P (Ok x) e is h = tt
 passed P (Err f) e is h = subst P (sym is) h
@@ -46,7 +45,7 @@ pub one_wide : (name : List ℕ) (d : Data) (n m : ℕ)
 one_wide name d n m h k = one_wide_of (member_of name d) n m h k
 
 -- a weaker fact about the same error
-pub weaker : {T : Type 0} (r : Result T ReadError) (P Q : ReadError → Type 0)
-    → ((e : ReadError) → P e → Q e) → IfErr r P → IfErr r Q
+pub weaker : {T E : Type 0} (r : Result T E) (P Q : E → Type 0)
+    → ((e : E) → P e → Q e) → IfErr r P → IfErr r Q
 weaker (Ok x) P Q f h = tt
 weaker (Err e) P Q f h = f e h

@@ -1,9 +1,9 @@
 -- What a call of a connection's `read` says of a stream.
-use Rattle.std.proofs.Common.{◌≡◌, ℕ, ◌+◌, ◌-◌, ◌≤◌, nat_lt, ◌/◌, ◌==◌, ◌&&◌, ◌||◌, Bool, true, false, cond, List, [], ◌∷◌, ◌++◌, length, take, drop, map, fold, Ok, All, IsTrue, inl, inr, refl, sym, ap, ◌∙◌, subst, subst₂, arith, append-nil, append_assoc}
+use Rattle.std.proofs.Common.{◌≡◌, ℕ, ◌+◌, ◌-◌, ◌≤◌, nat_lt, ◌/◌, ◌==◌, ◌&&◌, ◌||◌, Bool, true, false, true≢false, not, cond, List, [], ◌∷◌, ◌++◌, length, take, drop, map, fold, Ok, All, IsTrue, inl, inr, refl, sym, ap, ◌∙◌, subst, subst₂, arith, append-nil, append_assoc}
 use Rattle.std.proofs.lemmas.Bool.Decides.{nat_tests}
 use Rattle.std.proofs.lemmas.List.{drop_all, drop-take, take-take}
 use Rattle.std.proofs.lemmas.List.Elements.{All-nil, All-cons, All-head, All-tail}
-use Rattle.httparse.specs.Grammar.{status_code}
+use Rattle.httparse.specs.Grammar.{ResponseHead, status_code}
 use Rattle.httparse.specs.Spans.{span_bytes, header_bytes, IsWithin, IsHeaderWithin}
 use Rattle.httparse.specs.declared.spans.Span.{Span}
 use Rattle.httparse.specs.declared.spans.HeaderSpan.{HeaderSpan}
@@ -22,13 +22,16 @@ use Rattle.http1.specs.declared.conn.Reading.{Reading}
 use Rattle.http1.specs.declared.conn.Reading.TheVariants as Reads
 use Rattle.http1.specs.declared.decode.Decoder.{Decoder}
 use Rattle.http1.specs.declared.decode.Decoder.TheVariants.{Length, Chunked, UntilClose}
-use Rattle.http1.specs.Conn.{no_progress, awaits_head, is_connect, ReadsPiece}
+use Rattle.http1.specs.Conn.{no_progress, awaits_head, is_connect, is_until_close, keeps_alive, ReadsPiece}
+use Rattle.http1.specs.Fields.{Header, known_fields}
+use Rattle.http1.specs.Message.{known_of}
+use Rattle.http1.specs.declared.framing.Framing.{Framing}
 use Rattle.http1.specs.Decoder.{AwaitsTrailers}
-use Rattle.http1.specs.Client.{new_client, closed_client, upgraded_client, is_written, is_interim, switches, after_piece, ReadsHead, ReadsInBody, ReadsFirst, ReadsAt, ClientReads, at_eof, reading}
+use Rattle.http1.specs.Client.{new_client, closed_client, upgraded_client, reading_body, after_head, is_written, is_interim, switches, after_piece, cycle, ReadsHead, ReadsInBody, ReadsFirst, ReadsAt, ClientReads, at_eof, client_eof, reading, IsIdle}
 use Rattle.http1.specs.ServerTrace.{no_body, headers_at}
 use Rattle.http1.specs.ClientTrace.{SeenResponse, nothing, observe, IsBetween, Trace, stops, peer_closes, reads}
 use Rattle.http1_typed.specs.Parts.{entry_at, map_at, IsResponseParts}
-use Rattle.otel_otlp.specs.StreamClient.{map_of, with_body, Skips, FindsHead, with_front, Gives, FindsBody}
+use Rattle.otel_otlp.specs.StreamClient.{map_of, with_body, KeepsOpen, is_kept, Skips, FindsHead, with_front, Gives, FindsBody, StaysOpen}
 use Rattle.otel_otlp.proofs.Streams.{skips_none}
 
 -- ---- parts of a head
@@ -71,6 +74,35 @@ interim_stays c status other is =
     let tests = by_method c.method status is in
     ap (λ b. cond b (upgraded_client c) (cond (nat_lt status 200) c other)) tests.0 ∙ ap (λ b. cond b c other) tests.1
 
+-- ---- whether a connection goes on
+pub and_left : (a b : Bool) → IsTrue (a && b) → IsTrue a
+and_left true b h = refl
+and_left false true h = h
+and_left false false h = h
+
+pub and_right : (a b : Bool) → IsTrue (a && b) → IsTrue b
+and_right true b h = h
+and_right false true h = refl
+and_right false false h = h
+
+-- a status that is below 200 and not interim is 101
+no_interim : (low is other : Bool) → (low && not is) ≡ false → low ≡ true → (is || other) ≡ false → ⊥
+no_interim true true other final below sw = true≢false sw
+no_interim true false other final below sw = true≢false final
+no_interim false is other final below sw = true≢false (sym below)
+
+-- only after a head that keeps the connection it goes on
+goes_after : (c : Client) (h : ResponseHead) (framing : Framing) (s low : Bool)
+    → switches c (status_code h) ≡ s → nat_lt (status_code h) 200 ≡ low → is_interim (status_code h) ≡ false
+    → IsTrue (is_kept (cond s (upgraded_client c) (cond low c (reading_body c h.minor (known_of h.fields) framing))))
+    → IsTrue (keeps_alive h.minor (known_of h.fields))
+goes_after c h framing true low sw below final goes = absurd (true≢false (sym (and_right c.keep_alive false goes)))
+goes_after c h framing false true sw below final goes =
+    absurd (no_interim (nat_lt (status_code h) 200) (status_code h == 101) (is_connect c.method && (status_code h / 100 == 2)) final below sw)
+goes_after c h framing false false sw below final goes =
+    and_left (keeps_alive h.minor (known_of h.fields)) (not (is_until_close framing))
+    (and_right c.keep_alive _ (and_left (c.keep_alive && (keeps_alive h.minor (known_of h.fields) && not (is_until_close framing))) (is_written c.writing) goes))
+
 module _ (c new : Client) (input : List ℕ) (spans : List HeaderSpan) (read : Progress ResponseSpans) (is : reading c ≡ Reads.Head) (found : ClientReads c input spans new read) where
   at_head : ReadsFirst (awaits_head c.writing) c input spans new read
   at_head = subst (λ r. ReadsAt r c input spans new read) is found
@@ -108,6 +140,14 @@ module _ (c new : Client) (input : List ℕ) (spans : List HeaderSpan) (read : P
   final_by true r h event = let it = h.1 in cc
   final_by false r h event = (subst (λ e. ReadsHead c input spans new read.consumed e) event h).0
 
+  keeps_by : (idle : Bool) (r : ResponseSpans) → ReadsFirst idle c input spans new read → read.event ≡ Found.Head r
+      → IsTrue (is_kept new) → IsTrue (keeps_alive r.version (known_fields (headers_at input spans r.headers)))
+  keeps_by true r h event goes = let it = sym (ap (λ (p : Progress ResponseSpans). p.event) h.1) ∙ event in absurd cc
+  keeps_by false r h event goes =
+      let (final, t) = subst (λ e. ReadsHead c input spans new read.consumed e) event h in
+      let kept = goes_after c t.head t.framing _ _ refl refl (subst (λ n. is_interim n ≡ false) t.covered.code final) (subst (λ n. IsTrue (is_kept n)) t.next goes) in
+      subst₂ (λ (m : ℕ) (hs : List Header). IsTrue (keeps_alive m (known_fields hs))) (sym t.covered.version) (sym t.covered.fields) kept
+
   -- a head was found
   pub finds_head : (r : ResponseSpans) (p : Response.Parts) → read.event ≡ Found.Head r → IsResponseParts input spans r p → FindsHead c (input ++ []) new (drop read.consumed input) p
   finds_head r p event is_parts =
@@ -119,6 +159,7 @@ module _ (c new : Client) (input : List ℕ) (spans : List HeaderSpan) (read : P
         is_final = final_by _ r at_head event;
         method = refl;
         parts = record { status = is_parts.status; version = is_parts.version; headers = is_parts.headers ∙ map_at_is input (take r.headers spans) };
+        keeps = keeps_by _ r at_head event;
         goes_on = λ more later rest t.
             let first = reads c new input more spans read later rest found t in
             let told = subst (λ e. Trace c (input ++ more) (observe c.method input spans e later) rest) event first in
@@ -142,6 +183,15 @@ until_close Reads.Upgraded c count is = cc
 until_close Reads.Closed c count is = cc
 until_close (Reads.Failed e) c count is = cc
 
+-- and it closes the connection
+pub eof_closes : (r : Reading) (c : Client) → r ≡ Reads.Body UntilClose → IsIdle (at_eof r c).1 → ⊥
+eof_closes r c is idle = let closed = subst (λ x. IsIdle (at_eof x c).1) is idle in cc
+
+-- a connection is idle after a response only if it goes on
+idle_by : (c : Client) (again : Bool) → IsIdle (cond again (new_client c.limits) (closed_client c)) → IsTrue again
+idle_by c true idle = refl
+idle_by c false idle = absurd cc
+
 -- the end of the stream leaves what was read
 pub eof_body : (r : Reading) (c : Client) → r ≡ Reads.Body UntilClose → (at_eof r c).0 ≡ Ok (Found.End 0)
 eof_body r c is = ap (λ x. (at_eof x c).0) is
@@ -160,6 +210,19 @@ module _ (c new : Client) (input : List ℕ) (spans : List HeaderSpan) (read : P
         let done = (subst (λ e. ReadsPiece d input spans h.0 read.consumed e) event h.1).0 in
         subst (λ n. IsBetween (reading n)) (sym (h.2 ∙ ap (after_piece c) done)) (between_cycle (record c { reading = Reads.Done }) (c.keep_alive && is_written c.writing))
 
+    idles_piece : (d : Decoder) → ReadsInBody d c input spans new read → IsIdle new → IsTrue (is_kept c)
+    idles_piece d h idle =
+        let done = (subst (λ e. ReadsPiece d input spans h.0 read.consumed e) event h.1).0 in
+        idle_by (record c { reading = Reads.Done }) (is_kept c) (subst (λ n. IsIdle n) (h.2 ∙ ap (after_piece c) done) idle)
+
+    idles : (r : Reading) → ReadsAt r c input spans new read → IsIdle new → IsTrue (is_kept c)
+    idles Reads.Head h idle = absurd (ends_first _ h)
+    idles (Reads.Body d) h idle = idles_piece d h idle
+    idles Reads.Done h idle = let it = sym (event_of _ h.0) ∙ event in absurd cc
+    idles Reads.Upgraded h idle = let it = sym (event_of _ h.0) ∙ event in absurd cc
+    idles Reads.Closed h idle = let it = sym (event_of _ h.0) ∙ event in absurd cc
+    idles (Reads.Failed e) h idle = absurd h
+
     ends_between : (r : Reading) → ReadsAt r c input spans new read → IsBetween (reading new)
     ends_between Reads.Head h = absurd (ends_first _ h)
     ends_between (Reads.Body d) h = ends_piece d h
@@ -168,7 +231,42 @@ module _ (c new : Client) (input : List ℕ) (spans : List HeaderSpan) (read : P
     ends_between Reads.Closed h = let it = sym (event_of _ h.0) ∙ event in absurd cc
     ends_between (Reads.Failed e) h = absurd h
 
+  module _ (s : Span) (event : read.event ≡ Found.Data s) where
+    gives_first : (idle : Bool) → ReadsFirst idle c input spans new read → ⊥
+    gives_first true h = let it = sym (event_of _ h.1) ∙ event in cc
+    gives_first false h = subst (λ e. ReadsHead c input spans new read.consumed e) event h
+
+    gives_piece : (d : Decoder) → ReadsInBody d c input spans new read → is_kept new ≡ is_kept c
+    gives_piece d h =
+        let next = (subst (λ e. ReadsPiece d input spans h.0 read.consumed e) event h.1).1 in
+        ap is_kept (h.2 ∙ ap (after_piece c) next)
+
+    gives : (r : Reading) → ReadsAt r c input spans new read → is_kept new ≡ is_kept c
+    gives Reads.Head h = absurd (gives_first _ h)
+    gives (Reads.Body d) h = gives_piece d h
+    gives Reads.Done h = let it = sym (event_of _ h.0) ∙ event in absurd cc
+    gives Reads.Upgraded h = let it = sym (event_of _ h.0) ∙ event in absurd cc
+    gives Reads.Closed h = let it = sym (event_of _ h.0) ∙ event in absurd cc
+    gives (Reads.Failed e) h = absurd h
+
   module _ (event : read.event ≡ Found.NeedMore) where
+    needs_first : (idle : Bool) → ReadsFirst idle c input spans new read → is_kept new ≡ is_kept c
+    needs_first true h = let it = sym (event_of _ h.1) ∙ event in absurd cc
+    needs_first false h = ap is_kept (subst (λ e. ReadsHead c input spans new read.consumed e) event h).1
+
+    needs_piece : (d : Decoder) → ReadsInBody d c input spans new read → is_kept new ≡ is_kept c
+    needs_piece d h =
+        let next = (subst (λ e. ReadsPiece d input spans h.0 read.consumed e) event h.1).1 in
+        ap is_kept (h.2 ∙ ap (after_piece c) next)
+
+    needs : (r : Reading) → ReadsAt r c input spans new read → is_kept new ≡ is_kept c
+    needs Reads.Head h = needs_first _ h
+    needs (Reads.Body d) h = needs_piece d h
+    needs Reads.Done h = let it = sym (event_of _ h.0) ∙ event in absurd cc
+    needs Reads.Upgraded h = let it = sym (event_of _ h.0) ∙ event in absurd cc
+    needs Reads.Closed h = let it = sym (event_of _ h.0) ∙ event in absurd cc
+    needs (Reads.Failed e) h = absurd h
+
     drains_first : (idle : Bool) → reading c ≡ Reads.Head → ReadsFirst idle c input spans new read → reading new ≡ Reads.Body UntilClose → ⊥
     drains_first true head h is = let it = sym (event_of _ h.1) ∙ event in cc
     drains_first false head h is =
@@ -196,6 +294,16 @@ module _ (c new : Client) (input : List ℕ) (spans : List HeaderSpan) (read : P
   module _ (found : ClientReads c input spans new read) where
     abbrev left : List ℕ
     left = drop read.consumed input
+
+    -- whether the connection goes on stays so within the body, and is so if it is idle at the end
+    pub stays_by_data : (s : Span) → read.event ≡ Found.Data s → StaysOpen false c new
+    stays_by_data s event = gives s event (reading c) found
+
+    pub stays_by_need : read.event ≡ Found.NeedMore → StaysOpen false c new
+    stays_by_need event = needs event (reading c) found
+
+    pub stays_at_end : (count : ℕ) → read.event ≡ Found.End count → StaysOpen true c new
+    stays_at_end count event idle = idles count event (reading c) found idle
 
     -- a piece was found
     pub gives_data : (s : Span) → read.event ≡ Found.Data s → Gives c (input ++ []) new left (span_bytes input s)

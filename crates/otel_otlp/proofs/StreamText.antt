@@ -5,11 +5,12 @@ use Rattle.http.specs.declared.request.Parts as Request
 use Rattle.http.specs.declared.response.Response.{Response}
 use Rattle.http1.specs.declared.conn.BodySize.TheVariants.{Known}
 use Rattle.http1.specs.Conn.{after_data}
-use Rattle.http1.specs.Client.{new_client, with_writing, writing}
+use Rattle.http1.specs.declared.client.Client.{Client}
+use Rattle.http1.specs.Client.{new_client, with_writing, writing, IsIdle}
 use Rattle.http1.specs.Framing.{method_kind}
 use Rattle.http1.specs.ClientTrace.{Seen, Trace, writes, requests, sends, finishes}
 use Rattle.http1.proofs.ClientTraceLemmas.{trace_reads_answers}
-use Rattle.otel_otlp.specs.StreamClient.{limits, started, asking, headers_of, Answers, Replies}
+use Rattle.otel_otlp.specs.StreamClient.{limits, started, asking, headers_of, Answers, KeepsOpen, Replies}
 
 module _ (p : Request.Parts) (body : List ℕ) (stream : List ℕ) (rest : List ℕ) where
   -- what is seen after the request was written is seen by a new connection that writes it
@@ -20,10 +21,11 @@ module _ (p : Request.Parts) (body : List ℕ) (stream : List ℕ) (rest : List 
       writes (new_client limits) begun stream seen rest (requests p.method (Known (length body)) (headers_of p))
       (writes begun sent stream seen rest (sends (length body)) (writes sent (asking p body) stream seen rest finishes t))
 
-  pub answers_from : (answer : Response (Vec ℕ Global)) → (asking p body).method ≡ method_kind p.method → Replies (asking p body) stream answer rest → Answers p stream answer rest
-  answers_from answer method r =
+  pub answers_from : (now : Client) (answer : Response (Vec ℕ Global)) → (asking p body).method ≡ method_kind p.method → Replies (asking p body) stream now answer rest
+      → (told : Answers p stream answer rest) × (IsIdle now → KeepsOpen told.last)
+  answers_from now answer method r =
       let found = trace_reads_answers limits stream _ rest (from_new _ r.trace) in
-      record {
+      (record {
         responses = found.0;
         reads = found.1;
         interim = r.interim;
@@ -35,4 +37,4 @@ module _ (p : Request.Parts) (body : List ℕ) (stream : List ℕ) (rest : List 
         parts = r.parts;
         body = r.body;
         within = r.within;
-      }
+      }, r.keeps)

@@ -42,6 +42,7 @@ module _ (a b c : Client) (stream unread came left : List ℕ) where
     is_final = y.is_final;
     method = y.method ∙ ap (λ (k : Client). k.method) x.same;
     parts = y.parts;
+    keeps = y.keeps;
     goes_on = λ more later rest t.
         let others = with_body y.head later.body ∷ later.responses in
         let second = y.goes_on more later rest t in

@@ -2,7 +2,7 @@
 -- [OpenTelemetry protocol file exporter, "JSON Lines file"].
 use Rattle.std.specs.Prelude.{◌≡◌, ◌⊎◌, ◌<◌, ℕ, Bool, true, false, List, [], ◌∷◌, ◌++◌, length}
 use Rattle.std.specs.Prelude.{take, Option, Result, Err, ⊤, IsTrue, OnOk, IfErr, IsErrOf}
-use Rattle.std.specs.Prelude.{if◌then◌else◌, alloc_error}
+use Rattle.std.specs.Prelude.{if◌then◌else◌, alloc_error, codes, string_bytes}
 use Rattle.std.specs.Io.KnownBytes.{Appends}
 use Rattle.std.specs.declared.io.Error.{Error}
 use Rattle.otel_sdk_base.specs.Export.{Calls}
@@ -80,10 +80,22 @@ IsCutOffLineOf form resource batch line =
     ⊎ ((text : List ℕ) × IsTextOf text (batch_value form resource batch) × IsCutOff text line)
 
 -- ---- calls
--- the error says that the writer failed
-abbrev pub IsFailure : OTelSdkError → Type 0
-IsFailure (error.InternalFailure message) = ⊤
-IsFailure other = ⊥
+-- the error says this of the writer; its text is empty if memory ran out too
+abbrev pub Says : List ℕ → OTelSdkError → Type 0
+Says text (error.InternalFailure message) =
+    (string_bytes message ≡ text) ⊎ (string_bytes message ≡ [])
+Says text other = ⊥
+
+-- the error says that the writer didn't take a line, or that memory ran out
+abbrev pub SaysOfLine : OTelSdkError → Type 0
+SaysOfLine (error.Memory cause) = ⊤
+SaysOfLine other = Says (codes "the writer didn't take the line") other
+
+-- the error says that the writer wasn't flushed, or didn't take the pending newline before
+abbrev pub SaysOfFlush : OTelSdkError → Type 0
+SaysOfFlush told =
+    Says (codes "the writer wasn't flushed") told
+    ⊎ Says (codes "the writer didn't take the newline") told
 
 -- an exporter that was shut down returns this error and is unchanged, and no other returns it
 pub record RefusesIfShutDown {W R : Type 0} (result : Result ⊤ OTelSdkError)
@@ -92,25 +104,26 @@ pub record RefusesIfShutDown {W R : Type 0} (result : Result ⊤ OTelSdkError)
   pub only_then : IsErrOf result error.AlreadyShutdown → IsTrue old.is_shut_down
   pub unchanged : IsTrue old.is_shut_down → new ≡ old
 
--- only the pending newline is written, and on `Ok` it is written; each error says that the writer
+-- only the pending newline is written, and on `Ok` it is written; each error says how the writer
 -- failed, so none that the exporter was shut down
 pub record Flushes {W : Type 0} (contents : W → Option (List ℕ)) (result : Result ⊤ OTelSdkError)
     (old new : Lines W) : Type 0 where
   pub written : OnOk result (new.newline_is_pending ≡ false)
   pub writes : Writes contents old new []
   pub goes_on : IsErrOf result error.AlreadyShutdown → ⊥
-  pub fails : IfErr result IsFailure
+  pub fails : IfErr result SaysOfFlush
 
 -- an open exporter refused a batch: without a call of the writer if memory ran out, and otherwise
--- because the writer failed
+-- because the writer failed; the error says which
 pub record RefusesBatch {W R : Type 0} (may_write : Result ℕ Error → Type 0) (told : OTelSdkError)
     (old new : Exporting W R) : Type 0 where
   pub refuses : RefusesIfShutDown (Err told) old new
   pub failed : old.is_shut_down ≡ false → IsWritersError may_write told
+  pub says : old.is_shut_down ≡ false → SaysOfLine told
   pub memory : told ≡ error.Memory alloc_error → new ≡ old
 
 -- only the pending newline is written, and on `Ok` it is written; nothing else changes. The writer
--- of an open exporter was flushed, and each error says that it failed
+-- of an open exporter was flushed, and each error says how it failed
 pub record ForceFlushes {W R : Type 0} (contents : W → Option (List ℕ))
     (may_write : Result ℕ Error → Type 0) (may_flush : Bool → Type 0)
     (result : Result ⊤ OTelSdkError) (old new : Exporting W R) : Type 0 where
@@ -118,7 +131,7 @@ pub record ForceFlushes {W R : Type 0} (contents : W → Option (List ℕ))
   pub written : OnOk result (new.lines.newline_is_pending ≡ false)
   pub writes : Writes contents old.lines new.lines []
   pub flushed : old.is_shut_down ≡ false → IsFlushed may_write may_flush result
-  pub fails : old.is_shut_down ≡ false → IfErr result IsFailure
+  pub fails : old.is_shut_down ≡ false → IfErr result SaysOfFlush
   pub rest : new ≡ record old { lines = new.lines }
 
 -- the same, and the exporter is shut down
@@ -129,7 +142,7 @@ pub record ShutsDown {W R : Type 0} (contents : W → Option (List ℕ))
   pub written : OnOk result (new.lines.newline_is_pending ≡ false)
   pub writes : Writes contents old.lines new.lines []
   pub flushed : old.is_shut_down ≡ false → IsFlushed may_write may_flush result
-  pub fails : old.is_shut_down ≡ false → IfErr result IsFailure
+  pub fails : old.is_shut_down ≡ false → IfErr result SaysOfFlush
   pub rest : new ≡ record old { lines = new.lines; is_shut_down = true }
 
 -- What the exporter says about its calls. Only if it was shut down, a batch is refused with

@@ -35,18 +35,25 @@ IsUnopened opens folder name Unreachable = opens (file_in folder name) None
 IsUnopened opens folder name Malformed = ⊥
 IsUnopened opens folder name (Memory failed) = ⊤
 
--- `outputs` and `inputs` relate a path and the file that was opened there, or `None` if that failed
-module _ {F : Type 0} (outputs inputs : List ℕ → Option F → Type 0) where
-  -- both files of the folder were opened
+-- `outputs` and `inputs` relate a path and the file that was opened there, or `None` if that
+-- failed; `inputs` also the file that was opened before
+module _ {F : Type 0} (outputs : List ℕ → Option F → Type 0)
+    (inputs : F → List ℕ → Option F → Type 0) where
+  -- both files of the folder were opened, the one for the request first
   pub record Opens (folder : List ℕ) (input output : F) : Type 0 where
     pub written : outputs (file_in folder (codes "request")) (Some output)
-    pub read : inputs (file_in folder (codes "response")) (Some input)
+    pub read : inputs output (file_in folder (codes "response")) (Some input)
+
+  -- the file for the request was opened; the other couldn't be, or memory ran out
+  abbrev pub IsUnread : List ℕ → HttpError → Type 0
+  IsUnread folder error =
+      (output : F) × outputs (file_in folder (codes "request")) (Some output)
+      × IsUnopened (inputs output) folder (codes "response") error
 
   -- there is no answer: a file couldn't be opened, or memory ran out, or both were opened
   abbrev pub IsUnanswered : List ℕ → HttpError → Type 0
   IsUnanswered folder error =
-      (IsUnopened outputs folder (codes "request") error
-      ⊎ IsUnopened inputs folder (codes "response") error)
+      (IsUnopened outputs folder (codes "request") error ⊎ IsUnread folder error)
       ⊎ ((input : F) × (output : F) × Opens folder input output)
 
   -- Both files were opened, the request was written to the one, and its answer was read from the

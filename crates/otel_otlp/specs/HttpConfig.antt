@@ -12,6 +12,7 @@ use Rattle.http_header.specs.Token.{lowercase}
 use Rattle.http_uri.specs.Uri.{Spells, uri_scheme, uri_path}
 use Rattle.http_uri.specs.declared.uri.Uri.{Uri}
 use Rattle.http.specs.declared.request.Parts.{Parts}
+use Rattle.http.specs.declared.version.TheConstants.Version.{HTTP_11}
 use Rattle.otel_otlp.specs.declared.otlp_http.config.ConfigError.{ConfigError}
 use Rattle.otel_otlp.specs.declared.otlp_http.config.ConfigError.TheVariants as error
 
@@ -111,9 +112,10 @@ abbrev pub with_json : Entries FieldValue → Entries FieldValue
 with_json headers =
     insert headers (codes "content-type") (plain_value (codes "application/json"))
 
--- a POST to the target, with the configured headers and the content type of JSON
+-- a POST of HTTP/1.1 to the target, with the configured headers and the content type of JSON
 pub record IsHead (config : Config) (path : List ℕ) (head : Parts) : Type 0 where
   pub method : head.method ≡ codes "POST"
+  pub version : head.version ≡ HTTP_11
   pub uri : IsTarget config.endpoint (added config path) head.uri
   pub headers : head.headers ≡ with_json config.headers
 

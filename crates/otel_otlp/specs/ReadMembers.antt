@@ -16,18 +16,17 @@ use Rattle.hex.proofs.OnLiterals.{hex_on_literals}
 use Rattle.otel_ids.specs.Reading.{Reads}
 use Rattle.otel_ids.specs.TraceState.{Pair}
 use Rattle.otel_otlp.specs.HttpResponse.{IsCount}
-use Rattle.otel_otlp.specs.declared.read.error.ReadError.{ReadError}
-use Rattle.otel_otlp.specs.declared.read.error.ReadError.TheVariants as error
+use Rattle.otel_otlp.specs.declared.read.error.Fault.{Fault}
+use Rattle.otel_otlp.specs.declared.read.error.Fault.TheVariants as fault
 use Rattle.serde_json.specs.Data.{Data, null, boolean, number, string, array, object}
 use Rattle.serde_json.specs.Data.{Items, no_items, item}
 use Rattle.serde_json.specs.Find.{get, as_null, as_i64, as_str, as_array, as_object}
 
--- ---- errors
--- the line was refused; it didn't run out of memory
-abbrev pub IsRefusal : ReadError → Type 0
-IsRefusal error.Json = Unit {0}
-IsRefusal (error.Unexpected place wanted) = Unit {0}
-IsRefusal (error.Memory e) = ⊥
+-- ---- faults
+-- the value was refused; memory didn't run out
+abbrev pub IsRefused : Fault → Type 0
+IsRefused (fault.Unexpected place wanted) = Unit {0}
+IsRefused (fault.Memory e) = ⊥
 
 -- ---- members
 abbrev pub IsObject : Data → Type 0

@@ -2,7 +2,7 @@
 -- [RFC 9110; RFC 9112].
 use Rattle.std.specs.Prelude.{◌≡◌, ◌⊎◌, ◌≤◌, ◌*◌, ℕ, Bool, true, false, List, [], ◌∷◌, ◌++◌, length}
 use Rattle.std.specs.Prelude.{Ok, Option, Some, None, option_map, unwrap_or, Vec, All, IsTrue}
-use Rattle.std.specs.Prelude.{map, fold, codes, alloc_error, Result, ⊤}
+use Rattle.std.specs.Prelude.{map, fold, codes, alloc_error, Result, ⊤, ◌&&◌}
 use Rattle.std.specs.Io.KnownBytes.{Appends, Consumes}
 use Rattle.std.specs.declared.io.Error.{Error}
 use Rattle.std.specs.declared.alloc.Global.{Global}
@@ -23,15 +23,15 @@ use Rattle.http1.specs.declared.conn.BodySize.TheVariants.{Known}
 use Rattle.http1.specs.declared.conn.Limits.{Limits}
 use Rattle.http1.specs.declared.error.WriteError.{WriteError}
 use Rattle.http1.specs.declared.error.WriteError.TheVariants.{OutOfMemory}
-use Rattle.http1.specs.Fields.{Header}
+use Rattle.http1.specs.Fields.{Header, known_fields}
 use Rattle.http1.specs.Framing.{method_kind}
 use Rattle.http1.specs.Encoder.{encoder_for, AreAccepted}
 use Rattle.http1.specs.Head.{is_request_line, head_refusal}
 use Rattle.http1.specs.Message as Wire
 use Rattle.http1.specs.Message.{Answer, ReadsAnswers}
-use Rattle.http1.specs.Conn.{Plan, length_header, data_text, after_data, finish_text}
+use Rattle.http1.specs.Conn.{Plan, length_header, data_text, after_data, finish_text, keeps_alive}
 use Rattle.http1.specs.Client.{new_client, is_interim, request_plan, planned_request}
-use Rattle.http1.specs.Client.{after_request, after_end, with_writing, writing}
+use Rattle.http1.specs.Client.{after_request, after_end, with_writing, writing, is_written, IsIdle}
 use Rattle.http1.specs.ServerTrace.{SeenBody, no_body}
 use Rattle.http1.specs.ClientTrace.{SeenResponse, answer_view, Seen, Trace}
 use Rattle.http1_typed.specs.Parts.{fields_of, version_of}
@@ -203,15 +203,20 @@ pub record Answers (p : Request.Parts) (stream : List ℕ) (answer : Answering (
   pub body : (answered.body_of answer).items ≡ last.body.bytes
   pub within : length last.body.bytes ≤ max_body_len
 
+-- by its version and its headers the response keeps the connection
+abbrev pub KeepsOpen : SeenResponse → Type 0
+KeepsOpen seen = IsTrue (keeps_alive seen.minor (known_fields seen.headers))
+
 -- `remaining` is the reader's: the bytes that it will give, if they are known
 module _ {R : Type 0} (remaining : R → Option (List ℕ)) where
-  -- the client has read bytes, and what it had unread, followed by them, begins with this answer to
-  -- the request
+  -- The client has read bytes, and what it had unread, followed by them, begins with this answer to
+  -- the request. Another request can be sent only if the response keeps the connection.
   abbrev pub ReadsAnswer : {W : Type 0}
       → Request.Parts → Streaming R W → Received → Streaming R W → Type 0
   ReadsAnswer p old answer new =
       (came : List ℕ) × Consumes (remaining old.reader) (remaining new.reader) came
-      × Answers p (old.unread ++ came) answer new.unread
+      × ((told : Answers p (old.unread ++ came) answer new.unread)
+      × (IsTrue new.is_open → KeepsOpen told.last))
 
   -- the source has read these bytes, and none was used
   abbrev pub Gains : Source R → List ℕ → Source R → Type 0
@@ -230,6 +235,10 @@ module _ {R : Type 0} (remaining : R → Option (List ℕ)) where
 -- the response with this body
 abbrev pub with_body : SeenResponse → SeenBody → SeenResponse
 with_body seen body = record seen { body = body }
+
+-- the connection is kept after the response that it reads
+abbrev pub is_kept : Client → Bool
+is_kept c = c.keep_alive && is_written c.writing
 
 -- The connection `first`, which is given the stream, has skipped responses of status 1xx, and
 -- waits for `unread`.
@@ -251,6 +260,7 @@ pub record FindsHead (first : Client) (stream : List ℕ) (now : Client) (unread
   pub is_final : is_interim head.status ≡ false
   pub method : head.method ≡ first.method
   pub parts : ArePartsOf head p
+  pub keeps : IsTrue (is_kept now) → KeepsOpen head
   pub goes_on : (more : List ℕ) (later : Seen) (rest : List ℕ)
       → Trace now (unread ++ more) later rest
       → Trace first (stream ++ more)
@@ -288,15 +298,20 @@ abbrev pub StepsInBody : Client → List ℕ → Client → List ℕ → List �
 StepsInBody first stream now unread piece true = FindsBody first stream piece unread
 StepsInBody first stream now unread piece false = Gives first stream now unread piece
 
+-- within a body nothing changes whether the connection is kept, and it is idle at the end only then
+abbrev pub StaysOpen : Bool → Client → Client → Type 0
+StaysOpen true old new = IsIdle new → IsTrue (is_kept old)
+StaysOpen false old new = is_kept new ≡ is_kept old
+
 -- a step in a body, by whose piece the body has become `longer`
 abbrev pub Grows : List ℕ → List ℕ → Client → List ℕ → Client → List ℕ → Bool → Type 0
 Grows body longer first stream now unread ended =
     (piece : List ℕ) × (longer ≡ body ++ piece) × StepsInBody first stream now unread piece ended
 
 -- The connection `first`, which is given the stream, has read responses of status 1xx, then the
--- answer, and `rest` follows it.
-pub record Replies (first : Client) (stream : List ℕ) (answer : Answering (Vec ℕ Global))
-    (rest : List ℕ) : Type 0 where
+-- answer, and `rest` follows it. It is idle `now` only if the answer keeps it.
+pub record Replies (first : Client) (stream : List ℕ) (now : Client)
+    (answer : Answering (Vec ℕ Global)) (rest : List ℕ) : Type 0 where
   pub interim : List SeenResponse
   pub are_interim : AreInterim interim
   pub last : SeenResponse
@@ -305,5 +320,6 @@ pub record Replies (first : Client) (stream : List ℕ) (answer : Answering (Vec
   pub parts : ArePartsOf last (answered.head_of answer)
   pub body : (answered.body_of answer).items ≡ last.body.bytes
   pub within : length last.body.bytes ≤ max_body_len
+  pub keeps : IsIdle now → KeepsOpen last
   pub trace :
       Trace first stream (record { body = no_body; responses = interim ++ last ∷ [] }) rest

@@ -4,7 +4,7 @@ ghost use Rattle.std.specs.Prelude.{IsTrue, IsOk, IfOk, IfErr, OnOk, OnErr, IsEr
 ghost use Rattle.std.specs.Rc.{rc_value};
 ghost use Rattle.otel_sdk_base.specs.Writers.{IsWritersError};
 ghost use Rattle.otel_otlp.specs.Exporter.{initial, with_pending_newline, Writes};
-ghost use Rattle.otel_otlp.specs.Exporter.{IsLineOf, IsCutOffLineOf};
+ghost use Rattle.otel_otlp.specs.Exporter.{IsLineOf, IsCutOffLineOf, SaysOfLine};
 ghost use Rattle.otel_otlp.specs.Exporter.{RefusesIfShutDown, ForceFlushes, ShutsDown};
 
 use crate::groups::{Grouped, batch_text};
@@ -85,6 +85,7 @@ fn write_batch<W: WriterCalls, R: Grouped>(
         → lines.new ≡ lines.old }
     ensures open { IsErrOf result OTelSdkError.AlreadyShutdown → ⊥ }
     ensures failed { IfErr result (IsWritersError W.may_write) }
+    ensures says { IfErr result SaysOfLine }
     ensures empty { batch.now ≡ [] → IsOk result }
 {
     if batch.is_empty() {
@@ -160,6 +161,7 @@ impl<W: WriterCalls + Drop, R: Grouped> Exporter<R> for OtlpJsonExporter<W, R> {
             → self.new ≡ self.old }
         ensures failed { self.old.is_shut_down ≡ false
             → IfErr result (IsWritersError W.may_write) }
+        ensures says { self.old.is_shut_down ≡ false → IfErr result SaysOfLine }
         ensures empty { self.old.is_shut_down ≡ false → batch.now ≡ [] → IsOk result }
         ensures line { OnOk result ((line : List ℕ)
             × IsLineOf R.form self.old.resource batch.now line

@@ -3,7 +3,8 @@ ghost use Rattle.std.specs.Prelude.{◌≡◌, ◌<◌, ◌++◌, ◌∷◌, ℕ
 ghost use Rattle.std.specs.Prelude.{IsTrue, IsOk, OnOk, OnErr, IfErr, IsErrOf, alloc_error, ◌↔◌};
 ghost use Rattle.std.specs.Prelude.{string_bytes};
 ghost use Rattle.otel_sdk_base.specs.Writers.{IsFlushed, IsStuck, IsWritersError};
-ghost use Rattle.otel_otlp.specs.Exporter.{Writes, Flushes, IsCutOff, IsFailure};
+ghost use Rattle.otel_otlp.specs.Exporter.{Writes, Flushes, IsCutOff};
+ghost use Rattle.otel_otlp.specs.Exporter.{Says, SaysOfLine, SaysOfFlush};
 
 use crate::written::write_bytes;
 use otel_sdk_base::WriterCalls;
@@ -12,7 +13,7 @@ use std::alloc::Global;
 
 // Returns the failure with the message, which is empty if out of memory.
 fn failure(alloc: Global, message: &str) -> OTelSdkError
-    ensures { IsFailure result }
+    ensures { Says message.now result }
 {
     match String::from_str(alloc, message) {
         Ok(message) => OTelSdkError::InternalFailure(message),
@@ -23,7 +24,7 @@ fn failure(alloc: Global, message: &str) -> OTelSdkError
 // Returns `Ok` if the writer was flushed, and otherwise that it failed.
 fn flush_result(alloc: Global, flushed: bool) -> OTelSdkResult
     ensures same { IsOk result ↔ IsTrue flushed }
-    ensures failure { IfErr result IsFailure }
+    ensures failure { IfErr result SaysOfFlush }
 {
     if flushed {
         return Ok(());
@@ -86,6 +87,7 @@ impl<W: WriterCalls> Lines<W> {
             → self.new ≡ self.old }
         ensures open { IsErrOf result OTelSdkError.AlreadyShutdown → ⊥ }
         ensures failed { IfErr result (IsWritersError W.may_write) }
+        ensures says { IfErr result SaysOfLine }
     {
         text.push('\n')?;
         if !self.write_pending_newline() || !self.write_object(text.as_str()) {

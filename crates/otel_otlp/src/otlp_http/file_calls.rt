@@ -6,7 +6,8 @@ use std::io::{Read, Write};
 /// The calls that open files. Every [`Files`] has them.
 ///
 /// The ghost members `outputs` and `inputs` relate a path and the file that was opened there, to be
-/// written or to be read, or `None` if that failed. Code that is generic over this trait knows
+/// written or to be read, or `None` if that failed; `inputs` also the file to be written, which was
+/// opened before. Code that is generic over this trait knows
 /// nothing of them: only a call shows that a file was opened.
 pub trait FileCalls {
     ghost use Rattle.std.specs.Prelude.{ℕ, List, Option};
@@ -16,15 +17,15 @@ pub trait FileCalls {
 
     ghost outputs: { List ℕ → Option Self.Stream → Type 0 };
 
-    ghost inputs: { List ℕ → Option Self.Stream → Type 0 };
+    ghost inputs: { Self.Stream → List ℕ → Option Self.Stream → Type 0 };
 
     /// Opens the file of the path to write to it. Returns `None` if that failed.
     fn open_output(&self, path: &str) -> Option<Self::Stream>
         ensures { outputs path.now result };
 
-    /// Opens the file of the path to read it. Returns `None` if that failed.
-    fn open_input(&self, path: &str) -> Option<Self::Stream>
-        ensures { inputs path.now result };
+    /// Opens the file of the path to read it, once `output` is open. Returns `None` if that failed.
+    fn open_input(&self, path: &str, output: &Self::Stream) -> Option<Self::Stream>
+        ensures { inputs output.now path.now result };
 }
 
 impl<R: Files> FileCalls for R {
@@ -32,13 +33,13 @@ impl<R: Files> FileCalls for R {
 
     ghost outputs = { λ _ _. Unit {0} };
 
-    ghost inputs = { λ _ _. Unit {0} };
+    ghost inputs = { λ _ _ _. Unit {0} };
 
     fn open_output(&self, path: &str) -> Option<R::File> {
         OpenOptions::new().write(true).open(self, path).ok()
     }
 
-    fn open_input(&self, path: &str) -> Option<R::File> {
+    fn open_input(&self, path: &str, _output: &R::File) -> Option<R::File> {
         OpenOptions::new().read(true).open(self, path).ok()
     }
 }

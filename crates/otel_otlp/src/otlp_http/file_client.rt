@@ -97,15 +97,16 @@ impl<R: FileCalls + Drop> FileClient<R> {
             .ok_or(HttpError::Unreachable)
     }
 
-    // Opens the folder's file `response` to read it.
-    fn open_response(&self) -> Result<R::Stream, HttpError>
+    // Opens the folder's file `response` to read it, once `output` is open.
+    fn open_response(&self, output: &R::Stream) -> Result<R::Stream, HttpError>
         ensures ok { IfOk result (λ file.
-            R.inputs (file_in self.now.folder (codes "response")) (Some file)) }
-        ensures err { IfErr result (IsUnopened R.inputs self.now.folder (codes "response")) }
+            R.inputs output.now (file_in self.now.folder (codes "response")) (Some file)) }
+        ensures err { IfErr result
+            (IsUnopened (R.inputs output.now) self.now.folder (codes "response")) }
     {
         let path = self.path("response").map_err(HttpError::Memory)?;
         self.files
-            .open_input(path.as_str())
+            .open_input(path.as_str(), output)
             .ok_or(HttpError::Unreachable)
     }
 }
@@ -130,7 +131,7 @@ impl<R: FileCalls + Drop> HttpClient for FileClient<R> {
     {
         self.sent = self.sent.and_one(request);
         let output = self.open_request()?;
-        let input = self.open_response()?;
+        let input = self.open_response(&output)?;
         StreamClient::new(self.alloc, self.keys, input, output).send_bytes(request)
     }
 }

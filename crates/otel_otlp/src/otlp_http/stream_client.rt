@@ -3,7 +3,7 @@ ghost use Rattle.std.specs.Prelude.{◌≡◌, ℕ, [], ◌∷◌, ◌++◌, tak
 ghost use Rattle.std.specs.Prelude.{IsTrue, IsErr, IsErrOf, IfOk, IfErr, OnOk, OnErr};
 ghost use Rattle.std.specs.Io.KnownBytes.{Appends};
 ghost use Rattle.http.specs.Request.{head_of, body_of};
-ghost use Rattle.http1.specs.Client.{reading};
+ghost use Rattle.http1.specs.Client.{reading, IsIdle};
 ghost use Rattle.http1.specs.Framing.{method_kind};
 ghost use Rattle.http1.specs.declared.conn.Reading.TheVariants as Reading;
 ghost use Rattle.otel_otlp.specs.StreamClient.{initial, request_text, asking, IsRequest};
@@ -146,6 +146,14 @@ fn write<W: WriterCalls>(
     Ok(connection)
 }
 
+// Returns `true` if another request can be sent: the connection is kept, and no byte is unread.
+fn is_free(connection: &Client, unread: &BytesMut) -> bool
+    ensures idle { IsTrue result → IsIdle connection.now }
+    ensures read { IsTrue result → unread.now.items ≡ [] }
+{
+    connection.is_idle() && unread.is_empty()
+}
+
 impl<R: ReaderCalls + Drop, W: WriterCalls + Drop> HttpClient for StreamClient<R, W> {
     ghost sent = { λ c. c.sent };
 
@@ -191,7 +199,7 @@ impl<R: ReaderCalls + Drop, W: WriterCalls + Drop> HttpClient for StreamClient<R
         self.is_open = false;
         let mut connection = write(self.source.alloc, &mut self.writer, request)?;
         let response = self.source.read_response(&mut connection)?;
-        self.is_open = connection.is_idle() && self.source.unread.is_empty();
+        self.is_open = is_free(&connection, &self.source.unread);
         Ok(response)
     }
 }

@@ -1,8 +1,9 @@
 //! The reason why a line wasn't read.
 ghost use Rattle.std.specs.Prelude.{◌≡◌, [], codes, alloc_error, string_bytes, IfOk};
-ghost use Rattle.otel_otlp.specs.ReadErrors.{IsWithin, NamesPlace, item_step};
+ghost use Rattle.otel_otlp.specs.ReadErrors.{IsWithin, NamesPlace, item_step, told};
 ghost use Rattle.otel_otlp.specs.ReadErrors.{place_within as place_in, separator_of};
-ghost use Rattle.otel_otlp.specs.ReadMembers.{IsRefusal};
+ghost use Rattle.otel_otlp.specs.ReadMembers.{IsRefused};
+ghost use Rattle.otel_otlp.specs.declared.read.error.Fault.TheVariants as fault;
 ghost use Rattle.otel_otlp.specs.declared.read.error.ReadError.TheVariants.{Memory};
 
 use std::alloc::{AllocError, AllocFailed, Global};
@@ -44,6 +45,47 @@ impl<T: Drop> From<AllocFailed<T>> for ReadError {
     }
 }
 
+/// The reason why a value of a line wasn't read.
+#[derive(Debug, Drop)]
+pub(crate) enum Fault {
+    /// The value at the place isn't allowed there by the protocol.
+    Unexpected {
+        /// The place in the value.
+        place: String,
+        /// The kind of value that is allowed there.
+        wanted: &'static str,
+    },
+    /// Out of memory.
+    Memory(AllocError),
+}
+
+impl From<AllocError> for Fault {
+    ghost from_gives = { λ error converted. converted ≡ fault.Memory error };
+
+    fn from(error: AllocError) -> Fault {
+        Fault::Memory(error)
+    }
+}
+
+impl<T: Drop> From<AllocFailed<T>> for Fault {
+    ghost from_gives = { λ _ converted. converted ≡ fault.Memory alloc_error };
+
+    fn from(_error: AllocFailed<T>) -> Fault {
+        Fault::Memory(AllocError)
+    }
+}
+
+impl From<Fault> for ReadError {
+    ghost from_gives = { λ given converted. converted ≡ told given };
+
+    fn from(fault: Fault) -> ReadError {
+        match fault {
+            Fault::Unexpected { place, wanted } => ReadError::Unexpected { place, wanted },
+            Fault::Memory(error) => ReadError::Memory(error),
+        }
+    }
+}
+
 /// Returns the text between a step and the place within it: a dot, unless the place begins with the
 /// index of an item, or is empty.
 fn separator(place: &str) -> &'static str
@@ -65,48 +107,48 @@ fn place_within(alloc: Global, step: &str, place: &str) -> Result<String, AllocE
     Ok(text)
 }
 
-/// Returns the error for a value at the place.
-pub(crate) fn unexpected(alloc: Global, place: &str, wanted: &'static str) -> ReadError
+/// Returns the fault of a value at the place.
+pub(crate) fn unexpected(alloc: Global, place: &str, wanted: &'static str) -> Fault
     ensures { NamesPlace place.now wanted.now result }
 {
     match String::from_str(alloc, place) {
-        Ok(place) => ReadError::Unexpected { place, wanted },
-        Err(error) => ReadError::Memory(error),
+        Ok(place) => Fault::Unexpected { place, wanted },
+        Err(error) => Fault::Memory(error),
     }
 }
 
-/// Returns the error for a value that isn't an object.
-pub(crate) fn no_object(alloc: Global) -> ReadError
+/// Returns the fault of a value that isn't an object.
+pub(crate) fn no_object(alloc: Global) -> Fault
     ensures { NamesPlace [] (codes "an object") result }
 {
     unexpected(alloc, "", "an object")
 }
 
-impl ReadError {
-    /// Returns the error with the step before its place.
-    pub(crate) fn within(self, alloc: Global, step: &str) -> ReadError
-        ensures refusal { IsRefusal result → IsRefusal self }
+impl Fault {
+    /// Returns the fault with the step before its place.
+    pub(crate) fn within(self, alloc: Global, step: &str) -> Fault
+        ensures refusal { IsRefused result → IsRefused self }
         ensures place { IsWithin step.now self result }
     {
         match self {
-            ReadError::Unexpected { place, wanted } => {
+            Fault::Unexpected { place, wanted } => {
                 match place_within(alloc, step, place.as_str()) {
-                    Ok(place) => ReadError::Unexpected { place, wanted },
-                    Err(error) => ReadError::Memory(error),
+                    Ok(place) => Fault::Unexpected { place, wanted },
+                    Err(error) => Fault::Memory(error),
                 }
             }
             other => other,
         }
     }
 
-    /// Returns the error with the index of an item before its place.
-    pub(crate) fn in_item(self, alloc: Global, index: usize) -> ReadError
-        ensures refusal { IsRefusal result → IsRefusal self }
+    /// Returns the fault with the index of an item before its place.
+    pub(crate) fn in_item(self, alloc: Global, index: usize) -> Fault
+        ensures refusal { IsRefused result → IsRefused self }
         ensures place { IsWithin (item_step index) self result }
     {
         match format!(in alloc; "[{index}]") {
             Ok(step) => self.within(alloc, step.as_str()),
-            Err(error) => ReadError::Memory(error),
+            Err(error) => Fault::Memory(error),
         }
     }
 }

@@ -3,11 +3,11 @@ ghost use Rattle.std.specs.Prelude.{◌≡◌, List, IfOk, IfErr, map};
 ghost use Rattle.std.specs.List.{All, AllZip};
 ghost use Rattle.std.specs.Rc.{rc_value};
 ghost use Rattle.serde_json.specs.View.{view};
-ghost use Rattle.otel_otlp.specs.ReadMembers.{IsRefusal, AreIn};
+ghost use Rattle.otel_otlp.specs.ReadMembers.{IsRefused, AreIn};
 ghost use Rattle.otel_otlp.specs.ReadGroups as spec;
 
 use crate::groups::Grouped;
-use crate::read::error::ReadError;
+use crate::read::error::Fault;
 use crate::read::members::{check_object, given_text, items};
 use crate::read::messages::{Message, read_list};
 use crate::read::scopes::scope_in;
@@ -24,7 +24,7 @@ pub(crate) trait Item: Grouped + Sized {
     ghost use Rattle.std.specs.Rc.{rc_value};
     ghost use Rattle.serde_json.specs.Data.{Data};
     ghost use Rattle.serde_json.specs.View.{view};
-    ghost use Rattle.otel_otlp.specs.ReadMembers.{IsRefusal};
+    ghost use Rattle.otel_otlp.specs.ReadMembers.{IsRefused};
 
     ghost says: { Data → Self → Type 0 };
 
@@ -33,14 +33,10 @@ pub(crate) trait Item: Grouped + Sized {
     /// # Errors
     ///
     /// `Unexpected` if the value isn't such an item; `Memory` if out of memory.
-    fn read(
-        alloc: Global,
-        value: &Value,
-        scope: &Rc<InstrumentationScope>,
-    ) -> Result<Self, ReadError>
+    fn read(alloc: Global, value: &Value, scope: &Rc<InstrumentationScope>) -> Result<Self, Fault>
         ensures ok { IfOk result (says (view value.now)) }
         ensures scope { IfOk result (λ item. Self.form.scope_of item ≡ rc_value scope.now) }
-        ensures err { IfErr result (λ e. IsRefusal e → (item : Self)
+        ensures err { IfErr result (λ e. IsRefused e → (item : Self)
             → ¬ says (view value.now) item) };
 }
 
@@ -49,11 +45,11 @@ fn each_item<I: Item>(
     alloc: Global,
     values: &[Value],
     scope: &Rc<InstrumentationScope>,
-) -> Result<Vec<I>, ReadError>
+) -> Result<Vec<I>, Fault>
     ensures ok { IfOk result (λ read. AllZip I.says (map view values.now) read.items) }
     ensures scope { IfOk result (λ read.
         All (λ item. I.form.scope_of item ≡ rc_value scope.now) read.items) }
-    ensures err { IfErr result (λ e. IsRefusal e
+    ensures err { IfErr result (λ e. IsRefused e
         → (items : List I) → ¬ AllZip I.says (map view values.now) items) }
 {
     let mut read = Vec::with_capacity(alloc, values.len())?;
@@ -71,11 +67,11 @@ fn items_in<I: Item>(
     alloc: Global,
     group: &Value,
     scope: &Rc<InstrumentationScope>,
-) -> Result<Vec<I>, ReadError>
+) -> Result<Vec<I>, Fault>
     ensures ok { IfOk result (λ read. AreIn I.says I.form.items (view group.now) read.items) }
     ensures scope { IfOk result (λ read.
         All (λ item. I.form.scope_of item ≡ rc_value scope.now) read.items) }
-    ensures err { IfErr result (λ e. IsRefusal e
+    ensures err { IfErr result (λ e. IsRefused e
         → (items : List I) → ¬ AreIn I.says I.form.items (view group.now) items) }
 {
     let name = I::list_names().items;
@@ -137,7 +133,7 @@ impl<I: Item> Message for ScopeGroup<I> {
 
     ghost says = { spec.IsScopeGroup I.form I.says };
 
-    fn read(alloc: Global, value: &Value) -> Result<ScopeGroup<I>, ReadError> {
+    fn read(alloc: Global, value: &Value) -> Result<ScopeGroup<I>, Fault> {
         check_object(alloc, value)?;
         let url = given_text(alloc, value, "schemaUrl")?;
         let scope = scope_in(alloc, value, url)?;
@@ -148,9 +144,9 @@ impl<I: Item> Message for ScopeGroup<I> {
 }
 
 /// Returns the items of all scopes of the resource, in order.
-pub(crate) fn items_of<I: Item>(alloc: Global, resource: &Value) -> Result<Vec<I>, ReadError>
+pub(crate) fn items_of<I: Item>(alloc: Global, resource: &Value) -> Result<Vec<I>, Fault>
     ensures ok { IfOk result (λ read. spec.HasItems I.form I.says (view resource.now) read.items) }
-    ensures err { IfErr result (λ e. IsRefusal e
+    ensures err { IfErr result (λ e. IsRefused e
         → (items : List I) → ¬ spec.HasItems I.form I.says (view resource.now) items) }
 {
     let groups = read_list::<ScopeGroup<I>>(alloc, resource, I::list_names().scopes)?;

@@ -2,12 +2,11 @@
 ghost use Rattle.std.specs.Prelude.{List, IfOk, IfErr, map};
 ghost use Rattle.otel_sdk_logs.specs.LogRecord.{LogEntry};
 ghost use Rattle.otel_otlp.specs.ReadGroups.{ResourceItems};
-ghost use Rattle.otel_otlp.specs.ReadErrors.{NamesLine};
-ghost use Rattle.otel_otlp.specs.ReadMembers.{IsRefusal};
+ghost use Rattle.otel_otlp.specs.ReadErrors.{NamesLine, IsRefusal};
 ghost use Rattle.otel_otlp.specs.ReadLogs as spec;
 ghost use Rattle.otel_otlp.specs.ReadView.{records_of};
 
-use crate::read::error::ReadError;
+use crate::read::error::{Fault, ReadError};
 use crate::read::groups::{Group, items_of, joined};
 use crate::read::lines::groups_in_line;
 use crate::read::members::check_object;
@@ -50,7 +49,7 @@ impl Message for ResourceLogs {
 
     ghost says = { IsResourceGroup form IsEntry };
 
-    fn read(alloc: Global, value: &Value) -> Result<ResourceLogs, ReadError> {
+    fn read(alloc: Global, value: &Value) -> Result<ResourceLogs, Fault> {
         check_object(alloc, value)?;
         let resource = resource_in(alloc, value)?;
         let records = items_of::<LogData>(alloc, value)?;

@@ -5,10 +5,10 @@ ghost use Rattle.serde_json.specs.View.{view};
 ghost use Rattle.otel_ids.specs.TraceState.{Pair};
 ghost use Rattle.otel_otlp.specs.HttpResponse.{IsCount};
 ghost use Rattle.otel_otlp.specs.ReadMembers as spec;
-ghost use Rattle.otel_otlp.specs.ReadMembers.{IsRefusal};
+ghost use Rattle.otel_otlp.specs.ReadMembers.{IsRefused};
 ghost use Rattle.otel_otlp.specs.ReadErrors.{NamesPlace};
 
-use crate::read::error::{ReadError, no_object, unexpected};
+use crate::read::error::{Fault, no_object, unexpected};
 use hex::FromHex;
 use opentelemetry::StringValue;
 use opentelemetry::trace::{SpanId, TraceId, TraceState, TraceStateError};
@@ -26,9 +26,9 @@ pub(crate) fn member<'v>(object: &'v Value, name: &str) -> Option<&'v Value>
 }
 
 /// Checks that the value is an object.
-pub(crate) fn check_object(alloc: Global, value: &Value) -> Result<(), ReadError>
+pub(crate) fn check_object(alloc: Global, value: &Value) -> Result<(), Fault>
     ensures ok { OnOk result (spec.IsObject (view value.now)) }
-    ensures err { IfErr result (λ e. IsRefusal e → ¬ spec.IsObject (view value.now)) }
+    ensures err { IfErr result (λ e. IsRefused e → ¬ spec.IsObject (view value.now)) }
     ensures place { IfErr result (NamesPlace [] (codes "an object")) }
 {
     if value.is_object() {
@@ -39,10 +39,10 @@ pub(crate) fn check_object(alloc: Global, value: &Value) -> Result<(), ReadError
 }
 
 /// Returns the text of the member, which is empty if it is absent.
-pub(crate) fn text(alloc: Global, object: &Value, name: &str) -> Result<String, ReadError>
+pub(crate) fn text(alloc: Global, object: &Value, name: &str) -> Result<String, Fault>
     ensures ok { IfOk result (λ text.
         spec.text_in name.now (view object.now) ≡ Some (string_bytes text)) }
-    ensures err { IfErr result (λ e. IsRefusal e
+    ensures err { IfErr result (λ e. IsRefused e
         → spec.text_in name.now (view object.now) ≡ None) }
     ensures place { IfErr result (NamesPlace name.now (codes "a text")) }
 {
@@ -60,10 +60,10 @@ pub(crate) fn given_text(
     alloc: Global,
     object: &Value,
     name: &str,
-) -> Result<Option<StringValue>, ReadError>
+) -> Result<Option<StringValue>, Fault>
     ensures ok { IfOk result (λ text.
         spec.given_text_in name.now (view object.now) ≡ Some text) }
-    ensures err { IfErr result (λ e. IsRefusal e
+    ensures err { IfErr result (λ e. IsRefused e
         → spec.given_text_in name.now (view object.now) ≡ None) }
     ensures place { IfErr result (NamesPlace name.now (codes "a text")) }
 {
@@ -97,9 +97,9 @@ pub(crate) fn integer_of(value: &Value) -> Option<i64>
 }
 
 /// Returns the number of 64 bits of the member, 0 if it is absent.
-pub(crate) fn wide(alloc: Global, object: &Value, name: &str) -> Result<u64, ReadError>
+pub(crate) fn wide(alloc: Global, object: &Value, name: &str) -> Result<u64, Fault>
     ensures ok { IfOk result (spec.IsWideIn name.now (view object.now)) }
-    ensures err { IfErr result (λ e. IsRefusal e
+    ensures err { IfErr result (λ e. IsRefused e
         → (n : ℕ) → ¬ spec.IsWideIn name.now (view object.now) n) }
     ensures place { IfErr result (NamesPlace name.now (codes "a number of 64 bits")) }
 {
@@ -113,13 +113,9 @@ pub(crate) fn wide(alloc: Global, object: &Value, name: &str) -> Result<u64, Rea
 }
 
 /// Returns the number of 64 bits of the member, if it isn't absent.
-pub(crate) fn given_wide(
-    alloc: Global,
-    object: &Value,
-    name: &str,
-) -> Result<Option<u64>, ReadError>
+pub(crate) fn given_wide(alloc: Global, object: &Value, name: &str) -> Result<Option<u64>, Fault>
     ensures ok { IfOk result (spec.IsGivenWideIn name.now (view object.now)) }
-    ensures err { IfErr result (λ e. IsRefusal e
+    ensures err { IfErr result (λ e. IsRefused e
         → (n : Option ℕ) → ¬ spec.IsGivenWideIn name.now (view object.now) n) }
     ensures place { IfErr result (NamesPlace name.now (codes "a number of 64 bits")) }
 {
@@ -133,9 +129,9 @@ pub(crate) fn given_wide(
 }
 
 /// Returns the number of 32 bits of the member, 0 if it is absent.
-pub(crate) fn narrow(alloc: Global, object: &Value, name: &str) -> Result<u32, ReadError>
+pub(crate) fn narrow(alloc: Global, object: &Value, name: &str) -> Result<u32, Fault>
     ensures ok { IfOk result (spec.IsNarrowIn name.now (view object.now)) }
-    ensures err { IfErr result (λ e. IsRefusal e
+    ensures err { IfErr result (λ e. IsRefused e
         → (n : ℕ) → ¬ spec.IsNarrowIn name.now (view object.now) n) }
     ensures wide { ((n : ℕ) → ¬ spec.IsWideIn name.now (view object.now) n)
         → IfErr result (NamesPlace name.now (codes "a number of 64 bits")) }
@@ -150,13 +146,9 @@ pub(crate) fn narrow(alloc: Global, object: &Value, name: &str) -> Result<u32, R
 }
 
 /// Returns the number of 32 bits of the member, if it isn't absent.
-pub(crate) fn given_narrow(
-    alloc: Global,
-    object: &Value,
-    name: &str,
-) -> Result<Option<u32>, ReadError>
+pub(crate) fn given_narrow(alloc: Global, object: &Value, name: &str) -> Result<Option<u32>, Fault>
     ensures ok { IfOk result (spec.IsGivenNarrowIn name.now (view object.now)) }
-    ensures err { IfErr result (λ e. IsRefusal e
+    ensures err { IfErr result (λ e. IsRefused e
         → (n : Option ℕ) → ¬ spec.IsGivenNarrowIn name.now (view object.now) n) }
     ensures wide { ((n : ℕ) → ¬ spec.IsWideIn name.now (view object.now) n)
         → IfErr result (NamesPlace name.now (codes "a number of 64 bits")) }
@@ -190,9 +182,9 @@ fn span_id_of(text: &str) -> Option<SpanId>
 }
 
 /// Returns the trace id of the object.
-pub(crate) fn trace_id(alloc: Global, object: &Value) -> Result<TraceId, ReadError>
+pub(crate) fn trace_id(alloc: Global, object: &Value) -> Result<TraceId, Fault>
     ensures ok { IfOk result (λ id. spec.trace_id_in (view object.now) ≡ Some id) }
-    ensures err { IfErr result (λ e. IsRefusal e → spec.trace_id_in (view object.now) ≡ None) }
+    ensures err { IfErr result (λ e. IsRefused e → spec.trace_id_in (view object.now) ≡ None) }
     ensures place { IfErr result (NamesPlace (codes "traceId") (codes "32 hexadecimal digits")) }
 {
     match member(object, "traceId")
@@ -205,9 +197,9 @@ pub(crate) fn trace_id(alloc: Global, object: &Value) -> Result<TraceId, ReadErr
 }
 
 /// Returns the span id of the object.
-pub(crate) fn span_id(alloc: Global, object: &Value) -> Result<SpanId, ReadError>
+pub(crate) fn span_id(alloc: Global, object: &Value) -> Result<SpanId, Fault>
     ensures ok { IfOk result (λ id. spec.span_id_in (view object.now) ≡ Some id) }
-    ensures err { IfErr result (λ e. IsRefusal e → spec.span_id_in (view object.now) ≡ None) }
+    ensures err { IfErr result (λ e. IsRefused e → spec.span_id_in (view object.now) ≡ None) }
     ensures place { IfErr result (NamesPlace (codes "spanId") (codes "16 hexadecimal digits")) }
 {
     match member(object, "spanId")
@@ -230,9 +222,9 @@ fn parent_id_of(text: &str) -> Option<SpanId>
 }
 
 /// Returns the span id of the object's parent, 0 for a root.
-pub(crate) fn parent_id(alloc: Global, object: &Value) -> Result<SpanId, ReadError>
+pub(crate) fn parent_id(alloc: Global, object: &Value) -> Result<SpanId, Fault>
     ensures ok { IfOk result (λ id. spec.parent_id_in (view object.now) ≡ Some id) }
-    ensures err { IfErr result (λ e. IsRefusal e → spec.parent_id_in (view object.now) ≡ None) }
+    ensures err { IfErr result (λ e. IsRefused e → spec.parent_id_in (view object.now) ≡ None) }
     ensures place { IfErr result
         (NamesPlace (codes "parentSpanId") (codes "16 hexadecimal digits")) }
 {
@@ -272,9 +264,9 @@ fn given_span_id_of(text: &str) -> Option<Option<SpanId>>
 }
 
 /// Returns the trace id of the object, unless it is absent or empty.
-pub(crate) fn given_trace_id(alloc: Global, object: &Value) -> Result<Option<TraceId>, ReadError>
+pub(crate) fn given_trace_id(alloc: Global, object: &Value) -> Result<Option<TraceId>, Fault>
     ensures ok { IfOk result (λ id. spec.given_trace_id_in (view object.now) ≡ Some id) }
-    ensures err { IfErr result (λ e. IsRefusal e
+    ensures err { IfErr result (λ e. IsRefused e
         → spec.given_trace_id_in (view object.now) ≡ None) }
     ensures place { IfErr result (NamesPlace (codes "traceId") (codes "32 hexadecimal digits")) }
 {
@@ -288,9 +280,9 @@ pub(crate) fn given_trace_id(alloc: Global, object: &Value) -> Result<Option<Tra
 }
 
 /// Returns the span id of the object, unless it is absent or empty.
-pub(crate) fn given_span_id(alloc: Global, object: &Value) -> Result<Option<SpanId>, ReadError>
+pub(crate) fn given_span_id(alloc: Global, object: &Value) -> Result<Option<SpanId>, Fault>
     ensures ok { IfOk result (λ id. spec.given_span_id_in (view object.now) ≡ Some id) }
-    ensures err { IfErr result (λ e. IsRefusal e
+    ensures err { IfErr result (λ e. IsRefused e
         → spec.given_span_id_in (view object.now) ≡ None) }
     ensures place { IfErr result (NamesPlace (codes "spanId") (codes "16 hexadecimal digits")) }
 {
@@ -304,9 +296,9 @@ pub(crate) fn given_span_id(alloc: Global, object: &Value) -> Result<Option<Span
 }
 
 /// Returns the trace state of the object, which is empty if it is absent.
-pub(crate) fn trace_state(alloc: Global, object: &Value) -> Result<TraceState, ReadError>
+pub(crate) fn trace_state(alloc: Global, object: &Value) -> Result<TraceState, Fault>
     ensures ok { IfOk result (spec.HasState (view object.now)) }
-    ensures err { IfErr result (λ e. IsRefusal e
+    ensures err { IfErr result (λ e. IsRefused e
         → (pairs : List Pair) → ¬ spec.HasState (view object.now) pairs) }
     ensures text { spec.text_in (codes "traceState") (view object.now) ≡ None
         → IfErr result (NamesPlace (codes "traceState") (codes "a text")) }
@@ -318,21 +310,17 @@ pub(crate) fn trace_state(alloc: Global, object: &Value) -> Result<TraceState, R
     let text = text(alloc, object, "traceState")?;
     match TraceState::from_str(alloc, text.as_str()) {
         Ok(state) => Ok(state),
-        Err(TraceStateError::Memory(error)) => Err(ReadError::Memory(error)),
+        Err(TraceStateError::Memory(error)) => Err(Fault::Memory(error)),
         Err(_) => Err(unexpected(alloc, "traceState", "pairs of keys and values")),
     }
 }
 
 /// Returns the values of the list, none if it is absent.
 #[tactic(auto, using(crate::proofs::ReadLists::items_again))]
-pub(crate) fn items<'v>(
-    alloc: Global,
-    object: &'v Value,
-    name: &str,
-) -> Result<&'v [Value], ReadError>
+pub(crate) fn items<'v>(alloc: Global, object: &'v Value, name: &str) -> Result<&'v [Value], Fault>
     ensures ok { IfOk result (λ values.
         spec.list_in name.now (view object.now) ≡ Some (map view values.now)) }
-    ensures err { IfErr result (λ e. IsRefusal e
+    ensures err { IfErr result (λ e. IsRefused e
         → spec.list_in name.now (view object.now) ≡ None) }
     ensures place { IfErr result (NamesPlace name.now (codes "a list")) }
 {

@@ -9,11 +9,11 @@ ghost use Rattle.otel_base.specs.View.{tree, pairs_view};
 ghost use Rattle.otel_sdk_logs.specs.Attributes.{Attribute, default_limits};
 ghost use Rattle.otel_sdk_logs.specs.LogRecord.{LogState};
 ghost use Rattle.otel_sdk_logs.specs.declared.record.TraceContext.{TraceContext as Active};
-ghost use Rattle.otel_otlp.specs.ReadMembers.{IsRefusal};
+ghost use Rattle.otel_otlp.specs.ReadMembers.{IsRefused};
 ghost use Rattle.otel_otlp.specs.ReadErrors.{NamesPlace};
 ghost use Rattle.otel_otlp.specs.ReadLogs as spec;
 
-use crate::read::error::{ReadError, unexpected};
+use crate::read::error::{Fault, unexpected};
 use crate::read::groups::Item;
 use crate::read::members::{
     check_object, given_narrow, given_span_id, given_text, given_trace_id, given_wide, member,
@@ -143,9 +143,9 @@ fn severity_of(value: &Value) -> Option<Option<Severity>>
 }
 
 /// Returns the severity of the record, if it has one.
-fn severity(alloc: Global, record: &Value) -> Result<Option<Severity>, ReadError>
+fn severity(alloc: Global, record: &Value) -> Result<Option<Severity>, Fault>
     ensures ok { IfOk result (λ s. spec.HasSeverity (view record.now) (option_map number_of s)) }
-    ensures err { IfErr result (λ e. IsRefusal e
+    ensures err { IfErr result (λ e. IsRefused e
         → (s : Option ℕ) → ¬ spec.HasSeverity (view record.now) s) }
     ensures place { IfErr result (NamesPlace (codes "severityNumber") (codes "a severity")) }
 {
@@ -177,9 +177,9 @@ fn active_of(
 }
 
 /// Returns the span that was active, if the record names one.
-fn active_in(alloc: Global, record: &Value) -> Result<Option<TraceContext>, ReadError>
+fn active_in(alloc: Global, record: &Value) -> Result<Option<TraceContext>, Fault>
     ensures ok { IfOk result (spec.HasActive (view record.now)) }
-    ensures err { IfErr result (λ e. IsRefusal e
+    ensures err { IfErr result (λ e. IsRefused e
         → (c : Option Active) → ¬ spec.HasActive (view record.now) c) }
 {
     let trace_id = given_trace_id(alloc, record)?;
@@ -239,10 +239,10 @@ fn without_target(
 }
 
 /// Returns the attributes, the target and the number of attributes that were dropped.
-fn details_in(alloc: Global, record: &Value) -> Result<Details, ReadError>
+fn details_in(alloc: Global, record: &Value) -> Result<Details, Fault>
     ensures ok { IfOk result (λ d.
         spec.HasDetails (view record.now) (pairs_view d.attributes.items) d.target d.dropped) }
-    ensures err { IfErr result (λ e. IsRefusal e
+    ensures err { IfErr result (λ e. IsRefused e
         → (xs : List Attribute) (target : Option (List ℕ)) (dropped : ℕ)
         → ¬ spec.HasDetails (view record.now) xs target dropped) }
 {
@@ -266,10 +266,10 @@ struct Moment {
 }
 
 /// Returns the times and the severity of a record.
-fn moment_in(alloc: Global, record: &Value) -> Result<Moment, ReadError>
+fn moment_in(alloc: Global, record: &Value) -> Result<Moment, Fault>
     ensures ok { IfOk result (λ m. spec.HasMoment (view record.now)
         m.timestamp m.observed_timestamp (option_map number_of m.severity)) }
-    ensures err { IfErr result (λ e. IsRefusal e → (happened observed severity : Option ℕ)
+    ensures err { IfErr result (λ e. IsRefused e → (happened observed severity : Option ℕ)
         → ¬ spec.HasMoment (view record.now) happened observed severity) }
 {
     let timestamp = given_wide(alloc, record, "timeUnixNano")?;
@@ -291,10 +291,10 @@ struct Words {
 }
 
 /// Returns the text of the severity, the name of the event and the body of a record.
-fn words_in(alloc: Global, record: &Value) -> Result<Words, ReadError>
+fn words_in(alloc: Global, record: &Value) -> Result<Words, Fault>
     ensures ok { IfOk result (λ w. spec.HasWords (view record.now)
         w.severity w.event_name (option_map tree w.body)) }
-    ensures err { IfErr result (λ e. IsRefusal e
+    ensures err { IfErr result (λ e. IsRefused e
         → (severity name : Option (List ℕ)) (body : Option Tree)
         → ¬ spec.HasWords (view record.now) severity name body) }
 {
@@ -343,9 +343,9 @@ fn record_of(
 }
 
 /// Reads a log record.
-fn record_in(alloc: Global, value: &Value) -> Result<SdkLogRecord, ReadError>
+fn record_in(alloc: Global, value: &Value) -> Result<SdkLogRecord, Fault>
     ensures ok { IfOk result (λ r. spec.IsRecord (view value.now) r) }
-    ensures err { IfErr result (λ e. IsRefusal e
+    ensures err { IfErr result (λ e. IsRefused e
         → (r : LogState) → ¬ spec.IsRecord (view value.now) r) }
 {
     check_object(alloc, value)?;
@@ -366,7 +366,7 @@ impl Item for LogData {
         alloc: Global,
         value: &Value,
         scope: &Rc<InstrumentationScope>,
-    ) -> Result<LogData, ReadError> {
+    ) -> Result<LogData, Fault> {
         let record = record_in(alloc, value)?;
         let instrumentation_scope = scope.clone()?;
         Ok(LogData {

@@ -6,9 +6,9 @@ ghost use Rattle.otel_base.specs.View.{attribute_of};
 ghost use Rattle.otel_sdk_base.specs.Resource.{Parts};
 ghost use Rattle.otel_otlp.specs.Common.{unique};
 ghost use Rattle.otel_otlp.specs.ReadGroups as spec;
-ghost use Rattle.otel_otlp.specs.ReadMembers.{IsRefusal};
+ghost use Rattle.otel_otlp.specs.ReadMembers.{IsRefused};
 
-use crate::read::error::ReadError;
+use crate::read::error::Fault;
 use crate::read::members::{check_object, given_text, member};
 use crate::read::values::attributes;
 use opentelemetry::{KeyValue, StringValue};
@@ -35,10 +35,10 @@ fn resource_of(
 }
 
 /// Reads the attributes of a resource (the protocol's `Resource`).
-fn resource_attributes(alloc: Global, value: &Value) -> Result<Vec<KeyValue>, ReadError>
+fn resource_attributes(alloc: Global, value: &Value) -> Result<Vec<KeyValue>, Fault>
     ensures ok { IfOk result (λ read.
         spec.IsResource (view value.now) (map attribute_of read.items)) }
-    ensures err { IfErr result (λ e. IsRefusal e
+    ensures err { IfErr result (λ e. IsRefused e
         → (xs : List Attribute) → ¬ spec.IsResource (view value.now) xs) }
 {
     check_object(alloc, value)?;
@@ -47,10 +47,10 @@ fn resource_attributes(alloc: Global, value: &Value) -> Result<Vec<KeyValue>, Re
 }
 
 /// Returns the attributes of the group's resource, none if it is absent.
-fn attributes_in(alloc: Global, group: &Value) -> Result<Vec<KeyValue>, ReadError>
+fn attributes_in(alloc: Global, group: &Value) -> Result<Vec<KeyValue>, Fault>
     ensures ok { IfOk result (λ read.
         spec.HasResourceAttributes (view group.now) (map attribute_of read.items)) }
-    ensures err { IfErr result (λ e. IsRefusal e
+    ensures err { IfErr result (λ e. IsRefused e
         → (xs : List Attribute) → ¬ spec.HasResourceAttributes (view group.now) xs) }
 {
     let Some(value) = member(group, "resource") else {
@@ -63,9 +63,9 @@ fn attributes_in(alloc: Global, group: &Value) -> Result<Vec<KeyValue>, ReadErro
 }
 
 /// Returns the resource of the group.
-pub(crate) fn resource_in(alloc: Global, group: &Value) -> Result<Resource, ReadError>
+pub(crate) fn resource_in(alloc: Global, group: &Value) -> Result<Resource, Fault>
     ensures ok { IfOk result (spec.HasResource (view group.now)) }
-    ensures err { IfErr result (λ e. IsRefusal e
+    ensures err { IfErr result (λ e. IsRefused e
         → (r : Parts) → ¬ spec.HasResource (view group.now) r) }
 {
     let given = attributes_in(alloc, group)?;

@@ -3,10 +3,10 @@ ghost use Rattle.std.specs.Prelude.{◌≡◌, IfOk, IfErr, map, string_bytes};
 ghost use Rattle.serde_json.specs.View.{view};
 ghost use Rattle.otel_base.specs.InstrumentationScope.{Scope};
 ghost use Rattle.otel_base.specs.View.{attribute_of};
-ghost use Rattle.otel_otlp.specs.ReadMembers.{IsRefusal};
+ghost use Rattle.otel_otlp.specs.ReadMembers.{IsRefused};
 ghost use Rattle.otel_otlp.specs.ReadGroups as spec;
 
-use crate::read::error::ReadError;
+use crate::read::error::Fault;
 use crate::read::members::{check_object, given_text, member, text};
 use crate::read::values::attributes;
 use opentelemetry::{InstrumentationScope, InstrumentationScopeBuilder, KeyValue, StringValue};
@@ -41,9 +41,9 @@ fn scope(
     alloc: Global,
     value: &Value,
     url: Option<StringValue>,
-) -> Result<InstrumentationScope, ReadError>
+) -> Result<InstrumentationScope, Fault>
     ensures ok { IfOk result (spec.IsScope url (view value.now)) }
-    ensures err { IfErr result (λ e. IsRefusal e
+    ensures err { IfErr result (λ e. IsRefused e
         → (s : Scope) → ¬ spec.IsScope url (view value.now) s) }
 {
     check_object(alloc, value)?;
@@ -58,9 +58,9 @@ pub(crate) fn scope_in(
     alloc: Global,
     group: &Value,
     url: Option<StringValue>,
-) -> Result<InstrumentationScope, ReadError>
+) -> Result<InstrumentationScope, Fault>
     ensures ok { IfOk result (spec.HasScope url (view group.now)) }
-    ensures err { IfErr result (λ e. IsRefusal e
+    ensures err { IfErr result (λ e. IsRefused e
         → (s : Scope) → ¬ spec.HasScope url (view group.now) s) }
 {
     let Some(value) = member(group, "scope") else {

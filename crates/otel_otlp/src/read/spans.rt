@@ -8,10 +8,10 @@ ghost use Rattle.otel_ids.specs.SpanContext.{SpanContextRecord};
 ghost use Rattle.opentelemetry.specs.Event.{EventRecord, LinkRecord};
 ghost use Rattle.opentelemetry.specs.View.{event_of, link_of};
 ghost use Rattle.otel_otlp.specs.ReadErrors.{NamesPlace};
-ghost use Rattle.otel_otlp.specs.ReadMembers.{IsRefusal};
+ghost use Rattle.otel_otlp.specs.ReadMembers.{IsRefused};
 ghost use Rattle.otel_otlp.specs.ReadTraces as spec;
 
-use crate::read::error::{ReadError, unexpected};
+use crate::read::error::{Fault, unexpected};
 use crate::read::groups::Item;
 use crate::read::members::{
     check_object, member, narrow, parent_id, span_id, text, trace_id, trace_state, wide,
@@ -37,7 +37,7 @@ impl Message for Event {
 
     ghost says = { spec.IsEvent };
 
-    fn read(alloc: Global, value: &Value) -> Result<Event, ReadError> {
+    fn read(alloc: Global, value: &Value) -> Result<Event, Fault> {
         check_object(alloc, value)?;
         let timestamp = wide(alloc, value, "timeUnixNano")?;
         let name = text(alloc, value, "name")?;
@@ -55,14 +55,9 @@ fn is_remote(flags: u32) -> bool
 }
 
 /// Reads a span context with these flags.
-fn context(
-    alloc: Global,
-    object: &Value,
-    flags: u32,
-    is_remote: bool,
-) -> Result<SpanContext, ReadError>
+fn context(alloc: Global, object: &Value, flags: u32, is_remote: bool) -> Result<SpanContext, Fault>
     ensures ok { IfOk result (spec.IsContext (view object.now) flags is_remote) }
-    ensures err { IfErr result (λ e. IsRefusal e
+    ensures err { IfErr result (λ e. IsRefused e
         → (c : SpanContextRecord) → ¬ spec.IsContext (view object.now) flags is_remote c) }
 {
     let trace_id = trace_id(alloc, object)?;
@@ -89,7 +84,7 @@ impl Message for Link {
 
     ghost says = { spec.IsLink };
 
-    fn read(alloc: Global, value: &Value) -> Result<Link, ReadError> {
+    fn read(alloc: Global, value: &Value) -> Result<Link, Fault> {
         check_object(alloc, value)?;
         let flags = narrow(alloc, value, "flags")?;
         let linked = context(alloc, value, flags, is_remote(flags))?;
@@ -134,9 +129,9 @@ fn code_of(value: &Value) -> Option<u8>
 }
 
 /// Returns the code of the status, 0 if it is absent.
-fn code(alloc: Global, object: &Value) -> Result<u8, ReadError>
+fn code(alloc: Global, object: &Value) -> Result<u8, Fault>
     ensures ok { IfOk result (spec.HasCode (view object.now)) }
-    ensures err { IfErr result (λ e. IsRefusal e
+    ensures err { IfErr result (λ e. IsRefused e
         → (code : ℕ) → ¬ spec.HasCode (view object.now) code) }
     ensures place { IfErr result (NamesPlace (codes "code") (codes "the code of a status")) }
 {
@@ -161,9 +156,9 @@ fn status_of(code: u8, message: String) -> Status
 }
 
 /// Reads a status (the protocol's `Status`).
-fn status(alloc: Global, value: &Value) -> Result<Status, ReadError>
+fn status(alloc: Global, value: &Value) -> Result<Status, Fault>
     ensures ok { IfOk result (spec.IsStatus (view value.now)) }
-    ensures err { IfErr result (λ e. IsRefusal e
+    ensures err { IfErr result (λ e. IsRefused e
         → (s : State) → ¬ spec.IsStatus (view value.now) s) }
 {
     check_object(alloc, value)?;
@@ -173,9 +168,9 @@ fn status(alloc: Global, value: &Value) -> Result<Status, ReadError>
 }
 
 /// Returns the status of the span, which is unset if it is absent.
-fn status_in(alloc: Global, span: &Value) -> Result<Status, ReadError>
+fn status_in(alloc: Global, span: &Value) -> Result<Status, Fault>
     ensures ok { IfOk result (spec.HasStatus (view span.now)) }
-    ensures err { IfErr result (λ e. IsRefusal e
+    ensures err { IfErr result (λ e. IsRefused e
         → (s : State) → ¬ spec.HasStatus (view span.now) s) }
 {
     let Some(value) = member(span, "status") else {
@@ -228,9 +223,9 @@ fn kind_of(value: &Value) -> Option<SpanKind>
 }
 
 /// Returns the kind of the span, which is internal if it is absent.
-fn kind(alloc: Global, span: &Value) -> Result<SpanKind, ReadError>
+fn kind(alloc: Global, span: &Value) -> Result<SpanKind, Fault>
     ensures ok { IfOk result (spec.HasKind (view span.now)) }
-    ensures err { IfErr result (λ e. IsRefusal e
+    ensures err { IfErr result (λ e. IsRefused e
         → (k : Kind) → ¬ spec.HasKind (view span.now) k) }
     ensures place { IfErr result (NamesPlace (codes "kind") (codes "the kind of a span")) }
 {
@@ -252,10 +247,10 @@ struct Identity {
 }
 
 /// Reads the identity of a span.
-fn identity_in(alloc: Global, span: &Value) -> Result<Identity, ReadError>
+fn identity_in(alloc: Global, span: &Value) -> Result<Identity, Fault>
     ensures ok { IfOk result (λ i.
         spec.HasIdentity (view span.now) i.context i.parent_id i.parent_is_remote) }
-    ensures err { IfErr result (λ e. IsRefusal e
+    ensures err { IfErr result (λ e. IsRefused e
         → (c : SpanContextRecord) (parent : ℕ) (remote : Bool)
         → ¬ spec.HasIdentity (view span.now) c parent remote) }
 {
@@ -280,10 +275,10 @@ struct Work {
 }
 
 /// Reads the name, the kind, the times and the status of a span.
-fn work_in(alloc: Global, span: &Value) -> Result<Work, ReadError>
+fn work_in(alloc: Global, span: &Value) -> Result<Work, Fault>
     ensures ok { IfOk result (λ w.
         spec.HasWork (view span.now) w.name w.kind w.start_time w.end_time w.status) }
-    ensures err { IfErr result (λ e. IsRefusal e
+    ensures err { IfErr result (λ e. IsRefused e
         → (name : List ℕ) (k : Kind) (start end : ℕ) (s : State)
         → ¬ spec.HasWork (view span.now) name k start end s) }
 {
@@ -302,10 +297,10 @@ fn work_in(alloc: Global, span: &Value) -> Result<Work, ReadError>
 }
 
 /// Returns the events of the span.
-fn events(alloc: Global, span: &Value) -> Result<SpanEvents, ReadError>
+fn events(alloc: Global, span: &Value) -> Result<SpanEvents, Fault>
     ensures ok { IfOk result (λ es.
         spec.HasEvents (view span.now) (map event_of es.events.items) es.dropped_count) }
-    ensures err { IfErr result (λ e. IsRefusal e
+    ensures err { IfErr result (λ e. IsRefused e
         → (es : List EventRecord) (n : ℕ) → ¬ spec.HasEvents (view span.now) es n) }
 {
     let events = read_list::<Event>(alloc, span, "events")?;
@@ -317,10 +312,10 @@ fn events(alloc: Global, span: &Value) -> Result<SpanEvents, ReadError>
 }
 
 /// Returns the links of the span.
-fn links(alloc: Global, span: &Value) -> Result<SpanLinks, ReadError>
+fn links(alloc: Global, span: &Value) -> Result<SpanLinks, Fault>
     ensures ok { IfOk result (λ ls.
         spec.HasLinks (view span.now) (map link_of ls.links.items) ls.dropped_count) }
-    ensures err { IfErr result (λ e. IsRefusal e
+    ensures err { IfErr result (λ e. IsRefused e
         → (ls : List LinkRecord) (n : ℕ) → ¬ spec.HasLinks (view span.now) ls n) }
 {
     let links = read_list::<Link>(alloc, span, "links")?;
@@ -341,7 +336,7 @@ impl Item for SpanData {
         alloc: Global,
         value: &Value,
         scope: &Rc<InstrumentationScope>,
-    ) -> Result<SpanData, ReadError> {
+    ) -> Result<SpanData, Fault> {
         check_object(alloc, value)?;
         let identity = identity_in(alloc, value)?;
         let work = work_in(alloc, value)?;

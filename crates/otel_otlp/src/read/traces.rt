@@ -2,12 +2,11 @@
 ghost use Rattle.std.specs.Prelude.{List, IfOk, IfErr, map};
 ghost use Rattle.otel_sdk_span.specs.SpanData.{SpanRecord};
 ghost use Rattle.otel_otlp.specs.ReadGroups.{ResourceItems};
-ghost use Rattle.otel_otlp.specs.ReadErrors.{NamesLine};
-ghost use Rattle.otel_otlp.specs.ReadMembers.{IsRefusal};
+ghost use Rattle.otel_otlp.specs.ReadErrors.{NamesLine, IsRefusal};
 ghost use Rattle.otel_otlp.specs.ReadTraces as spec;
 ghost use Rattle.otel_otlp.specs.ReadView.{spans_of};
 
-use crate::read::error::ReadError;
+use crate::read::error::{Fault, ReadError};
 use crate::read::groups::{Group, items_of, joined};
 use crate::read::lines::groups_in_line;
 use crate::read::members::check_object;
@@ -50,7 +49,7 @@ impl Message for ResourceSpans {
 
     ghost says = { IsResourceGroup form IsSpan };
 
-    fn read(alloc: Global, value: &Value) -> Result<ResourceSpans, ReadError> {
+    fn read(alloc: Global, value: &Value) -> Result<ResourceSpans, Fault> {
         check_object(alloc, value)?;
         let resource = resource_in(alloc, value)?;
         let spans = items_of::<SpanData>(alloc, value)?;

@@ -5,12 +5,12 @@ ghost use Rattle.serde_json.specs.View.{view};
 ghost use Rattle.otel_base.specs.AnyValue.{Tree};
 ghost use Rattle.otel_base.specs.View.{tree, pairs_view};
 ghost use Rattle.otel_sdk_logs.specs.Attributes.{Attribute};
-ghost use Rattle.otel_otlp.specs.ReadMembers.{IsRefusal, AreIn};
+ghost use Rattle.otel_otlp.specs.ReadMembers.{IsRefused, AreIn};
 ghost use Rattle.otel_otlp.specs.ReadErrors.{NamesPlace};
 ghost use Rattle.otel_otlp.specs.ReadTrees as spec;
 
 use crate::object::to_text;
-use crate::read::error::{ReadError, unexpected};
+use crate::read::error::{Fault, unexpected};
 use crate::read::members::{check_object, items, member, text};
 use crate::read::messages::Message;
 use crate::read::values::has;
@@ -46,9 +46,9 @@ fn bytes_of(alloc: Global, text: &str) -> Result<Option<Vec<u8>>, AllocError>
 }
 
 /// Reads bytes, which are a text in base64.
-fn read_bytes(alloc: Global, value: &Json) -> Result<AnyValue, ReadError>
+fn read_bytes(alloc: Global, value: &Json) -> Result<AnyValue, Fault>
     ensures ok { IfOk result (λ t. spec.AreBytes (view value.now) (tree t)) }
-    ensures err { IfErr result (λ e. IsRefusal e
+    ensures err { IfErr result (λ e. IsRefused e
         → (t : Tree) → ¬ spec.AreBytes (view value.now) t) }
     ensures place { IfErr result (NamesPlace (codes "bytesValue") (codes "bytes in base64")) }
 {
@@ -62,9 +62,9 @@ fn read_bytes(alloc: Global, value: &Json) -> Result<AnyValue, ReadError>
 }
 
 /// Reads a float, of which a tree has the text.
-fn read_float(alloc: Global, value: &Json) -> Result<AnyValue, ReadError>
+fn read_float(alloc: Global, value: &Json) -> Result<AnyValue, Fault>
     ensures ok { IfOk result (λ t. spec.IsFloat (view value.now) (tree t)) }
-    ensures err { IfErr result (λ e. IsRefusal e
+    ensures err { IfErr result (λ e. IsRefused e
         → (t : Tree) → ¬ spec.IsFloat (view value.now) t) }
     ensures place { IfErr result (NamesPlace (codes "doubleValue") (codes "a number")) }
 {
@@ -76,9 +76,9 @@ fn read_float(alloc: Global, value: &Json) -> Result<AnyValue, ReadError>
 }
 
 /// Reads bytes, a float or a text. The empty value is read as the empty text.
-fn read_text(alloc: Global, value: &Json) -> Result<AnyValue, ReadError>
+fn read_text(alloc: Global, value: &Json) -> Result<AnyValue, Fault>
     ensures ok { IfOk result (λ t. spec.IsTextLike (view value.now) (tree t)) }
-    ensures err { IfErr result (λ e. IsRefusal e
+    ensures err { IfErr result (λ e. IsRefused e
         → (t : Tree) → ¬ spec.IsTextLike (view value.now) t) }
 {
     if let Some(bytes) = member(value, "bytesValue") {
@@ -91,9 +91,9 @@ fn read_text(alloc: Global, value: &Json) -> Result<AnyValue, ReadError>
 }
 
 /// Reads a value that is neither a list nor a map.
-fn read_leaf(alloc: Global, value: &Json) -> Result<AnyValue, ReadError>
+fn read_leaf(alloc: Global, value: &Json) -> Result<AnyValue, Fault>
     ensures ok { IfOk result (λ t. spec.IsLeaf (view value.now) (tree t)) }
-    ensures err { IfErr result (λ e. IsRefusal e
+    ensures err { IfErr result (λ e. IsRefused e
         → (t : Tree) → ¬ spec.IsLeaf (view value.now) t) }
 {
     if has(value, "boolValue") {
@@ -108,9 +108,9 @@ fn read_leaf(alloc: Global, value: &Json) -> Result<AnyValue, ReadError>
 /// Reads a value (the protocol's `AnyValue`). Of a list or map within `levels` others, the text of
 /// its JSON is read.
 #[cycle(tree)]
-pub(crate) fn read_tree(alloc: Global, value: &Json, levels: u32) -> Result<AnyValue, ReadError>
+pub(crate) fn read_tree(alloc: Global, value: &Json, levels: u32) -> Result<AnyValue, Fault>
     ensures ok { IfOk result (λ t. spec.IsTree levels (view value.now) (tree t)) }
-    ensures err { IfErr result (λ e. IsRefusal e
+    ensures err { IfErr result (λ e. IsRefused e
         → (t : Tree) → ¬ spec.IsTree levels (view value.now) t) }
 {
     check_object(alloc, value)?;
@@ -131,9 +131,9 @@ pub(crate) fn read_tree(alloc: Global, value: &Json, levels: u32) -> Result<AnyV
 
 /// Reads a list (the protocol's `ArrayValue`).
 #[cycle(tree)]
-fn read_list(alloc: Global, list: &Json, levels: u32) -> Result<AnyValue, ReadError>
+fn read_list(alloc: Global, list: &Json, levels: u32) -> Result<AnyValue, Fault>
     ensures ok { IfOk result (λ t. spec.IsList levels (view list.now) (tree t)) }
-    ensures err { IfErr result (λ e. IsRefusal e
+    ensures err { IfErr result (λ e. IsRefused e
         → (t : Tree) → ¬ spec.IsList levels (view list.now) t) }
 {
     check_object(alloc, list)?;
@@ -149,10 +149,10 @@ fn read_list(alloc: Global, list: &Json, levels: u32) -> Result<AnyValue, ReadEr
 
 /// Reads each of the values.
 #[cycle(tree)]
-fn read_trees(alloc: Global, values: &[Json], levels: u32) -> Result<Vec<AnyValue>, ReadError>
+fn read_trees(alloc: Global, values: &[Json], levels: u32) -> Result<Vec<AnyValue>, Fault>
     ensures ok { IfOk result (λ read.
         AllZip (spec.IsTree levels) (map view values.now) (map tree read.items)) }
-    ensures err { IfErr result (λ e. IsRefusal e
+    ensures err { IfErr result (λ e. IsRefused e
         → (ts : List Tree) → ¬ AllZip (spec.IsTree levels) (map view values.now) ts) }
 {
     let mut read = Vec::with_capacity(alloc, values.len())?;
@@ -167,9 +167,9 @@ fn read_trees(alloc: Global, values: &[Json], levels: u32) -> Result<Vec<AnyValu
 
 /// Reads a map (the protocol's `KeyValueList`). Of a key's values, the last is read.
 #[cycle(tree)]
-fn read_map(alloc: Global, list: &Json, levels: u32) -> Result<AnyValue, ReadError>
+fn read_map(alloc: Global, list: &Json, levels: u32) -> Result<AnyValue, Fault>
     ensures ok { IfOk result (λ t. spec.IsMap levels (view list.now) (tree t)) }
-    ensures err { IfErr result (λ e. IsRefusal e
+    ensures err { IfErr result (λ e. IsRefused e
         → (t : Tree) → ¬ spec.IsMap levels (view list.now) t) }
 {
     check_object(alloc, list)?;
@@ -187,10 +187,10 @@ fn pairs_in(
     object: &Json,
     name: &str,
     levels: u32,
-) -> Result<Vec<(Key, AnyValue)>, ReadError>
+) -> Result<Vec<(Key, AnyValue)>, Fault>
     ensures ok { IfOk result (λ read.
         AreIn (spec.IsPair levels) name.now (view object.now) (pairs_view read.items)) }
-    ensures err { IfErr result (λ e. IsRefusal e
+    ensures err { IfErr result (λ e. IsRefused e
         → (ps : List Attribute) → ¬ AreIn (spec.IsPair levels) name.now (view object.now) ps) }
 {
     let values = items(alloc, object, name)?;
@@ -202,14 +202,10 @@ fn pairs_in(
 
 /// Reads each of the pairs.
 #[cycle(tree)]
-fn read_pairs(
-    alloc: Global,
-    values: &[Json],
-    levels: u32,
-) -> Result<Vec<(Key, AnyValue)>, ReadError>
+fn read_pairs(alloc: Global, values: &[Json], levels: u32) -> Result<Vec<(Key, AnyValue)>, Fault>
     ensures ok { IfOk result (λ read.
         AllZip (spec.IsPair levels) (map view values.now) (pairs_view read.items)) }
-    ensures err { IfErr result (λ e. IsRefusal e
+    ensures err { IfErr result (λ e. IsRefused e
         → (ps : List Attribute) → ¬ AllZip (spec.IsPair levels) (map view values.now) ps) }
 {
     let mut read = Vec::with_capacity(alloc, values.len())?;
@@ -224,9 +220,9 @@ fn read_pairs(
 
 /// Reads a key with its value (the protocol's `KeyValue`).
 #[cycle(tree)]
-fn read_pair(alloc: Global, pair: &Json, levels: u32) -> Result<(Key, AnyValue), ReadError>
+fn read_pair(alloc: Global, pair: &Json, levels: u32) -> Result<(Key, AnyValue), Fault>
     ensures ok { IfOk result (λ p. spec.IsPair levels (view pair.now) (p.0, tree p.1)) }
-    ensures err { IfErr result (λ e. IsRefusal e
+    ensures err { IfErr result (λ e. IsRefused e
         → (p : Attribute) → ¬ spec.IsPair levels (view pair.now) p) }
 {
     check_object(alloc, pair)?;
@@ -237,9 +233,9 @@ fn read_pair(alloc: Global, pair: &Json, levels: u32) -> Result<(Key, AnyValue),
 
 /// Returns the value of the pair, an empty text if it is absent.
 #[cycle(tree)]
-fn value_in(alloc: Global, pair: &Json, levels: u32) -> Result<AnyValue, ReadError>
+fn value_in(alloc: Global, pair: &Json, levels: u32) -> Result<AnyValue, Fault>
     ensures ok { IfOk result (λ t. spec.IsValueIn levels (view pair.now) (tree t)) }
-    ensures err { IfErr result (λ e. IsRefusal e
+    ensures err { IfErr result (λ e. IsRefused e
         → (t : Tree) → ¬ spec.IsValueIn levels (view pair.now) t) }
 {
     let Some(value) = member(pair, "value") else {
@@ -260,22 +256,19 @@ fn levels() -> u32
 }
 
 /// Returns the attributes of the object.
-pub(crate) fn tree_attributes(
-    alloc: Global,
-    object: &Json,
-) -> Result<Vec<(Key, AnyValue)>, ReadError>
+pub(crate) fn tree_attributes(alloc: Global, object: &Json) -> Result<Vec<(Key, AnyValue)>, Fault>
     ensures ok { IfOk result (λ read.
         spec.HasAttributes (view object.now) (pairs_view read.items)) }
-    ensures err { IfErr result (λ e. IsRefusal e
+    ensures err { IfErr result (λ e. IsRefused e
         → (ps : List Attribute) → ¬ spec.HasAttributes (view object.now) ps) }
 {
     pairs_in(alloc, object, "attributes", levels())
 }
 
 /// Returns the body of the record, if there is one.
-pub(crate) fn body_in(alloc: Global, object: &Json) -> Result<Option<AnyValue>, ReadError>
+pub(crate) fn body_in(alloc: Global, object: &Json) -> Result<Option<AnyValue>, Fault>
     ensures ok { IfOk result (λ body. spec.HasBody (view object.now) (option_map tree body)) }
-    ensures err { IfErr result (λ e. IsRefusal e
+    ensures err { IfErr result (λ e. IsRefused e
         → (body : Option Tree) → ¬ spec.HasBody (view object.now) body) }
 {
     let Some(value) = member(object, "body") else {

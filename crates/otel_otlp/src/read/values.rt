@@ -9,11 +9,11 @@ ghost use Rattle.otel_base.specs.View.{array_of, attribute_of, value_of};
 ghost use Rattle.std.specs.List.{list_all};
 ghost use Rattle.otel_otlp.specs.ReadErrors.{NamesPlace};
 ghost use Rattle.otel_otlp.specs.ReadMembers as members;
-ghost use Rattle.otel_otlp.specs.ReadMembers.{IsRefusal};
+ghost use Rattle.otel_otlp.specs.ReadMembers.{IsRefused};
 ghost use Rattle.otel_otlp.specs.ReadValues as spec;
 
 use crate::object::to_text;
-use crate::read::error::{ReadError, unexpected};
+use crate::read::error::{Fault, unexpected};
 use crate::read::members::{check_object, integer_of, member, text};
 use crate::read::messages::{Message, read_list};
 use opentelemetry::{Array, Key, KeyValue, StringValue, Value};
@@ -30,9 +30,9 @@ impl Message for bool {
 
     ghost says = { spec.IsTruth };
 
-    fn read(alloc: Global, value: &Json) -> Result<bool, ReadError>
+    fn read(alloc: Global, value: &Json) -> Result<bool, Fault>
         ensures ok { IfOk result (λ truth. spec.IsTruth (view value.now) truth) }
-        ensures err { IfErr result (λ e. IsRefusal e
+        ensures err { IfErr result (λ e. IsRefused e
             → (truth : Bool) → ¬ spec.IsTruth (view value.now) truth) }
         ensures place { IfErr result (NamesPlace (codes "boolValue") (codes "true or false")) }
     {
@@ -53,9 +53,9 @@ impl Message for i64 {
 
     ghost says = { spec.IsWhole };
 
-    fn read(alloc: Global, value: &Json) -> Result<i64, ReadError>
+    fn read(alloc: Global, value: &Json) -> Result<i64, Fault>
         ensures ok { IfOk result (λ integer. spec.IsWhole (view value.now) integer) }
-        ensures err { IfErr result (λ e. IsRefusal e
+        ensures err { IfErr result (λ e. IsRefused e
             → (integer : ℤ) → ¬ spec.IsWhole (view value.now) integer) }
         ensures place { IfErr result
             (NamesPlace (codes "intValue") (codes "an integer of 64 bits")) }
@@ -136,7 +136,7 @@ impl Message for StringValue {
 
     ghost says = { spec.IsItemText };
 
-    fn read(alloc: Global, value: &Json) -> Result<StringValue, ReadError> {
+    fn read(alloc: Global, value: &Json) -> Result<StringValue, Fault> {
         check_object(alloc, value)?;
         Ok(held_text(alloc, value)?)
     }
@@ -182,9 +182,9 @@ fn all_values_have(list: &Json, name: &str) -> bool
 }
 
 /// Reads an array: of booleans or integers if all items are, otherwise of texts.
-fn array(alloc: Global, list: &Json) -> Result<Array, ReadError>
+fn array(alloc: Global, list: &Json) -> Result<Array, Fault>
     ensures ok { IfOk result (λ a. spec.IsArray (view list.now) (array_of a)) }
-    ensures err { IfErr result (λ e. IsRefusal e
+    ensures err { IfErr result (λ e. IsRefused e
         → (xs : ArrayValue) → ¬ spec.IsArray (view list.now) xs) }
 {
     if all_values_have(list, "boolValue") {
@@ -197,9 +197,9 @@ fn array(alloc: Global, list: &Json) -> Result<Array, ReadError>
 }
 
 /// Reads a value that is neither a boolean nor an integer.
-fn other(alloc: Global, value: &Json) -> Result<Value, ReadError>
+fn other(alloc: Global, value: &Json) -> Result<Value, Fault>
     ensures ok { IfOk result (λ v. spec.IsOther (view value.now) (value_of v)) }
-    ensures err { IfErr result (λ e. IsRefusal e
+    ensures err { IfErr result (λ e. IsRefused e
         → (v : AttributeValue) → ¬ spec.IsOther (view value.now) v) }
 {
     let Some(list) = member(value, "arrayValue") else {
@@ -212,9 +212,9 @@ fn other(alloc: Global, value: &Json) -> Result<Value, ReadError>
 }
 
 /// Reads the value of an attribute (the protocol's `AnyValue`).
-fn any_value(alloc: Global, value: &Json) -> Result<Value, ReadError>
+fn any_value(alloc: Global, value: &Json) -> Result<Value, Fault>
     ensures ok { IfOk result (λ v. spec.IsValue (view value.now) (value_of v)) }
-    ensures err { IfErr result (λ e. IsRefusal e
+    ensures err { IfErr result (λ e. IsRefused e
         → (v : AttributeValue) → ¬ spec.IsValue (view value.now) v) }
 {
     check_object(alloc, value)?;
@@ -228,9 +228,9 @@ fn any_value(alloc: Global, value: &Json) -> Result<Value, ReadError>
 }
 
 /// Returns the value of the pair, an empty text if it is absent.
-fn value_in(alloc: Global, pair: &Json) -> Result<Value, ReadError>
+fn value_in(alloc: Global, pair: &Json) -> Result<Value, Fault>
     ensures ok { IfOk result (λ v. spec.IsValueIn (view pair.now) (value_of v)) }
-    ensures err { IfErr result (λ e. IsRefusal e
+    ensures err { IfErr result (λ e. IsRefused e
         → (v : AttributeValue) → ¬ spec.IsValueIn (view pair.now) v) }
 {
     let Some(value) = member(pair, "value") else {
@@ -254,7 +254,7 @@ impl Message for KeyValue {
 
     ghost says = { spec.IsAttribute };
 
-    fn read(alloc: Global, value: &Json) -> Result<KeyValue, ReadError> {
+    fn read(alloc: Global, value: &Json) -> Result<KeyValue, Fault> {
         check_object(alloc, value)?;
         let key = text(alloc, value, "key")?;
         let value = value_in(alloc, value)?;
@@ -263,10 +263,10 @@ impl Message for KeyValue {
 }
 
 /// Returns the attributes of the object.
-pub(crate) fn attributes(alloc: Global, object: &Json) -> Result<Vec<KeyValue>, ReadError>
+pub(crate) fn attributes(alloc: Global, object: &Json) -> Result<Vec<KeyValue>, Fault>
     ensures ok { IfOk result (λ read.
         spec.HasAttributes (view object.now) (map attribute_of read.items)) }
-    ensures err { IfErr result (λ e. IsRefusal e
+    ensures err { IfErr result (λ e. IsRefused e
         → (xs : List Attribute) → ¬ spec.HasAttributes (view object.now) xs) }
 {
     read_list(alloc, object, "attributes")

@@ -1,12 +1,13 @@
 //! Reads a response.
 ghost use Rattle.std.specs.Prelude.{◌≡◌, ◌≢◌, ℕ, List, ◌++◌, ◌≤◌, length, drop, []};
-ghost use Rattle.std.specs.Prelude.{IfOk, IfErr, OnOk};
+ghost use Rattle.std.specs.Prelude.{IfOk, IfErr, OnOk, IsTrue};
 ghost use Rattle.httparse.specs.Spans.{IsResponseWithin};
-ghost use Rattle.http1.specs.Client.{reading};
+ghost use Rattle.http1.specs.Client.{reading, IsIdle};
 ghost use Rattle.http1.specs.declared.conn.Reading.TheVariants as Reading;
 ghost use Rattle.http1_typed.specs.Parts.{IsResponseParts};
 ghost use Rattle.otel_otlp.specs.StreamClient.{Gains, Reads, StepsToHead, FindsHead, Grows};
-ghost use Rattle.otel_otlp.specs.StreamClient.{FindsBody, Replies, max_body_len};
+ghost use Rattle.otel_otlp.specs.StreamClient.{FindsBody, Replies, StaysOpen, is_kept};
+ghost use Rattle.otel_otlp.specs.StreamClient.{max_body_len};
 ghost use Rattle.otel_otlp.specs.StreamClient.{HasAnswered, IsReadError};
 ghost use Rattle.otel_sdk_base.specs.Writers.{IsStuck};
 
@@ -197,6 +198,7 @@ impl<R: ReaderCalls> Source<R> {
         ensures within { OnOk result (length body.new.items ≤ max_body_len) }
         ensures steps { IfOk result (λ ended. Reads R.remaining self.old self.new (λ given left.
             Grows body.old.items body.new.items connection.old given connection.new left ended)) }
+        ensures keeps { IfOk result (λ ended. StaysOpen ended connection.old connection.new) }
         ensures failed { IfErr result (λ error. error ≡ HttpError.Unreachable
             → IsStuck R.may_read) }
     {
@@ -238,6 +240,8 @@ impl<R: ReaderCalls> Source<R> {
         ensures within { IfOk result (λ body. length body.items ≤ max_body_len) }
         ensures body { IfOk result (λ body. Reads R.remaining self.old self.new
             (λ given left. FindsBody connection.old given body.items left)) }
+        ensures keeps { OnOk result
+            (IsIdle connection.new → IsTrue (is_kept connection.old)) }
         ensures failed { IfErr result (λ error. error ≡ HttpError.Unreachable
             → IsStuck R.may_read) }
     {
@@ -262,7 +266,7 @@ impl<R: ReaderCalls> Source<R> {
     ) -> Result<Response<Vec<u8>>, HttpError>
         requires { reading connection.old ≡ Reading.Head }
         ensures answer { IfOk result (λ answer. Reads R.remaining self.old self.new
-            (λ given left. Replies connection.old given answer left)) }
+            (λ given left. Replies connection.old given connection.new answer left)) }
         ensures failed { IfErr result (IsReadError R.may_read self.old.unread.items) }
     {
         self.start()?;

@@ -106,7 +106,7 @@ impl FileCalls for Counting<'_> {
 
     ghost outputs = { λ _ _. Unit {0} };
 
-    ghost inputs = { λ _ _. Unit {0} };
+    ghost inputs = { λ _ _ _. Unit {0} };
 
     fn open_output(&self, path: &str) -> Option<Open> {
         self.outputs.set(self.outputs.get() + 1);
@@ -117,7 +117,7 @@ impl FileCalls for Counting<'_> {
         }
     }
 
-    fn open_input(&self, path: &str) -> Option<Open> {
+    fn open_input(&self, path: &str, _output: &Open) -> Option<Open> {
         self.inputs.set(self.inputs.get() + 1);
         if path == "f/response" {
             Some(Open { is_read: false })

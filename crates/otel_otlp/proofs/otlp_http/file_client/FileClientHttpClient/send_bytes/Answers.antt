@@ -1,6 +1,11 @@
 use Rattle.http.specs.Request.{head_of, body_of}
-use Rattle.otel_otlp.proofs.FileReads.{over_files}
+use Rattle.otel_otlp.proofs.FileReads.{answered, over_files}
 use Rattle.otel_otlp.proofs.otlp_http.file_client.FileClientHttpClient.send_bytes.Goals as goal
+
+pub returns-clause-answer : goal.returns-clause-answer
+returns-clause-answer g c =
+    answered {F = g.row.R-Stream.Denot} g.R.Stream.Read.remaining (head_of c.args.request.now)
+    c.send_bytes.result c.new.result c.send_bytes.new.self c.send_bytes.ensures.answer
 
 pub returns-clause-read : goal.returns-clause-read
 returns-clause-read g c =

@@ -17,6 +17,8 @@ returns-clause-answer g c =
     let asked = c.in_ok-connection.ensures.asking in
     let stream = c.self.inside.source.unread.items ++ came in
     let rest = c.read_response.new.self.unread.items in
-    let told = subst (λ k. Replies k stream c.in_ok-response.response rest) asked replies in
+    let now = c.read_response.new.connection in
+    let told = subst (λ k. Replies k stream now c.in_ok-response.response rest) asked replies in
     let method = subst (λ k. k.method ≡ method_kind p.method) asked c.in_ok-connection.ensures.method in
-    rw (← c.self.view_is) (came, consumed, answers_from p body stream rest c.in_ok-response.response method told)
+    let answers = answers_from p body stream rest now c.in_ok-response.response method told in
+    rw (← c.self.view_is) (came, consumed, (answers.0, λ more. answers.1 (c.is_free-self-inside.ensures.idle more)))

@@ -27,6 +27,7 @@ returns-clause-answer g c =
         parts = rw c.from_parts.ensures.head (record { status = h.parts.status; version = h.parts.version; headers = h.parts.headers });
         body = ap (λ v. v.items) c.from_parts.ensures.body;
         within = c.in_ok-body.ensures.within;
+        keeps = λ idle. h.keeps (c.in_ok-body.ensures.keeps idle);
         trace = subst (λ (s : List ℕ). Trace c.args.connection.now s (record { body = no_body; responses = h.interim ++ with_body h.head body ∷ [] }) unread) stream trace;
       },
     )

@@ -3,8 +3,8 @@ use Rattle.std.proofs.KnownBytes.{Consumes-nil}
 use Rattle.std.proofs.lemmas.List.{nil_from_length}
 use Rattle.std.specs.Io.KnownBytes.{Consumes}
 use Rattle.httparse.specs.Spans.{span_bytes}
-use Rattle.http1.specs.Client.{ClientReads, reading}
-use Rattle.otel_otlp.proofs.StreamSteps.{gives_data, gives_more, finds_end, finds_close, until_close}
+use Rattle.http1.specs.Client.{ClientReads, reading, IsIdle}
+use Rattle.otel_otlp.proofs.StreamSteps.{gives_data, gives_more, finds_end, finds_close, until_close, stays_by_data, stays_by_need, stays_at_end, eof_closes}
 use Rattle.otel_otlp.proofs.otlp_http.stream_client.source.Source.step_body.Goals as goal
 
 pub returns-in_ok-add_piece-in-Data-clause-steps : goal.returns-in_ok-add_piece-in-Data-clause-steps
@@ -63,3 +63,26 @@ returns-in-Ok-End-clause-steps g c =
         rw (gained.0, none, c.advance-in-NeedMore.ensures.items) (finds_close _ _ input _ c.in-Ok.read found c.in-NeedMore.is closed),
       ),
     )
+
+pub returns-in_ok-add_piece-in-Data-clause-keeps : goal.returns-in_ok-add_piece-in-Data-clause-keeps
+returns-in_ok-add_piece-in-Data-clause-keeps g c =
+    let input = c.args.self.now.unread.items in
+    let found = subst (λ (xs : List ℕ). ClientReads c.args.connection.now xs c.read.new.headers c.read.new.self c.in-Ok.read) c.as_slice.ensures c.in-Ok.ensures.ok in
+    stays_by_data _ _ input _ c.in-Ok.read found c.in-Data.piece c.in-Data.is
+
+pub returns-in-End-clause-keeps : goal.returns-in-End-clause-keeps
+returns-in-End-clause-keeps g c =
+    let input = c.args.self.now.unread.items in
+    let found = subst (λ (xs : List ℕ). ClientReads c.args.connection.now xs c.read.new.headers c.read.new.self c.in-Ok.read) c.as_slice.ensures c.in-Ok.ensures.ok in
+    stays_at_end _ _ input _ c.in-Ok.read found c.in-End.field-0 c.in-End.is
+
+pub returns-then-branch-gt0-clause-keeps : goal.returns-then-branch-gt0-clause-keeps
+returns-then-branch-gt0-clause-keeps g c =
+    let input = c.args.self.now.unread.items in
+    let found = subst (λ (xs : List ℕ). ClientReads c.args.connection.now xs c.read.new.headers c.read.new.self c.in-Ok.read) c.as_slice.ensures c.in-Ok.ensures.ok in
+    stays_by_need _ _ input _ c.in-Ok.read found c.in-NeedMore.is
+
+pub returns-in-Ok-End-clause-keeps : goal.returns-in-Ok-End-clause-keeps
+returns-in-Ok-End-clause-keeps g c =
+    let closed = until_close (reading c.read.new.self) c.read.new.self c.in-Ok-End.field-0-0 (sym c.read_eof.ensures.answer ∙ search rules) in
+    λ idle. absurd (eof_closes (reading c.read.new.self) c.read.new.self closed (subst (λ k. IsIdle k) c.read_eof.ensures.after idle))
