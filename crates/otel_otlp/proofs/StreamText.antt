@@ -24,17 +24,19 @@ module _ (p : Request.Parts) (body : List ℕ) (stream : List ℕ) (rest : List 
   pub answers_from : (now : Client) (answer : Response (Vec ℕ Global)) → (asking p body).method ≡ method_kind p.method → Replies (asking p body) stream now answer rest
       → (told : Answers p stream answer rest) × (IsIdle now → KeepsOpen told.last)
   answers_from now answer method r =
-      let found = trace_reads_answers limits stream _ rest (from_new _ r.trace) in
-      (record {
-        responses = found.0;
-        reads = found.1;
-        interim = r.interim;
-        are_interim = r.are_interim;
-        last = r.last;
-        seen = found.2;
-        is_final = r.is_final;
-        method = r.method ∙ method;
-        parts = r.parts;
-        body = r.body;
-        within = r.within;
-      }, r.keeps)
+      let found = trace_reads_answers limits stream _ rest (from_new _ r.trace) in (
+        record {
+          responses = found.0;
+          reads = found.1;
+          interim = r.interim;
+          are_interim = r.are_interim;
+          last = r.last;
+          seen = found.2;
+          is_final = r.is_final;
+          method = r.method ∙ method;
+          parts = r.parts;
+          body = r.body;
+          within = r.within;
+        },
+        r.keeps,
+      )
