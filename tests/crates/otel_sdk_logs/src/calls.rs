@@ -1,18 +1,22 @@
-//! The calls that loggers and providers make on their processor, each counted.
+//! The calls that loggers and providers make on their processor and on their clock, each counted.
 use crate::processor::data;
 use opentelemetry::logs::{LogRecord, Logger, LoggerProvider, Severity};
 use opentelemetry::{Context, StringValue};
+use otel_sdk_base::CountedClock;
 use otel_sdk_base::error::{OTelSdkError, OTelSdkResult};
 use otel_sdk_base::resource::Resource;
-use otel_sdk_logs::{LogData, LogProcessor, SdkLoggerProvider};
-use std::alloc::Global;
-use std::cell::RefCell;
+use otel_sdk_logs::{
+    EmittedLogs, InMemoryLogExporter, LogData, LogProcessor, RecordIntake, SdkLoggerProvider,
+    SimpleLogProcessor,
+};
+use std::alloc::{AllocError, Global};
+use std::cell::{Cell, RefCell};
 use std::process::Abort;
 use std::rc::Rc;
 use std::test::Fail;
 
-/// A processor that writes down each call: a record's number, `f` for a flush, `s` for a shutdown
-/// and `r` for a resource. Each flush and each shutdown fails, and names itself.
+/// A processor that writes down each call: a record's number, `e` for a question, `f` for a flush,
+/// `s` for a shutdown and `r` for a resource. Each flush and each shutdown fails, and names itself.
 #[derive(Drop)]
 struct Noted {
     calls: Rc<RefCell<String>>,
@@ -60,6 +64,7 @@ impl LogProcessor for Noted {
     }
 
     fn event_enabled(&self, _severity: Severity, _target: &str, _name: Option<&str>) -> bool {
+        note(&self.calls, 'e');
         true
     }
 
@@ -95,9 +100,59 @@ fn each_call_reaches_the_processor_once(rt: HostRuntime) -> Result<(), Fail> {
     logger.emit_in(&Context::new(), data(alloc, 2)?.record);
     assert!(rt; is_failure(provider.force_flush(), "flush"));
     logger.emit(data(alloc, 3)?.record);
+    assert!(rt; logger.event_enabled(Severity::Info, "t", None));
+    assert!(rt; logger.event_enabled_in(&Context::new(), Severity::Info, "t", None));
     assert!(rt; is_failure(provider.shutdown(), "shutdown"));
     let calls = calls.try_borrow().ok().expect(&rt, "no call goes on");
-    assert_eq!(rt; calls.as_str(), "r12f3s");
+    assert_eq!(rt; calls.as_str(), "r12f3ees");
     assert_eq!(rt; provider.dropped_records(), 0);
+    Ok(())
+}
+
+#[test]
+fn a_record_without_a_time_reads_the_clock_once(rt: HostRuntime) -> Result<(), Fail> {
+    let alloc = rt.alloc();
+    let provider = SdkLoggerProvider::builder(rt)
+        .with_log_processor(SimpleLogProcessor::new(alloc, InMemoryLogExporter::new(alloc))?)
+        .with_clock(CountedClock::new(1))
+        .build(alloc)?;
+    let logger = provider.logger(alloc, StringValue::from("tests"))?;
+    let suppressed = Context::new().with_telemetry_suppressed(alloc)?;
+    logger.emit(data(alloc, 1)?.record);
+    assert!(rt; logger.event_enabled(Severity::Info, "t", None));
+    logger.emit_in(&suppressed, data(alloc, 2)?.record);
+    let mut observed = data(alloc, 3)?.record;
+    observed.set_observed_timestamp(70);
+    logger.emit(observed);
+    logger.emit_in(&Context::new(), data(alloc, 4)?.record);
+    logger.emit(data(alloc, 5)?.record);
+    let processor = provider.processor().ok().expect(&rt, "no call goes on");
+    let records = processor.exporter().get_emitted_logs()?;
+    let mut times = Vec::new(alloc);
+    for given in records.iter() {
+        times.push(given.record.observed_timestamp)?;
+    }
+    let wanted = [Some(0), Some(70), Some(1), Some(2)];
+    assert_eq!(rt; times.as_slice(), wanted.as_slice());
+    Ok(())
+}
+
+#[test]
+fn a_lost_record_is_counted_once(rt: HostRuntime) -> Result<(), Fail> {
+    let lost = Cell::new(0);
+    Noted::count_unmade(&lost, AllocError);
+    assert_eq!(rt; lost.get(), 1);
+    let busy = RefCell::new(0);
+    let borrowed = busy.try_borrow_mut();
+    for (count, wanted) in [(1, 2), (u64::MAX - 1, u64::MAX), (u64::MAX, u64::MAX)] {
+        lost.set(count);
+        Noted::count_unmade(&lost, AllocError);
+        assert_eq!(rt; lost.get(), wanted);
+        lost.set(count);
+        let error = busy.try_borrow_mut().err().expect(&rt, "it is borrowed");
+        Noted::count_missed(&lost, error);
+        assert_eq!(rt; lost.get(), wanted);
+    }
+    drop(borrowed);
     Ok(())
 }
