@@ -1,11 +1,12 @@
 -- Contracts' view of an exporter that draws spans. Not in the Rust crates.
-use Rattle.std.specs.Prelude.{◌≡◌, ◌⊎◌, ℕ, Bool, true, false, List, [], take, codes, string_bytes}
+use Rattle.std.specs.Prelude.{◌≡◌, ◌⊎◌, ◌<◌, ℕ, Bool, true, false, List, [], length, take, codes}
+use Rattle.std.specs.Prelude.{string_bytes}
 use Rattle.std.specs.Prelude.{Option, Result, Err, is_ok, ⊤, alloc_error}
 use Rattle.std.specs.Prelude.{IsTrue, IsErrOf, IfErr}
 use Rattle.std.specs.Io.KnownBytes.{Appends, Keeps}
 use Rattle.std.specs.declared.io.Error.{Error}
 use Rattle.otel_sdk_base.specs.Export.{Calls}
-use Rattle.otel_sdk_base.specs.Writers.{IsStuck}
+use Rattle.otel_sdk_base.specs.Writers.{TakesNone}
 use Rattle.otel_sdk_base.specs.declared.error.OTelSdkError.{OTelSdkError}
 use Rattle.otel_sdk_base.specs.declared.error.OTelSdkError.TheVariants as error
 use Rattle.otel_sdk_span.specs.SpanData.{SpanRecord}
@@ -27,7 +28,12 @@ pub record RefusesIfShutDown {W : Type 0} (result : Result ⊤ OTelSdkError) (ol
   pub only_then : IsErrOf result error.AlreadyShutdown → IsTrue old.is_shut_down
   pub unchanged : IsTrue old.is_shut_down → new ≡ old
 
--- ---- the writer's answers, of which only its calls show `may_write` and `may_flush`
+-- ---- the writer's answers, of which only its calls show `may_write` and `flushes`
+
+-- a write of one or more bytes got no further
+abbrev pub IsStuck : (List ℕ → Result ℕ Error → Type 0) → Type 0
+IsStuck may_write = (bytes : List ℕ) × (answer : Result ℕ Error) × (0 < length bytes)
+    × may_write bytes answer × TakesNone answer
 
 -- the error says that the writer failed; its text is empty if memory ran out too
 abbrev pub SaysThatWriterFailed : OTelSdkError → Type 0
@@ -36,7 +42,7 @@ SaysThatWriterFailed (error.InternalFailure message) =
 SaysThatWriterFailed other = ⊥
 
 -- memory ran out, or a write got no further, and the error says which
-abbrev pub IsWritersError : (Result ℕ Error → Type 0) → OTelSdkError → Type 0
+abbrev pub IsWritersError : (List ℕ → Result ℕ Error → Type 0) → OTelSdkError → Type 0
 IsWritersError may_write (error.Memory cause) = ⊤
 IsWritersError may_write other = IsStuck may_write × SaysThatWriterFailed other
 
@@ -44,28 +50,29 @@ IsWritersError may_write other = IsStuck may_write × SaysThatWriterFailed other
 
 -- an open exporter refused a batch: without a call of the writer if memory ran out, and otherwise
 -- because the writer failed
-pub record RefusesBatch {W : Type 0} (may_write : Result ℕ Error → Type 0) (told : OTelSdkError)
-    (old new : Waterfall W) : Type 0 where
+pub record RefusesBatch {W : Type 0} (may_write : List ℕ → Result ℕ Error → Type 0)
+    (told : OTelSdkError) (old new : Waterfall W) : Type 0 where
   pub refuses : RefusesIfShutDown (Err told) old new
   pub failed : old.is_shut_down ≡ false → IsWritersError may_write told
   pub memory : told ≡ error.Memory alloc_error → new ≡ old
 
--- the writer of an open exporter was flushed, which wrote nothing; an error says that it failed
-pub record FlushesWriter {W : Type 0} (contents : W → Option (List ℕ)) (may_flush : Bool → Type 0)
-    (answer : Result ⊤ OTelSdkError) (old new : Waterfall W) : Type 0 where
+-- the writer of an open exporter was flushed once, and got no bytes; an error says that it failed
+pub record FlushesWriter {W : Type 0} (contents : W → Option (List ℕ))
+    (flushes : W → Bool → W → Type 0) (answer : Result ⊤ OTelSdkError) (old new : Waterfall W)
+    : Type 0 where
   pub refuses : RefusesIfShutDown answer old new
   pub bytes : Keeps (contents old.output) (contents new.output)
-  pub flushed : old.is_shut_down ≡ false → may_flush (is_ok answer)
+  pub flushed : old.is_shut_down ≡ false → flushes old.output (is_ok answer) new.output
   pub failed : old.is_shut_down ≡ false → IfErr answer SaysThatWriterFailed
 
 -- What the exporter says about its calls. It ignores resources.
-abbrev pub exporter_calls : {W : Type 0} → (W → Option (List ℕ)) → (Result ℕ Error → Type 0)
-    → (Bool → Type 0) → Calls (Waterfall W)
-exporter_calls contents may_write may_flush = record {
+abbrev pub exporter_calls : {W : Type 0} → (W → Option (List ℕ))
+    → (List ℕ → Result ℕ Error → Type 0) → (W → Bool → W → Type 0) → Calls (Waterfall W)
+exporter_calls contents may_write flushes = record {
   refuses = λ old told new. RefusesBatch may_write told old new;
-  flushes = λ old answer new. FlushesWriter contents may_flush answer old new
+  flushes = λ old answer new. FlushesWriter contents flushes answer old new
       × (new ≡ record old { output = new.output });
-  shuts_down = λ old answer new. FlushesWriter contents may_flush answer old new
+  shuts_down = λ old answer new. FlushesWriter contents flushes answer old new
       × (new ≡ record old { output = new.output; is_shut_down = true });
   takes_resource = λ old _ new. new ≡ old;
 }

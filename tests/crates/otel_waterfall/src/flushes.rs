@@ -57,6 +57,10 @@ fn each_call_flushes_once(rt: HostRuntime) -> Result<(), Fail> {
         failures: 0,
     };
     let mut exporter = WaterfallExporter::new(alloc, writer);
+    let batch = [span(alloc, 7, (1, 0), "a", 5, 5)?];
+    assert!(rt; exporter.export(&batch).is_ok());
+    assert!(rt; exporter.export(&[]).is_ok());
+    assert_eq!(rt; exporter.output().flushes, 0);
     assert!(rt; exporter.force_flush().is_ok());
     assert_eq!(rt; exporter.output().flushes, 1);
     assert!(rt; exporter.shutdown().is_ok());
@@ -84,6 +88,26 @@ fn a_failed_flush_is_returned(rt: HostRuntime) -> Result<(), Fail> {
     let batch = [span(alloc, 7, (1, 0), "a", 5, 5)?];
     let answer = exporter.export(&batch);
     assert!(rt; matches!(answer, Err(OTelSdkError::AlreadyShutdown)));
+    Ok(())
+}
+
+#[test]
+fn a_failed_flush_is_not_tried_again(rt: HostRuntime) -> Result<(), Fail> {
+    let alloc = rt.alloc();
+    for shuts_down in [false, true] {
+        let writer = Counting {
+            flushes: 0,
+            failures: 1,
+        };
+        let mut exporter = WaterfallExporter::new(alloc, writer);
+        let answer = if shuts_down {
+            exporter.shutdown()
+        } else {
+            exporter.force_flush()
+        };
+        assert!(rt; says_that_the_writer_failed(&answer));
+        assert_eq!(rt; exporter.output().flushes, 1);
+    }
     Ok(())
 }
 
