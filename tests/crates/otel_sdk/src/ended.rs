@@ -201,7 +201,7 @@ fn three_started(alloc: Global) -> Result<LiveSpans, Fail> {
 }
 
 /// Three sampled spans that have ended in order, with the span ids 1, 2 and 3.
-fn three_ended(alloc: Global) -> Result<LiveSpans, Fail> {
+pub fn three_ended(alloc: Global) -> Result<LiveSpans, Fail> {
     let mut live = three_started(alloc)?;
     for number in 0..3 {
         live.end(number, 9);

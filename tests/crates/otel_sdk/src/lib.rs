@@ -5,11 +5,13 @@
 // Depends on: anyhow test_support
 
 mod builders;
+mod calls;
 mod disabled;
 mod ended;
 mod env;
 mod errors;
 mod exporter;
+mod exports;
 mod from_env;
 mod id_generator;
 mod last_export;
