@@ -18,3 +18,4 @@ mod Scaling
 mod Starts
 mod TimerLemmas
 mod TracingLemmas
+pub mod UsedUp

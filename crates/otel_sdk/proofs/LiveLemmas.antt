@@ -1,7 +1,7 @@
 -- A start, a change and an end keep the ended spans.
 use Rattle.std.proofs.Common.{◌≡◌, ℕ, ◌+◌, ◌-◌, ◌<◌, ◌≤◌, Bool, true, false, cond, List, [], ◌∷◌, ◌++◌, length}
-use Rattle.std.proofs.Common.{take, fold, Result, Ok, Err, OnOk, OnErr, Option, Some, None, refl, sym, ap, subst, ◌∙◌, arith, inl, inr}
-use Rattle.std.specs.Prelude.{◌==◌, if◌then◌else◌, is_some, not, option_map}
+use Rattle.std.proofs.Common.{take, fold, Result, Ok, Err, OnOk, OnErr, Option, Some, None, refl, sym, ap, subst, ◌∙◌, arith, inl, inr, true≢false}
+use Rattle.std.specs.Prelude.{◌==◌, ◌≢◌, if◌then◌else◌, is_some, not, option_map, IsErr}
 use Rattle.std.specs.Option.{option_map_or}
 use Rattle.std.specs.List.{IsDistinct, AllByRecursion, cons_option}
 use Rattle.std.specs.Ordering.{nat_cmp}
@@ -292,12 +292,14 @@ module _ {F : Type 0} where
       (subst (λ (xs : List ℕ). AreListed a xs) (sym same) h)
 
   pub start-fits : {X : Type 0} (r : Result X F) (a b : SpansState SpanState) (s : SpanState) (room : ℕ)
-      → OnOk r (b ≡ table.insert a s) → OnErr r (b ≡ a) → table.len a + 1 ≤ room → table.len b ≤ room
-  start-fits (Ok n) a b s room ok err h =
+      → OnOk r (b ≡ table.insert a s) → OnErr r (b ≡ a) → (a.next_number ≡ table.used_up → IsErr r) → table.len a ≤ room
+      → (a.next_number ≢ table.used_up → table.len a + 1 ≤ room) → table.len b ≤ room
+  start-fits (Ok n) a b s room ok err used fits h =
       let more : table.len (table.insert a s) ≤ table.len a + 1 = len-started a s in
       let same : table.len b ≡ table.len (table.insert a s) = ap (λ (x : SpansState SpanState). table.len x) ok in
+      let one_more : table.len a + 1 ≤ room = h (λ e. absurd (true≢false (sym (used e)))) in
       omega arith
-  start-fits (Err e) a b s room ok err h =
+  start-fits (Err e) a b s room ok err used fits h =
       let same : table.len b ≡ table.len a = ap (λ (x : SpansState SpanState). table.len x) err in omega arith
 
   pub change-listed : (r : Result (Unit {0}) F) (a b : SpansState SpanState) (n : ℕ) (c : SpanChange) (ns : List ℕ)

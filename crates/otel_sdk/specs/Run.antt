@@ -1,5 +1,5 @@
 -- The meaning of a run of events over the spans of a program. Not in the Rust crate.
-use Rattle.std.specs.Prelude.{◌≡◌, ◌⊎◌, true, false, List, [], ◌∷◌, alloc_error, IsTrue}
+use Rattle.std.specs.Prelude.{◌≡◌, ◌≢◌, ◌⊎◌, true, false, List, [], ◌∷◌, alloc_error, IsTrue}
 use Rattle.std.specs.Prelude.{Result, Ok, Err, not}
 use Rattle.otel_context.specs.Context.{ContextRecord, with_span}
 use Rattle.otel_context.specs.Spans.{SpansState, insert, starting_at, used_up}
@@ -49,12 +49,16 @@ abbrev pub outcome_of : SpanCause → EventOutcome
 outcome_of cause_of.NumbersUsedUp = NumbersUsedUp
 outcome_of (cause_of.Memory error) = Failed (Memory error)
 
+-- memory ran out for a span, for which a number was left
+abbrev pub HasNoMemory : OTelSdkError → LiveState → Type 0
+HasNoMemory error live = (error ≡ Memory alloc_error) × (live.spans.next_number ≢ used_up)
+
 -- One of the spans that may be started was started; or there is an error, and nothing changed.
 abbrev pub StartsOne : (SpanState → Type 0) → LiveState → LiveState → EventOutcome → Type 0
 StartsOne May old new Done = (span : SpanState) × May span × (new ≡ with_started span old)
 StartsOne May old new NumbersUsedUp = (old.spans.next_number ≡ used_up) × (new ≡ old)
 StartsOne May old new NotAttached = ⊥
-StartsOne May old new (Failed error) = (error ≡ Memory alloc_error) × (new ≡ old)
+StartsOne May old new (Failed error) = HasNoMemory error old × (new ≡ old)
 
 -- The context was attached; or it was not, because the greatest position is in use or because of an
 -- error, and nothing changed.
@@ -83,7 +87,7 @@ StartsActive May old contexts new after NumbersUsedUp =
 StartsActive May old contexts new after NotAttached = (span : SpanState)
     × May (stack.current contexts) span × (new ≡ with_started span old) × (after ≡ contexts)
 StartsActive May old contexts new after (Failed error) =
-    (error ≡ Memory alloc_error) × (new ≡ old) × (after ≡ contexts)
+    HasNoMemory error old × (new ≡ old) × (after ≡ contexts)
 
 module _ {E : Type 0} where
   -- the record of the five
@@ -186,9 +190,9 @@ module _ {E : Type 0} where
     -- The event failed with this error. A collection or a flush did a first part, a shutdown did a
     -- first part or everything, and any other event did nothing. An end and a detach never fail.
     abbrev pub Fails : SpanEvent → OTelSdkError → RunState E → RunState E → Type 0
-    Fails (Start builder parent) error old new = (error ≡ Memory alloc_error) × (new ≡ old)
-    Fails (StartCurrent builder) error old new = (error ≡ Memory alloc_error) × (new ≡ old)
-    Fails (StartActive builder) error old new = (error ≡ Memory alloc_error) × (new ≡ old)
+    Fails (Start builder parent) error old new = HasNoMemory error old.live × (new ≡ old)
+    Fails (StartCurrent builder) error old new = HasNoMemory error old.live × (new ≡ old)
+    Fails (StartActive builder) error old new = HasNoMemory error old.live × (new ≡ old)
     Fails (Attach context) error old new = (error ≡ Memory alloc_error) × (new ≡ old)
     Fails (Detach position) error old new = ⊥
     Fails (Change number change) error old new = (error ≡ Memory alloc_error) × (new ≡ old)

@@ -1,11 +1,10 @@
 //! The spans of a program until a processor collects them.
-ghost use Rattle.std.specs.Prelude.{◌≡◌, ◌<◌, ◌≤◌, false, [], OnOk, OnErr, IfOk, IfErr, IsErr};
-ghost use Rattle.std.specs.Prelude.{IsErrOf, IsOk, IsTrue, None, Some, not, option_copied};
+ghost use Rattle.std.specs.Prelude.{◌≡◌, ◌≢◌, ◌<◌, ◌≤◌, ◌↔◌, false, [], OnOk, OnErr, IfOk};
+ghost use Rattle.std.specs.Prelude.{IfErr, IsErr, IsErrOf, IsOk, IsTrue, None, not};
 ghost use Rattle.std.specs.Vec.{vec_capacity};
 ghost use Rattle.otel_context.specs.Context.{with_span};
-ghost use Rattle.otel_context.specs.Spans.{get, used_up};
+ghost use Rattle.otel_context.specs.Spans.{cause_of, get, refusal, used_up};
 ghost use Rattle.otel_context.specs.Stack.{attach, current, last_position, newest_position};
-ghost use Rattle.otel_context.specs.declared.span.spans.SpanCause.TheVariants.{NumbersUsedUp};
 ghost use Rattle.otel_sdk.specs.SpanChange.{change_of, records_at};
 ghost use Rattle.otel_sdk.specs.LiveState.{no_spans, with_started, with_changed, with_ended};
 ghost use Rattle.otel_sdk_base.specs.Queue.{cause};
@@ -80,6 +79,29 @@ fn make_room(ended: &mut Vec<u64>, room: usize) -> Result<(), AllocError>
     ended.reserve(room.saturating_sub(ended.len()))
 }
 
+/// Reserves capacity for `room` numbers in total, unless the table has no number left.
+///
+/// # Errors
+///
+/// `AllocError` if out of memory. The numbers are unchanged.
+fn make_room_for_next(
+    spans: &Spans<SdkSpan>,
+    ended: &mut Vec<u64>,
+    room: usize,
+) -> Result<(), AllocError>
+    ensures same { ended.new.items ≡ ended.old.items }
+    ensures kept { vec_capacity ended.old ≤ vec_capacity ended.new }
+    ensures ok { OnOk result (spans.now.next_number ≢ used_up
+        → room ≤ vec_capacity ended.new) }
+    ensures left { OnErr result (spans.now.next_number ≢ used_up) }
+    ensures fresh { get spans.now spans.now.next_number ≡ None }
+{
+    if spans.next_number() == u64::MAX {
+        return Ok(());
+    }
+    make_room(ended, room)
+}
+
 impl LiveSpans {
     ghost use Rattle.otel_sdk.specs.Ended.{AreListed};
 
@@ -110,25 +132,29 @@ impl LiveSpans {
         self.ended.as_slice()
     }
 
+    /// Returns `true` if every span number was given out.
+    pub(crate) fn are_numbers_used_up(&self) -> bool
+        ensures { IsTrue result ↔ (self.now.spans.next_number ≡ used_up) }
+    {
+        self.spans.next_number() == u64::MAX
+    }
+
     /// Inserts a span under the next number. Returns that number.
     ///
     /// # Errors
     ///
-    /// `NumbersUsedUp` if the next number is 18446744073709551615, or `Memory` if out of memory.
-    /// Nothing changes, and the error returns the span.
+    /// `NumbersUsedUp` if the next number is 18446744073709551615, and otherwise `Memory` if out of
+    /// memory. Nothing changes, and the error returns the span.
     pub fn start(&mut self, span: SdkSpan) -> Result<u64, SpanRefused<SdkSpan>>
         ensures number { IfOk result (λ number. number ≡ self.old.spans.next_number) }
         ensures fresh { get self.old.spans self.old.spans.next_number ≡ None }
         ensures ok { OnOk result (self.new ≡ with_started span self.old) }
         ensures err { OnErr result (self.new ≡ self.old) }
-        ensures back { IfErr result (λ refused. refused.span ≡ span) }
-        ensures used_up { IfErr result (λ refused.
-            refused.cause ≡ NumbersUsedUp → self.old.spans.next_number ≡ used_up) }
-        ensures refused { self.old.spans.next_number ≡ used_up → IsErr result }
+        ensures used_up { self.old.spans.next_number ≡ used_up → IsErr result }
+        ensures refused { IfErr result (λ refused. refused ≡ refusal self.old.spans span) }
     {
         let room = self.spans.len() + 1;
-        let _ = self.spans.next_number();
-        if let Err(error) = make_room(&mut self.ended, room) {
+        if let Err(error) = make_room_for_next(&self.spans, &mut self.ended, room) {
             let cause = SpanCause::Memory(error);
             return Err(SpanRefused { span, cause });
         }
@@ -151,14 +177,11 @@ impl LiveSpans {
         ensures fresh { get self.old.spans self.old.spans.next_number ≡ None }
         ensures ok { OnOk result (self.new ≡ with_started span self.old) }
         ensures err { OnErr result (self.new ≡ self.old) }
-        ensures back { IfErr result (λ refused. refused.span ≡ span) }
-        ensures used_up { IfErr result (λ refused.
-            refused.cause ≡ NumbersUsedUp → self.old.spans.next_number ≡ used_up) }
-        ensures refused { self.old.spans.next_number ≡ used_up → IsErr result }
+        ensures used_up { self.old.spans.next_number ≡ used_up → IsErr result }
+        ensures refused { IfErr result (λ refused. refused ≡ refusal self.old.spans span) }
     {
         let room = self.spans.len() + 1;
-        let _ = self.spans.next_number();
-        if let Err(error) = make_room(&mut self.ended, room) {
+        if let Err(error) = make_room_for_next(&self.spans, &mut self.ended, room) {
             let cause = SpanCause::Memory(error);
             return Err(SpanRefused { span, cause });
         }
@@ -184,8 +207,7 @@ impl LiveSpans {
             ≡ attach (context_with span self.old stack.old.live) stack.old.live) }
         ensures same_spans { OnErr result (SameSpans self.old self.new) }
         ensures same_stack { OnErr result (stack.new ≡ stack.old) }
-        ensures used_up { IfErr result (λ cause.
-            cause ≡ NumbersUsedUp → self.old.spans.next_number ≡ used_up) }
+        ensures refused { IfErr result (λ cause. cause ≡ cause_of self.old.spans) }
     {
         let number = self.spans.next_number();
         let context = match self.start_in(stack, span) {

@@ -1,6 +1,7 @@
 //! Runs events over the spans of a program, from their starts to their export.
 ghost use Rattle.std.specs.Prelude.{◌≡◌, IfOk};
 ghost use Rattle.opentelemetry.specs.View.{builder_of};
+ghost use Rattle.otel_context.specs.Spans.{cause_of};
 ghost use Rattle.otel_sdk.specs.Run.{Applies, AttachesOne, HasRun, StartsActive, StartsOne};
 ghost use Rattle.otel_sdk.specs.Run.{outcome_of};
 
@@ -47,7 +48,18 @@ fn not_started(cause: SpanCause) -> EventOutcome
     }
 }
 
+/// Returns the outcome of a start for which memory ran out: the numbers may be used up, too.
+fn not_built(live: &LiveSpans, error: AllocError) -> EventOutcome
+    ensures { result ≡ outcome_of (cause_of live.now.spans) }
+{
+    if live.are_numbers_used_up() {
+        return EventOutcome::NumbersUsedUp;
+    }
+    not_started(SpanCause::Memory(error))
+}
+
 /// Starts a span. Returns the outcome.
+#[tactic(auto, using(crate::proofs::UsedUp::starts_none))]
 fn start<P: Pipeline>(
     alloc: Global,
     tracer: &SdkTracer<P>,
@@ -60,7 +72,7 @@ fn start<P: Pipeline>(
 {
     let span = match tracer.build_with_context(alloc, builder, parent) {
         Ok(span) => span,
-        Err(error) => return EventOutcome::Failed(OTelSdkError::Memory(error)),
+        Err(error) => return not_built(live, error),
     };
     match live.start(span) {
         Ok(_) => EventOutcome::Done,
@@ -83,6 +95,7 @@ fn attach(stack: &mut ContextStack, context: Context) -> EventOutcome
 
 /// Starts a span under the current context, and attaches a copy of that context in which the span
 /// is active. Returns the outcome.
+#[tactic(auto, using(crate::proofs::UsedUp::starts_active_none))]
 fn start_active<P: Pipeline>(
     alloc: Global,
     tracer: &SdkTracer<P>,
@@ -95,7 +108,7 @@ fn start_active<P: Pipeline>(
 {
     let span = match tracer.build_with_context(alloc, builder, stack.current()) {
         Ok(span) => span,
-        Err(error) => return EventOutcome::Failed(OTelSdkError::Memory(error)),
+        Err(error) => return not_built(live, error),
     };
     match live.start_in(stack, span) {
         // If the context can't be attached, the span stays started.

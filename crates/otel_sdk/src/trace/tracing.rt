@@ -1,5 +1,5 @@
 //! One value that traces a program: its tracer, contexts, spans and processor.
-ghost use Rattle.std.specs.Prelude.{◌≡◌, false, length, IfOk, IfErr, IsErrOf, OnErr};
+ghost use Rattle.std.specs.Prelude.{◌≡◌, ◌≢◌, false, length, IfOk, IfErr, IsErrOf, OnErr};
 ghost use Rattle.otel_context.specs.Stack.{newest_position, last_position};
 ghost use Rattle.otel_context.specs.Spans.{used_up};
 ghost use Rattle.opentelemetry.specs.SpanBuilder.{from_name};
@@ -206,6 +206,9 @@ impl<P: Pipeline, E: SpanExporter> Tracing<P, E> {
         ensures full { self.old.is_disabled ≡ false
             → newest_position self.old.contexts ≡ last_position
             → IsErrOf result PositionsUsedUp }
+        ensures used_up { self.old.is_disabled ≡ false
+            → newest_position self.old.contexts ≢ last_position
+            → self.old.spans.spans.next_number ≡ used_up → IsErrOf result NumbersUsedUp }
     {
         self.enter_with(SpanBuilder::from_name(StringValue::from(name)))
     }
@@ -227,6 +230,9 @@ impl<P: Pipeline, E: SpanExporter> Tracing<P, E> {
         ensures full { self.old.is_disabled ≡ false
             → newest_position self.old.contexts ≡ last_position
             → IsErrOf result PositionsUsedUp }
+        ensures used_up { self.old.is_disabled ≡ false
+            → newest_position self.old.contexts ≢ last_position
+            → self.old.spans.spans.next_number ≡ used_up → IsErrOf result NumbersUsedUp }
     {
         if self.is_disabled() {
             return Ok(Entered {
@@ -249,9 +255,14 @@ impl<P: Pipeline, E: SpanExporter> Tracing<P, E> {
             → newest_position self.old.contexts ≡ last_position) }
         ensures full { newest_position self.old.contexts ≡ last_position
             → IsErrOf result PositionsUsedUp }
+        ensures used_up { newest_position self.old.contexts ≢ last_position
+            → self.old.spans.spans.next_number ≡ used_up → IsErrOf result NumbersUsedUp }
     {
         if self.stack.newest_position() == LAST_POSITION {
             return Err(NotEntered::PositionsUsedUp);
+        }
+        if self.journal.are_numbers_used_up() {
+            return Err(NotEntered::NumbersUsedUp);
         }
         let now = self.moments.read(self.is_disabled, &self.tracer);
         let builder = starting_at(now, builder);

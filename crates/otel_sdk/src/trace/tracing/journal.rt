@@ -1,5 +1,5 @@
 //! The spans of a `Tracing`, from their start to the exporter.
-ghost use Rattle.std.specs.Prelude.{◌≡◌, ◌<◌, [], ◌∷◌, false, length, IfOk, IfErr, OnOk, OnErr};
+ghost use Rattle.std.specs.Prelude.{◌≡◌, ◌<◌, ◌↔◌, [], false, length, IfOk, IfErr, OnOk, OnErr};
 ghost use Rattle.std.specs.Prelude.{IsOk, IsTrue};
 ghost use Rattle.otel_context.specs.Spans.{used_up};
 ghost use Rattle.otel_context.specs.Stack.{attach, last_position, newest_position};
@@ -213,6 +213,13 @@ impl<E: SpanExporter> Journal<E> {
         ensures { result ≡ tracing_spec.is_entered number self.now.entered }
     {
         self.entered.iter().any(|e| e.number == number)
+    }
+
+    /// Returns `true` if every span number was given out.
+    pub fn are_numbers_used_up(&self) -> bool
+        ensures { IsTrue result ↔ (self.now.spans.spans.next_number ≡ used_up) }
+    {
+        self.live.are_numbers_used_up()
     }
 
     /// Returns the number of spans that are entered and not exited.
