@@ -46,3 +46,4 @@ pub mod Responses
 pub mod Targets
 pub mod FileReads
 pub mod StreamErrors
+pub mod StreamFaults

@@ -1,5 +1,5 @@
 -- What a call of a connection's `read` says of a stream.
-use Rattle.std.proofs.Common.{◌≡◌, ℕ, ◌+◌, ◌-◌, ◌≤◌, nat_lt, ◌/◌, ◌==◌, ◌&&◌, ◌||◌, Bool, true, false, true≢false, not, cond, List, [], ◌∷◌, ◌++◌, length, take, drop, map, fold, Ok, All, IsTrue, inl, inr, refl, sym, ap, ◌∙◌, subst, subst₂, arith, append-nil, append_assoc}
+use Rattle.std.proofs.Common.{◌≡◌, ℕ, ◌+◌, ◌-◌, ◌≤◌, nat_lt, ◌/◌, ◌==◌, ◌&&◌, ◌||◌, Bool, true, false, true≢false, not, cond, List, [], ◌∷◌, ◌++◌, length, take, drop, map, fold, Ok, All, IsTrue, ◌↔◌, inl, inr, refl, sym, ap, ◌∙◌, subst, subst₂, arith, append-nil, append_assoc}
 use Rattle.std.proofs.lemmas.Bool.Decides.{nat_tests}
 use Rattle.std.proofs.lemmas.List.{drop_all, drop-take, take-take}
 use Rattle.std.proofs.lemmas.List.Elements.{All-nil, All-cons, All-head, All-tail}
@@ -26,12 +26,14 @@ use Rattle.http1.specs.Conn.{no_progress, awaits_head, is_connect, is_until_clos
 use Rattle.http1.specs.Fields.{Header, known_fields}
 use Rattle.http1.specs.Message.{known_of}
 use Rattle.http1.specs.declared.framing.Framing.{Framing}
-use Rattle.http1.specs.Decoder.{AwaitsTrailers}
-use Rattle.http1.specs.Client.{new_client, closed_client, upgraded_client, reading_body, after_head, is_written, is_interim, switches, after_piece, cycle, ReadsHead, ReadsInBody, ReadsFirst, ReadsAt, ClientReads, at_eof, client_eof, reading, IsIdle}
+use Rattle.http1.specs.Decoder.{AwaitsTrailers, Runs}
+use Rattle.http1.specs.declared.framing.Framing.TheVariants as Framed
+use Rattle.http1.specs.Client.{new_client, closed_client, upgraded_client, reading_body, is_written, is_interim, switches, after_piece, ReadsHead, ReadsInBody, ReadsFirst, ReadsAt, ClientReads, at_eof, reading, IsIdle}
 use Rattle.http1.specs.ServerTrace.{no_body, headers_at}
 use Rattle.http1.specs.ClientTrace.{SeenResponse, nothing, observe, IsBetween, Trace, stops, peer_closes, reads}
 use Rattle.http1_typed.specs.Parts.{entry_at, map_at, IsResponseParts}
-use Rattle.otel_otlp.specs.StreamClient.{map_of, with_body, KeepsOpen, is_kept, Skips, FindsHead, with_front, Gives, FindsBody, StaysOpen}
+use Rattle.http1.specs.Framing.{response_framing}
+use Rattle.otel_otlp.specs.StreamClient.{map_of, with_body, keeps_open, is_kept, ClosesAtEnd, Skips, FindsHead, with_front, Gives, FindsBody, StaysOpen}
 use Rattle.otel_otlp.proofs.Streams.{skips_none}
 
 -- ---- parts of a head
@@ -86,22 +88,67 @@ and_right false true h = refl
 and_right false false h = h
 
 -- a status that is below 200 and not interim is 101
-no_interim : (low is other : Bool) → (low && not is) ≡ false → low ≡ true → (is || other) ≡ false → ⊥
+pub no_interim : (low is other : Bool) → (low && not is) ≡ false → low ≡ true → (is || other) ≡ false → ⊥
 no_interim true true other final below sw = true≢false sw
 no_interim true false other final below sw = true≢false final
 no_interim false is other final below sw = true≢false (sym below)
 
--- only after a head that keeps the connection it goes on
-goes_after : (c : Client) (h : ResponseHead) (framing : Framing) (s low : Bool)
+and_none : (a : Bool) → (a && false) ≡ false
+and_none true = refl
+and_none false = refl
+
+and_swap : (a b w : Bool) → ((a && b) && w) ≡ ((a && w) && b)
+and_swap true true true = refl
+and_swap true true false = refl
+and_swap true false true = refl
+and_swap true false false = refl
+and_swap false b w = refl
+
+never_kept : (a b w : Bool) → ((a && (b && false)) && w) ≡ false
+never_kept true true w = refl
+never_kept true false w = refl
+never_kept false b w = refl
+
+-- whether the connection goes on after a head
+kept_after : (c : Client) (h : ResponseHead) (framing : Framing) (s low : Bool)
     → switches c (status_code h) ≡ s → nat_lt (status_code h) 200 ≡ low → is_interim (status_code h) ≡ false
-    → IsTrue (is_kept (cond s (upgraded_client c) (cond low c (reading_body c h.minor (known_of h.fields) framing))))
-    → IsTrue (keeps_alive h.minor (known_of h.fields))
-goes_after c h framing true low sw below final goes = absurd (true≢false (sym (and_right c.keep_alive false goes)))
-goes_after c h framing false true sw below final goes =
+    → is_kept (cond s (upgraded_client c) (cond low c (reading_body c h.minor (known_of h.fields) framing)))
+    ≡ (is_kept c && (not s && (keeps_alive h.minor (known_of h.fields) && not (is_until_close framing))))
+kept_after c h framing true low sw below final = and_none c.keep_alive ∙ sym (and_none (is_kept c))
+kept_after c h framing false true sw below final =
     absurd (no_interim (nat_lt (status_code h) 200) (status_code h == 101) (is_connect c.method && (status_code h / 100 == 2)) final below sw)
-goes_after c h framing false false sw below final goes =
-    and_left (keeps_alive h.minor (known_of h.fields)) (not (is_until_close framing))
-    (and_right c.keep_alive _ (and_left (c.keep_alive && (keeps_alive h.minor (known_of h.fields) && not (is_until_close framing))) (is_written c.writing) goes))
+kept_after c h framing false false sw below final = and_swap c.keep_alive (keeps_alive h.minor (known_of h.fields) && not (is_until_close framing)) (is_written c.writing)
+
+-- the same by what is seen of the head
+kept_seen : (new c : Client) (seen : SeenResponse) (code minor : ℕ) (headers : List Header) (framing : Framing)
+    → seen.method ≡ c.method → seen.status ≡ code → seen.minor ≡ minor → seen.headers ≡ headers
+    → response_framing c.method code minor (known_fields headers) ≡ Ok framing
+    → is_kept new ≡ (is_kept c && (not ((code == 101) || (is_connect c.method && (code / 100 == 2))) && (keeps_alive minor (known_fields headers) && not (is_until_close framing))))
+    → is_kept new ≡ (is_kept c && keeps_open seen)
+kept_seen new c seen code minor headers framing m s v h framed kept = rw (m, s, v, h, framed) kept
+
+closes_body : (c : Client) (h : ResponseHead) (framing : Framing) → ClosesAtEnd (reading_body c h.minor (known_of h.fields) framing)
+closes_body c h Framed.NoBody is = absurd cc
+closes_body c h (Framed.Length len) is = absurd cc
+closes_body c h Framed.Chunked is = absurd cc
+closes_body c h Framed.UntilClose is = never_kept c.keep_alive (keeps_alive h.minor (known_of h.fields)) (is_written c.writing)
+
+-- after a head whose body ends with the reader it doesn't
+closes_after : (c : Client) (h : ResponseHead) (framing : Framing) (s low : Bool) → ClosesAtEnd c
+    → ClosesAtEnd (cond s (upgraded_client c) (cond low c (reading_body c h.minor (known_of h.fields) framing)))
+closes_after c h framing true low old is = absurd cc
+closes_after c h framing false true old is = old is
+closes_after c h framing false false old is = closes_body c h framing is
+
+-- a connection at a head is within no body
+head_closes : (c : Client) → reading c ≡ Reads.Head → ClosesAtEnd c
+head_closes c head is = let it = sym head ∙ is in absurd cc
+
+-- only a body that ends with the reader goes on as one
+runs_until : (d new : Decoder) (input piece : List ℕ) (len : ℕ) → Runs d input new len piece → new ≡ UntilClose → d ≡ UntilClose
+runs_until (Length left) new input piece len runs is = let it = sym runs ∙ is in absurd cc
+runs_until (Chunked chunks max_len) new input piece len runs is = let it = sym runs.1 ∙ is in absurd cc
+runs_until UntilClose new input piece len runs is = refl
 
 module _ (c new : Client) (input : List ℕ) (spans : List HeaderSpan) (read : Progress ResponseSpans) (is : reading c ≡ Reads.Head) (found : ClientReads c input spans new read) where
   at_head : ReadsFirst (awaits_head c.writing) c input spans new read
@@ -140,13 +187,18 @@ module _ (c new : Client) (input : List ℕ) (spans : List HeaderSpan) (read : P
   final_by true r h event = let it = h.1 in cc
   final_by false r h event = (subst (λ e. ReadsHead c input spans new read.consumed e) event h).0
 
-  keeps_by : (idle : Bool) (r : ResponseSpans) → ReadsFirst idle c input spans new read → read.event ≡ Found.Head r
-      → IsTrue (is_kept new) → IsTrue (keeps_alive r.version (known_fields (headers_at input spans r.headers)))
-  keeps_by true r h event goes = let it = sym (ap (λ (p : Progress ResponseSpans). p.event) h.1) ∙ event in absurd cc
-  keeps_by false r h event goes =
+  keeps_by : (idle : Bool) (r : ResponseSpans) (seen : SeenResponse)
+      → seen.method ≡ c.method → seen.status ≡ r.code → seen.minor ≡ r.version → seen.headers ≡ headers_at input spans r.headers
+      → ReadsFirst idle c input spans new read → read.event ≡ Found.Head r
+      → (is_kept new ≡ (is_kept c && keeps_open seen)) × ClosesAtEnd new
+  keeps_by true r seen m code minor headers h event = let it = sym (ap (λ (p : Progress ResponseSpans). p.event) h.1) ∙ event in absurd cc
+  keeps_by false r seen m code minor headers h event =
       let (final, t) = subst (λ e. ReadsHead c input spans new read.consumed e) event h in
-      let kept = goes_after c t.head t.framing _ _ refl refl (subst (λ n. is_interim n ≡ false) t.covered.code final) (subst (λ n. IsTrue (is_kept n)) t.next goes) in
-      subst₂ (λ (m : ℕ) (hs : List Header). IsTrue (keeps_alive m (known_fields hs))) (sym t.covered.version) (sym t.covered.fields) kept
+      let kept = kept_after c t.head t.framing _ _ refl refl (subst (λ n. is_interim n ≡ false) t.covered.code final) in
+      let same = subst (λ n. is_kept n ≡ (is_kept c && (not (switches c (status_code t.head)) && (keeps_alive t.head.minor (known_of t.head.fields) && not (is_until_close t.framing))))) (sym t.next) kept in (
+        kept_seen new c seen (status_code t.head) t.head.minor _ t.framing m (code ∙ t.covered.code) (minor ∙ t.covered.version) (headers ∙ t.covered.fields) t.accepts.framed same,
+        subst (λ n. ClosesAtEnd n) (sym t.next) (closes_after c t.head t.framing _ _ (head_closes c is)),
+      )
 
   -- a head was found
   pub finds_head : (r : ResponseSpans) (p : Response.Parts) → read.event ≡ Found.Head r → IsResponseParts input spans r p → FindsHead c (input ++ []) new (drop read.consumed input) p
@@ -159,7 +211,8 @@ module _ (c new : Client) (input : List ℕ) (spans : List HeaderSpan) (read : P
         is_final = final_by _ r at_head event;
         method = refl;
         parts = record { status = is_parts.status; version = is_parts.version; headers = is_parts.headers ∙ map_at_is input (take r.headers spans) };
-        keeps = keeps_by _ r at_head event;
+        keeps = (keeps_by _ r seen refl refl refl refl at_head event).0;
+        closes = (keeps_by _ r seen refl refl refl refl at_head event).1;
         goes_on = λ more later rest t.
             let first = reads c new input more spans read later rest found t in
             let told = subst (λ e. Trace c (input ++ more) (observe c.method input spans e later) rest) event first in
@@ -187,10 +240,10 @@ until_close (Reads.Failed e) c count is = cc
 pub eof_closes : (r : Reading) (c : Client) → r ≡ Reads.Body UntilClose → IsIdle (at_eof r c).1 → ⊥
 eof_closes r c is idle = let closed = subst (λ x. IsIdle (at_eof x c).1) is idle in cc
 
--- a connection is idle after a response only if it goes on
-idle_by : (c : Client) (again : Bool) → IsIdle (cond again (new_client c.limits) (closed_client c)) → IsTrue again
-idle_by c true idle = refl
-idle_by c false idle = absurd cc
+-- a connection is idle after a response exactly if it goes on
+idle_by : (c : Client) (again : Bool) → IsIdle (cond again (new_client c.limits) (closed_client c)) ↔ IsTrue again
+idle_by c true = (λ _. refl, λ _. refl)
+idle_by c false = (λ idle. absurd cc, λ is. absurd (true≢false (sym is)))
 
 -- the end of the stream leaves what was read
 pub eof_body : (r : Reading) (c : Client) → r ≡ Reads.Body UntilClose → (at_eof r c).0 ≡ Ok (Found.End 0)
@@ -210,18 +263,18 @@ module _ (c new : Client) (input : List ℕ) (spans : List HeaderSpan) (read : P
         let done = (subst (λ e. ReadsPiece d input spans h.0 read.consumed e) event h.1).0 in
         subst (λ n. IsBetween (reading n)) (sym (h.2 ∙ ap (after_piece c) done)) (between_cycle (record c { reading = Reads.Done }) (c.keep_alive && is_written c.writing))
 
-    idles_piece : (d : Decoder) → ReadsInBody d c input spans new read → IsIdle new → IsTrue (is_kept c)
-    idles_piece d h idle =
+    idles_piece : (d : Decoder) → ReadsInBody d c input spans new read → IsIdle new ↔ IsTrue (is_kept c)
+    idles_piece d h =
         let done = (subst (λ e. ReadsPiece d input spans h.0 read.consumed e) event h.1).0 in
-        idle_by (record c { reading = Reads.Done }) (is_kept c) (subst (λ n. IsIdle n) (h.2 ∙ ap (after_piece c) done) idle)
+        subst (λ n. IsIdle n ↔ IsTrue (is_kept c)) (sym (h.2 ∙ ap (after_piece c) done)) (idle_by (record c { reading = Reads.Done }) (is_kept c))
 
-    idles : (r : Reading) → ReadsAt r c input spans new read → IsIdle new → IsTrue (is_kept c)
-    idles Reads.Head h idle = absurd (ends_first _ h)
-    idles (Reads.Body d) h idle = idles_piece d h idle
-    idles Reads.Done h idle = let it = sym (event_of _ h.0) ∙ event in absurd cc
-    idles Reads.Upgraded h idle = let it = sym (event_of _ h.0) ∙ event in absurd cc
-    idles Reads.Closed h idle = let it = sym (event_of _ h.0) ∙ event in absurd cc
-    idles (Reads.Failed e) h idle = absurd h
+    idles : (r : Reading) → ReadsAt r c input spans new read → IsIdle new ↔ IsTrue (is_kept c)
+    idles Reads.Head h = absurd (ends_first _ h)
+    idles (Reads.Body d) h = idles_piece d h
+    idles Reads.Done h = let it = sym (event_of _ h.0) ∙ event in absurd cc
+    idles Reads.Upgraded h = let it = sym (event_of _ h.0) ∙ event in absurd cc
+    idles Reads.Closed h = let it = sym (event_of _ h.0) ∙ event in absurd cc
+    idles (Reads.Failed e) h = absurd h
 
     ends_between : (r : Reading) → ReadsAt r c input spans new read → IsBetween (reading new)
     ends_between Reads.Head h = absurd (ends_first _ h)
@@ -249,7 +302,41 @@ module _ (c new : Client) (input : List ℕ) (spans : List HeaderSpan) (read : P
     gives Reads.Closed h = let it = sym (event_of _ h.0) ∙ event in absurd cc
     gives (Reads.Failed e) h = absurd h
 
+    was_piece : (d : Decoder) → ReadsInBody d c input spans new read → reading new ≡ Reads.Body UntilClose → d ≡ UntilClose
+    was_piece d h is =
+        let (kept, next, len, some, continues) = subst (λ e. ReadsPiece d input spans h.0 read.consumed e) event h.1 in
+        let body : Reads.Body kept ≡ Reads.Body UntilClose = sym (ap reading (h.2 ∙ ap (after_piece c) next)) ∙ is in
+        let until : kept ≡ UntilClose = cc in
+        runs_until d kept input (span_bytes input s) s.end continues.runs until
+
+    was : (r : Reading) → ReadsAt r c input spans new read → reading new ≡ Reads.Body UntilClose → r ≡ Reads.Body UntilClose
+    was Reads.Head h is = absurd (gives_first _ h)
+    was (Reads.Body d) h is = ap Reads.Body (was_piece d h is)
+    was Reads.Done h is = let it = sym (event_of _ h.0) ∙ event in absurd cc
+    was Reads.Upgraded h is = let it = sym (event_of _ h.0) ∙ event in absurd cc
+    was Reads.Closed h is = let it = sym (event_of _ h.0) ∙ event in absurd cc
+    was (Reads.Failed e) h is = absurd h
+
   module _ (event : read.event ≡ Found.NeedMore) where
+    needed_piece : (d : Decoder) → ReadsInBody d c input spans new read → reading new ≡ Reads.Body UntilClose → d ≡ UntilClose
+    needed_piece d h is =
+        let (kept, next, starves) = subst (λ e. ReadsPiece d input spans h.0 read.consumed e) event h.1 in
+        let body : Reads.Body kept ≡ Reads.Body UntilClose = sym (ap reading (h.2 ∙ ap (after_piece c) next)) ∙ is in
+        let until : kept ≡ UntilClose = cc in
+        runs_until d kept input [] read.consumed starves.continues.runs until
+
+    needed_first : (idle : Bool) → reading c ≡ Reads.Head → ReadsFirst idle c input spans new read → reading new ≡ Reads.Body UntilClose → Reads.Head ≡ Reads.Body UntilClose
+    needed_first true head h is = let it = sym (event_of _ h.1) ∙ event in absurd cc
+    needed_first false head h is = sym head ∙ sym (ap reading (subst (λ e. ReadsHead c input spans new read.consumed e) event h).1) ∙ is
+
+    needed : (r : Reading) → reading c ≡ r → ReadsAt r c input spans new read → reading new ≡ Reads.Body UntilClose → r ≡ Reads.Body UntilClose
+    needed Reads.Head at h is = needed_first _ at h is
+    needed (Reads.Body d) at h is = ap Reads.Body (needed_piece d h is)
+    needed Reads.Done at h is = let it = sym (event_of _ h.0) ∙ event in absurd cc
+    needed Reads.Upgraded at h is = let it = sym (event_of _ h.0) ∙ event in absurd cc
+    needed Reads.Closed at h is = let it = sym (event_of _ h.0) ∙ event in absurd cc
+    needed (Reads.Failed e) at h is = absurd h
+
     needs_first : (idle : Bool) → ReadsFirst idle c input spans new read → is_kept new ≡ is_kept c
     needs_first true h = let it = sym (event_of _ h.1) ∙ event in absurd cc
     needs_first false h = ap is_kept (subst (λ e. ReadsHead c input spans new read.consumed e) event h).1
@@ -296,14 +383,25 @@ module _ (c new : Client) (input : List ℕ) (spans : List HeaderSpan) (read : P
     left = drop read.consumed input
 
     -- whether the connection goes on stays so within the body, and is so if it is idle at the end
-    pub stays_by_data : (s : Span) → read.event ≡ Found.Data s → StaysOpen false c new
-    stays_by_data s event = gives s event (reading c) found
+    pub stays_by_data : ClosesAtEnd c → (s : Span) → read.event ≡ Found.Data s → StaysOpen false c new
+    stays_by_data closes s event =
+        let same = gives s event (reading c) found in
+        (same, λ is. same ∙ closes (was s event (reading c) found is))
 
-    pub stays_by_need : read.event ≡ Found.NeedMore → StaysOpen false c new
-    stays_by_need event = needs event (reading c) found
+    pub was_until : read.event ≡ Found.NeedMore → reading new ≡ Reads.Body UntilClose → reading c ≡ Reads.Body UntilClose
+    was_until event is = needed event (reading c) refl found is
+
+    pub stays_by_need : ClosesAtEnd c → read.event ≡ Found.NeedMore → StaysOpen false c new
+    stays_by_need closes event =
+        let same = needs event (reading c) found in
+        (same, λ is. same ∙ closes (was_until event is))
 
     pub stays_at_end : (count : ℕ) → read.event ≡ Found.End count → StaysOpen true c new
-    stays_at_end count event idle = idles count event (reading c) found idle
+    stays_at_end count event = idles count event (reading c) found
+
+    -- a body that ends with the reader closes the connection
+    pub stays_at_eof : ClosesAtEnd c → read.event ≡ Found.NeedMore → (after : Client) → reading new ≡ Reads.Body UntilClose → (IsIdle after → ⊥) → StaysOpen true c after
+    stays_at_eof closes event after is busy = (λ idle. absurd (busy idle), λ kept. absurd (true≢false (sym kept ∙ closes (was_until event is))))
 
     -- a piece was found
     pub gives_data : (s : Span) → read.event ≡ Found.Data s → Gives c (input ++ []) new left (span_bytes input s)

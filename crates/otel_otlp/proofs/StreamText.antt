@@ -1,5 +1,5 @@
 -- The answer to a request that was written whole.
-use Rattle.std.proofs.Common.{◌≡◌, ℕ, List, length, Vec, ◌∙◌}
+use Rattle.std.proofs.Common.{◌≡◌, ◌↔◌, ◌&&◌, IsTrue, ℕ, List, length, Vec, ◌∙◌}
 use Rattle.std.specs.declared.alloc.Global.{Global}
 use Rattle.http.specs.declared.request.Parts as Request
 use Rattle.http.specs.declared.response.Response.{Response}
@@ -10,7 +10,7 @@ use Rattle.http1.specs.Client.{new_client, with_writing, writing, IsIdle}
 use Rattle.http1.specs.Framing.{method_kind}
 use Rattle.http1.specs.ClientTrace.{Seen, Trace, writes, requests, sends, finishes}
 use Rattle.http1.proofs.ClientTraceLemmas.{trace_reads_answers}
-use Rattle.otel_otlp.specs.StreamClient.{limits, started, asking, headers_of, Answers, KeepsOpen, Replies}
+use Rattle.otel_otlp.specs.StreamClient.{limits, started, asking, headers_of, Answers, is_kept, keeps_open, Replies}
 
 module _ (p : Request.Parts) (body : List ℕ) (stream : List ℕ) (rest : List ℕ) where
   -- what is seen after the request was written is seen by a new connection that writes it
@@ -22,7 +22,7 @@ module _ (p : Request.Parts) (body : List ℕ) (stream : List ℕ) (rest : List 
       (writes begun sent stream seen rest (sends (length body)) (writes sent (asking p body) stream seen rest finishes t))
 
   pub answers_from : (now : Client) (answer : Response (Vec ℕ Global)) → (asking p body).method ≡ method_kind p.method → Replies (asking p body) stream now answer rest
-      → (told : Answers p stream answer rest) × (IsIdle now → KeepsOpen told.last)
+      → (told : Answers p stream answer rest) × (IsIdle now ↔ IsTrue (is_kept (asking p body) && keeps_open told.last))
   answers_from now answer method r =
       let found = trace_reads_answers limits stream _ rest (from_new _ r.trace) in (
         record {
@@ -40,3 +40,7 @@ module _ (p : Request.Parts) (body : List ℕ) (stream : List ℕ) (rest : List 
         },
         r.keeps,
       )
+
+-- the two reasons in place of the connection
+pub opens : (free idle kept none : Type 0) → free ↔ (idle × none) → idle ↔ kept → free ↔ (kept × none)
+opens free idle kept none a b = (λ is. (b.0 (a.0 is).0, (a.0 is).1), λ is. a.1 (b.1 is.0, is.1))

@@ -1,12 +1,12 @@
 -- What a connection has seen of a stream that comes in pieces.
-use Rattle.std.proofs.Common.{◌≡◌, IsTrue, List, ℕ, [], ◌∷◌, ◌++◌, refl, sym, ap, ◌∙◌, subst, subst₂, append_assoc}
+use Rattle.std.proofs.Common.{◌≡◌, ◌&&◌, IsTrue, List, ℕ, [], ◌∷◌, ◌++◌, refl, sym, ap, ◌∙◌, subst, subst₂, append_assoc}
 use Rattle.std.proofs.lemmas.List.Elements.{All-append, All-nil}
 use Rattle.http.specs.declared.response.Parts as Response
 use Rattle.http1.specs.declared.client.Client.{Client}
 use Rattle.http1.specs.Client.{is_interim}
 use Rattle.http1.specs.ServerTrace.{no_body}
 use Rattle.http1.specs.ClientTrace.{SeenResponse, Seen, Trace}
-use Rattle.otel_otlp.specs.StreamClient.{with_body, Skips, FindsHead, with_front, Gives, FindsBody}
+use Rattle.otel_otlp.specs.StreamClient.{with_body, is_kept, keeps_open, Skips, FindsHead, with_front, Gives, FindsBody}
 
 -- ---- steps after steps
 -- what is seen from a head on has no body before it
@@ -42,7 +42,8 @@ module _ (a b c : Client) (stream unread came left : List ℕ) where
     is_final = y.is_final;
     method = y.method ∙ ap (λ (k : Client). k.method) x.same;
     parts = y.parts;
-    keeps = y.keeps;
+    keeps = y.keeps ∙ ap (λ (k : Client). is_kept k && keeps_open y.head) x.same;
+    closes = y.closes;
     goes_on = λ more later rest t.
         let others = with_body y.head later.body ∷ later.responses in
         let second = y.goes_on more later rest t in

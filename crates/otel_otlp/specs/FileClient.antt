@@ -1,9 +1,12 @@
 -- What a client over two files was asked to send, and its answers.
-use Rattle.std.specs.Prelude.{◌≡◌, ◌⊎◌, ℕ, List, [], ◌∷◌, ◌++◌, codes, Option, Some, None, ⊤}
+use Rattle.std.specs.Prelude.{◌⊎◌, ℕ, List, [], ◌++◌, codes, Option, Some, None, ⊤}
+use Rattle.std.specs.Prelude.{Bool, Result}
+use Rattle.std.specs.declared.io.Error.{Error}
 use Rattle.std.specs.Io.KnownBytes.{Appends}
 use Rattle.http.specs.declared.request.Parts as Request
 use Rattle.otel_otlp.specs.HttpClient.{Sent, Received}
 use Rattle.otel_otlp.specs.StreamClient.{Streaming, Answers, ReadsAnswer, request_text}
+use Rattle.otel_otlp.specs.StreamClient.{Fails, IsNoAnswer}
 use Rattle.otel_otlp.specs.StreamClient as stream
 use Rattle.otel_otlp.specs.declared.otlp_http.client.HttpError.{HttpError}
 use Rattle.otel_otlp.specs.declared.otlp_http.client.HttpError.TheVariants.{Memory, Unreachable}
@@ -50,11 +53,28 @@ module _ {F : Type 0} (outputs : List ℕ → Option F → Type 0)
       (output : F) × outputs (file_in folder (codes "request")) (Some output)
       × IsUnopened (inputs output) folder (codes "response") error
 
-  -- there is no answer: a file couldn't be opened, or memory ran out, or both were opened
-  abbrev pub IsUnanswered : List ℕ → HttpError → Type 0
-  IsUnanswered folder error =
+  -- Both files were opened, and a client over them failed. `contents` are the bytes that a file
+  -- holds, and `remaining` those that it will give; only the calls show the others.
+  pub record FailsOpened (contents remaining : F → Option (List ℕ))
+      (may_write : Result ℕ Error → Type 0) (may_flush : Bool → Type 0)
+      (may_read : Result ℕ Error → Type 0) (p : Request.Parts) (body folder : List ℕ)
+      (error : HttpError) : Type 0 where
+    pub input : F
+    pub output : F
+    pub opens : Opens folder input output
+    pub left : Streaming F F
+    pub fails : Fails contents may_write may_flush may_read p body
+        (stream.initial input output) left error
+    pub malformed :
+        IsNoAnswer remaining may_read p body input [] left.reader error
+
+  -- there is no answer: a file couldn't be opened, or memory ran out, or a client over both failed
+  abbrev pub IsUnanswered : (F → Option (List ℕ)) → (F → Option (List ℕ))
+      → (Result ℕ Error → Type 0) → (Bool → Type 0) → (Result ℕ Error → Type 0)
+      → Request.Parts → List ℕ → List ℕ → HttpError → Type 0
+  IsUnanswered contents remaining may_write may_flush may_read p body folder error =
       (IsUnopened outputs folder (codes "request") error ⊎ IsUnread folder error)
-      ⊎ ((input : F) × (output : F) × Opens folder input output)
+      ⊎ FailsOpened contents remaining may_write may_flush may_read p body folder error
 
   -- Both files were opened, the request was written to the one, and its answer was read from the
   -- other. `contents` are the bytes that a file holds, and `remaining` those that it will give.
@@ -65,4 +85,4 @@ module _ {F : Type 0} (outputs : List ℕ → Option F → Type 0)
     pub opens : Opens folder input output
     pub left : Streaming F F
     pub writes : Appends (contents output) (contents left.writer) (request_text p body)
-    pub reads : ReadsAnswer remaining p (stream.initial input output) answer left
+    pub reads : ReadsAnswer remaining p body (stream.initial input output) answer left

@@ -1,19 +1,24 @@
 -- What a client over a reader and a writer sends, and the answer that it reads
 -- [RFC 9110; RFC 9112].
-use Rattle.std.specs.Prelude.{◌≡◌, ◌⊎◌, ◌≤◌, ◌*◌, ℕ, Bool, true, false, List, [], ◌∷◌, ◌++◌, length}
+use Rattle.std.specs.Prelude.{◌≡◌, ◌≢◌, ◌⊎◌, ◌↔◌, ◌≤◌, ◌<◌, ◌*◌, ◌/◌, ◌==◌, ℕ, Bool, true, false}
+use Rattle.std.specs.Prelude.{List, [], ◌∷◌, ◌++◌, length, take, drop, not, ◌||◌}
 use Rattle.std.specs.Prelude.{Ok, Option, Some, None, option_map, unwrap_or, Vec, All, IsTrue}
-use Rattle.std.specs.Prelude.{map, fold, codes, alloc_error, Result, ⊤, ◌&&◌}
+use Rattle.std.specs.Prelude.{map, fold, codes, alloc_error, Result, Err, ⊤, ◌&&◌}
 use Rattle.std.specs.Io.KnownBytes.{Appends, Consumes}
 use Rattle.std.specs.declared.io.Error.{Error}
 use Rattle.std.specs.declared.alloc.Global.{Global}
 use Rattle.httparse.specs.Grammar.{print_request}
-use Rattle.httparse.specs.Spans.{name_and_value}
+use Rattle.httparse.specs.Spans.{name_and_value, span_bytes}
+use Rattle.httparse.specs.declared.spans.HeaderSpan.{HeaderSpan}
+use Rattle.httparse.specs.declared.spans.ResponseSpans.{ResponseSpans}
 use Rattle.http_header.specs.Token.{lowercase}
 use Rattle.http_header.specs.FieldValue.{FieldValue, plain_value}
 use Rattle.http_header.specs.HeaderMap.{Entries, append}
 use Rattle.http_uri.specs.declared.uri.Uri.{Uri}
 use Rattle.http_uri.specs.ByteClasses.{framed_text, rsplit_once_back, at_sign}
 use Rattle.http_uri.specs.Uri.{uri_authority, uri_path, uri_query}
+use Rattle.http.specs.declared.error.Error.{Error as PartsError}
+use Rattle.http.specs.declared.error.Error.TheVariants.{OutOfMemory as NoMemory}
 use Rattle.http.specs.declared.request.Parts as Request
 use Rattle.http.specs.declared.response.Parts as Response
 use Rattle.http.specs.declared.response.Response.{Response as Answering}
@@ -21,20 +26,31 @@ use Rattle.http.specs.Response as answered
 use Rattle.http1.specs.declared.client.Client.{Client}
 use Rattle.http1.specs.declared.conn.BodySize.TheVariants.{Known}
 use Rattle.http1.specs.declared.conn.Limits.{Limits}
+use Rattle.http1.specs.declared.conn.Event.{Event}
+use Rattle.http1.specs.declared.conn.Event.TheVariants.{NeedMore, Head, Data, End}
+use Rattle.http1.specs.declared.conn.Progress.{Progress}
+use Rattle.http1.specs.declared.conn.Reading.{Reading as Read}
+use Rattle.http1.specs.declared.conn.Reading.TheVariants as Reading
+use Rattle.http1.specs.declared.decode.Decoder.TheVariants.{UntilClose}
+use Rattle.http1.specs.declared.error.ReadError.{ReadError}
+use Rattle.http1.specs.declared.framing.Framing.{Framing}
+use Rattle.http1.specs.declared.framing.FramingError.{FramingError}
 use Rattle.http1.specs.declared.error.WriteError.{WriteError}
 use Rattle.http1.specs.declared.error.WriteError.TheVariants.{OutOfMemory}
 use Rattle.http1.specs.Fields.{Header, known_fields}
-use Rattle.http1.specs.Framing.{method_kind}
+use Rattle.http1.specs.Framing.{method_kind, response_framing}
 use Rattle.http1.specs.Encoder.{encoder_for, AreAccepted}
 use Rattle.http1.specs.Head.{is_request_line, head_refusal}
 use Rattle.http1.specs.Message as Wire
 use Rattle.http1.specs.Message.{Answer, ReadsAnswers}
 use Rattle.http1.specs.Conn.{Plan, length_header, data_text, after_data, finish_text, keeps_alive}
+use Rattle.http1.specs.Conn.{is_connect, is_until_close}
 use Rattle.http1.specs.Client.{new_client, is_interim, request_plan, planned_request}
 use Rattle.http1.specs.Client.{after_request, after_end, with_writing, writing, is_written, IsIdle}
+use Rattle.http1.specs.Client.{reading, ClientReads, ClientRefuses, client_eof}
 use Rattle.http1.specs.ServerTrace.{SeenBody, no_body}
-use Rattle.http1.specs.ClientTrace.{SeenResponse, answer_view, Seen, Trace}
-use Rattle.http1_typed.specs.Parts.{fields_of, version_of}
+use Rattle.http1.specs.ClientTrace.{SeenResponse, answer_view, Seen, Trace, IsBetween}
+use Rattle.http1_typed.specs.Parts.{fields_of, version_of, ResponseError}
 use Rattle.otel_sdk_base.specs.Writers.{IsStuck}
 use Rattle.otel_otlp.specs.HttpClient.{Sent, Received}
 use Rattle.otel_otlp.specs.declared.otlp_http.client.HttpError.{HttpError}
@@ -50,6 +66,10 @@ limits = record {
   max_extensions_len = 16 * 1024;
   max_trailers_len = 16 * 1024;
 }
+
+-- the most headers of a response, and the most trailers
+abbrev pub max_headers : ℕ
+max_headers = 128
 
 -- the most bytes of a body, 4 MiB
 abbrev pub max_body_len : ℕ
@@ -203,20 +223,42 @@ pub record Answers (p : Request.Parts) (stream : List ℕ) (answer : Answering (
   pub body : (answered.body_of answer).items ≡ last.body.bytes
   pub within : length last.body.bytes ≤ max_body_len
 
--- by its version and its headers the response keeps the connection
-abbrev pub KeepsOpen : SeenResponse → Type 0
-KeepsOpen seen = IsTrue (keeps_alive seen.minor (known_fields seen.headers))
+-- another protocol has the connection after the response
+abbrev pub switches : SeenResponse → Bool
+switches seen = (seen.status == 101) || (is_connect seen.method && (seen.status / 100 == 2))
+
+-- the body ends where the connection closes
+abbrev pub is_last : Result Framing FramingError → Bool
+is_last (Ok framing) = is_until_close framing
+is_last (Err error) = false
+
+abbrev pub ends_with_reader : SeenResponse → Bool
+ends_with_reader seen =
+    is_last (response_framing seen.method seen.status seen.minor (known_fields seen.headers))
+
+-- the response keeps the connection: no other protocol has it then, its version and its headers say
+-- so, and its body has an end of its own
+abbrev pub keeps_open : SeenResponse → Bool
+keeps_open seen =
+    not (switches seen)
+    && (keeps_alive seen.minor (known_fields seen.headers) && not (ends_with_reader seen))
+
+-- the connection is kept after the response that it reads
+abbrev pub is_kept : Client → Bool
+is_kept c = c.keep_alive && is_written c.writing
 
 -- `remaining` is the reader's: the bytes that it will give, if they are known
 module _ {R : Type 0} (remaining : R → Option (List ℕ)) where
   -- The client has read bytes, and what it had unread, followed by them, begins with this answer to
-  -- the request. Another request can be sent only if the response keeps the connection.
+  -- the request. Another request can be sent exactly if this one and the response keep the
+  -- connection, and no byte is unread.
   abbrev pub ReadsAnswer : {W : Type 0}
-      → Request.Parts → Streaming R W → Received → Streaming R W → Type 0
-  ReadsAnswer p old answer new =
+      → Request.Parts → List ℕ → Streaming R W → Received → Streaming R W → Type 0
+  ReadsAnswer p body old answer new =
       (came : List ℕ) × Consumes (remaining old.reader) (remaining new.reader) came
       × ((told : Answers p (old.unread ++ came) answer new.unread)
-      × (IsTrue new.is_open → KeepsOpen told.last))
+      × (IsTrue new.is_open
+      ↔ (IsTrue (is_kept (asking p body) && keeps_open told.last) × (new.unread ≡ []))))
 
   -- the source has read these bytes, and none was used
   abbrev pub Gains : Source R → List ℕ → Source R → Type 0
@@ -236,10 +278,6 @@ module _ {R : Type 0} (remaining : R → Option (List ℕ)) where
 abbrev pub with_body : SeenResponse → SeenBody → SeenResponse
 with_body seen body = record seen { body = body }
 
--- the connection is kept after the response that it reads
-abbrev pub is_kept : Client → Bool
-is_kept c = c.keep_alive && is_written c.writing
-
 -- The connection `first`, which is given the stream, has skipped responses of status 1xx, and
 -- waits for `unread`.
 pub record Skips (first : Client) (stream : List ℕ) (now : Client) (unread : List ℕ) : Type 0 where
@@ -251,6 +289,10 @@ pub record Skips (first : Client) (stream : List ℕ) (now : Client) (unread : L
       → Trace first (stream ++ more)
       (record { body = no_body; responses = interim ++ later.responses }) rest
 
+-- a body that ends with the reader doesn't keep the connection
+abbrev pub ClosesAtEnd : Client → Type 0
+ClosesAtEnd c = reading c ≡ Reading.Body UntilClose → is_kept c ≡ false
+
 -- the same, and then the head of a response with these parts, whose body is to come
 pub record FindsHead (first : Client) (stream : List ℕ) (now : Client) (unread : List ℕ)
     (p : Response.Parts) : Type 0 where
@@ -260,7 +302,8 @@ pub record FindsHead (first : Client) (stream : List ℕ) (now : Client) (unread
   pub is_final : is_interim head.status ≡ false
   pub method : head.method ≡ first.method
   pub parts : ArePartsOf head p
-  pub keeps : IsTrue (is_kept now) → KeepsOpen head
+  pub keeps : is_kept now ≡ (is_kept first && keeps_open head)
+  pub closes : ClosesAtEnd now
   pub goes_on : (more : List ℕ) (later : Seen) (rest : List ℕ)
       → Trace now (unread ++ more) later rest
       → Trace first (stream ++ more)
@@ -298,10 +341,11 @@ abbrev pub StepsInBody : Client → List ℕ → Client → List ℕ → List �
 StepsInBody first stream now unread piece true = FindsBody first stream piece unread
 StepsInBody first stream now unread piece false = Gives first stream now unread piece
 
--- within a body nothing changes whether the connection is kept, and it is idle at the end only then
+-- within a body nothing changes whether the connection is kept, and it is idle at the end exactly
+-- then
 abbrev pub StaysOpen : Bool → Client → Client → Type 0
-StaysOpen true old new = IsIdle new → IsTrue (is_kept old)
-StaysOpen false old new = is_kept new ≡ is_kept old
+StaysOpen true old new = IsIdle new ↔ IsTrue (is_kept old)
+StaysOpen false old new = (is_kept new ≡ is_kept old) × ClosesAtEnd new
 
 -- a step in a body, by whose piece the body has become `longer`
 abbrev pub Grows : List ℕ → List ℕ → Client → List ℕ → Client → List ℕ → Bool → Type 0
@@ -309,7 +353,7 @@ Grows body longer first stream now unread ended =
     (piece : List ℕ) × (longer ≡ body ++ piece) × StepsInBody first stream now unread piece ended
 
 -- The connection `first`, which is given the stream, has read responses of status 1xx, then the
--- answer, and `rest` follows it. It is idle `now` only if the answer keeps it.
+-- answer, and `rest` follows it. It is idle `now` exactly if it was kept and the answer keeps it.
 pub record Replies (first : Client) (stream : List ℕ) (now : Client)
     (answer : Answering (Vec ℕ Global)) (rest : List ℕ) : Type 0 where
   pub interim : List SeenResponse
@@ -320,6 +364,106 @@ pub record Replies (first : Client) (stream : List ℕ) (now : Client)
   pub parts : ArePartsOf last (answered.head_of answer)
   pub body : (answered.body_of answer).items ≡ last.body.bytes
   pub within : length last.body.bytes ≤ max_body_len
-  pub keeps : IsIdle now → KeepsOpen last
+  pub keeps : IsIdle now ↔ IsTrue (is_kept first && keeps_open last)
   pub trace :
       Trace first stream (record { body = no_body; responses = interim ++ last ∷ [] }) rest
+
+-- ---- bytes that are no answer
+-- the bytes of a body that a read has found
+abbrev pub piece_of : List ℕ → Event ResponseSpans → List ℕ
+piece_of input (Data s) = span_bytes input s
+piece_of input other = []
+
+-- The connection `first`, which is given the stream in pieces, has come to be `now`, and hasn't
+-- found the end of a response: it has found these bytes of a body, and waits for `left`.
+pub data Comes : Client → List ℕ → Client → List ℕ → List ℕ → Type 0 where
+  stays : (c : Client) (stream : List ℕ) → Comes c stream c stream []
+  moves : (c new now : Client) (input more : List ℕ) (spans : List HeaderSpan)
+      (read : Progress ResponseSpans) (left body : List ℕ) → ClientReads c input spans new read
+      → ((count : ℕ) → read.event ≢ End count)
+      → Comes new (drop read.consumed input ++ more) now left body
+      → Comes c (input ++ more) now left (piece_of input read.event ++ body)
+
+-- the connection needs more bytes than these, and isn't at the end of a body if no more come
+pub record EndsEarly (now : Client) (left : List ℕ) : Type 0 where
+  pub spans : List HeaderSpan
+  pub next : Client
+  pub read : Progress ResponseSpans
+  pub finds : ClientReads now left spans next read
+  pub needs : read.event ≡ NeedMore
+  pub ends : (count : ℕ) → (client_eof next).0 ≢ Ok (End count)
+
+-- why a connection reads no further: whatever follows these bytes, they aren't what it waits for,
+-- or have too many headers; or they end before it, and the reader has ended
+abbrev pub StopsAt : (Result ℕ Error → Type 0) → Client → List ℕ → Type 0
+StopsAt may_read now left =
+    ((error : ReadError) × ClientRefuses now left max_headers error)
+    ⊎ (may_read (Ok 0) × EndsEarly now left)
+
+-- the error of a head whose parts aren't those of a response
+abbrev pub no_parts : PartsError → HttpError
+no_parts NoMemory = Memory alloc_error
+no_parts error = Malformed
+
+-- the parts of this head aren't those of a response
+abbrev pub HasBadParts : List ℕ → List HeaderSpan → ResponseSpans → Type 0
+HasBadParts input spans head =
+    (error : PartsError) × (no_parts error ≡ Malformed)
+    × ResponseError (take head.len input) spans head error
+
+-- the connection has found a head in these bytes, and its parts aren't those of a response
+abbrev pub FindsBadHead : Client → List ℕ → Type 0
+FindsBadHead now left =
+    (spans : List HeaderSpan) × (next : Client) × (read : Progress ResponseSpans)
+    × (head : ResponseSpans) × ClientReads now left spans next read
+    × (read.event ≡ Head head) × HasBadParts left spans head
+
+-- another protocol has the connection after the response, or it was closed
+abbrev pub IsOver : Read → Type 0
+IsOver Reading.Head = ⊥
+IsOver other = IsBetween other
+
+-- Why the stream has no response: the connection `first`, which is given it, and has found the
+-- bytes `body` of a body, reads a part of a response, and then no further; or the response has a
+-- bad head, or a body longer than 4 MiB, or no body. Only the reader's calls show `may_read`.
+pub record LacksMore (may_read : Result ℕ Error → Type 0) (body : List ℕ) (first : Client)
+    (stream : List ℕ) : Type 0 where
+  pub now : Client
+  pub left : List ℕ
+  pub piece : List ℕ
+  pub comes : Comes first stream now left piece
+  pub stops : (StopsAt may_read now left ⊎ FindsBadHead now left)
+      ⊎ ((max_body_len < length (body ++ piece)) ⊎ IsOver (reading now))
+
+-- the same from the start of a response, or of a body
+abbrev pub LacksAnswer : (Result ℕ Error → Type 0) → Client → List ℕ → Type 0
+LacksAnswer may_read = LacksMore may_read []
+
+module _ {R : Type 0} (remaining : R → Option (List ℕ)) where
+  -- The source has read bytes, and a piece of a body was found in what it had unread, followed by
+  -- them, by which the body has become `longer`. The body goes on.
+  pub record GoesOn (old new : Source R) (body longer : List ℕ) (first now : Client) : Type 0 where
+    pub came : List ℕ
+    pub consumed : Consumes (remaining old.reader) (remaining new.reader) came
+    pub piece : List ℕ
+    pub grows : longer ≡ body ++ piece
+    pub comes : Comes first (old.unread.items ++ came) now new.unread.items piece
+    pub begun : reading now ≢ Reading.Head
+
+  -- if the error says that the bytes are no response: the source has read bytes, and of what it had
+  -- unread, followed by them, this holds
+  abbrev pub Breaks : Source R → Source R → (List ℕ → Type 0) → HttpError → Type 0
+  Breaks old new Lacks Unreachable = ⊤
+  Breaks old new Lacks Malformed =
+      (came : List ℕ) × Consumes (remaining old.reader) (remaining new.reader) came
+      × Lacks (old.unread.items ++ came)
+  Breaks old new Lacks (Memory failed) = ⊤
+
+  -- the same for a client, which had these bytes unread, and has asked this
+  abbrev pub IsNoAnswer : (Result ℕ Error → Type 0) → Request.Parts → List ℕ
+      → R → List ℕ → R → HttpError → Type 0
+  IsNoAnswer may_read p body old unread new Unreachable = ⊤
+  IsNoAnswer may_read p body old unread new Malformed =
+      (came : List ℕ) × Consumes (remaining old) (remaining new) came
+      × LacksAnswer may_read (asking p body) (unread ++ came)
+  IsNoAnswer may_read p body old unread new (Memory failed) = ⊤

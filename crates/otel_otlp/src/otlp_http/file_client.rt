@@ -6,9 +6,10 @@ ghost use Rattle.otel_otlp.specs.FileClient.{IsUnopened, IsUnanswered};
 
 use crate::otlp_http::client::{HttpClient, HttpError};
 use crate::otlp_http::file_calls::FileCalls;
+use crate::otlp_http::reader_calls::ReaderCalls;
 use crate::otlp_http::stream_client::StreamClient;
 use http::{Request, Response};
-use otel_sdk_base::Accepted;
+use otel_sdk_base::{Accepted, WriterCalls};
 use std::alloc::{AllocError, Global};
 use std::hash::RandomState;
 use std::marker::Model;
@@ -111,7 +112,11 @@ impl<R: FileCalls + Drop> FileClient<R> {
     }
 }
 
-impl<R: FileCalls + Drop> HttpClient for FileClient<R> {
+impl<S, R> HttpClient for FileClient<R>
+where
+    S: ReaderCalls + WriterCalls + Drop,
+    R: FileCalls<Stream = S> + Drop,
+{
     ghost sent = { λ c. c.sent };
 
     /// Opens the files, sends the request, and reads its response.
@@ -125,9 +130,11 @@ impl<R: FileCalls + Drop> HttpClient for FileClient<R> {
         ensures sent { self.new.sent ≡ self.old.sent ++ request.now ∷ [] }
         ensures folder { self.new.folder ≡ self.old.folder }
         ensures answer { IfOk result (IsAnswered (head_of request.now)) }
-        ensures read { IfOk result (Reads R.outputs R.inputs R.Stream.contents R.Stream.remaining
+        ensures read { IfOk result (Reads R.outputs R.inputs S.contents S.remaining
             (head_of request.now) (body_of request.now).items self.old.folder) }
-        ensures failed { IfErr result (IsUnanswered R.outputs R.inputs self.old.folder) }
+        ensures failed { IfErr result (IsUnanswered R.outputs R.inputs S.contents S.remaining
+            S.may_write S.may_flush S.may_read
+            (head_of request.now) (body_of request.now).items self.old.folder) }
     {
         self.sent = self.sent.and_one(request);
         let output = self.open_request()?;

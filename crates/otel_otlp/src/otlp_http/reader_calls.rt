@@ -1,5 +1,5 @@
 //! The calls on readers whose results no contract sees.
-ghost use Rattle.std.specs.Prelude.{◌≡◌, ◌++◌, List, ℕ, length, IfOk, OnErr};
+ghost use Rattle.std.specs.Prelude.{◌≡◌, ◌<◌, ◌++◌, List, ℕ, length, IfOk, OnErr};
 ghost use Rattle.std.specs.Io.KnownBytes.{Keeps, Consumes};
 
 use bytes::BytesMut;
@@ -16,14 +16,15 @@ pub trait ReaderCalls: Read {
 
     ghost may_read: { Result ℕ Error → Type 0 };
 
-    /// Reads once into the spare room, as [`BytesMut::read_from`].
+    /// Reads once into the spare room, as [`BytesMut::read_from`]. An answer is shown only if there
+    /// was room.
     fn read_into(&mut self, bytes: &mut BytesMut) -> io::Result<usize>
         ensures ok { IfOk result (λ count. (more : List ℕ) × (length more ≡ count)
             × (bytes.new.items ≡ bytes.old.items ++ more)
             × Consumes (Self.remaining self.old) (Self.remaining self.new) more) }
         ensures err { OnErr result ((bytes.new ≡ bytes.old)
             × Keeps (Self.remaining self.old) (Self.remaining self.new)) }
-        ensures answered { may_read result };
+        ensures answered { 0 < bytes.old.spare → may_read result };
 }
 
 impl<R: Read> ReaderCalls for R {

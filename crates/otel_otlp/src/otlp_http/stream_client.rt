@@ -1,5 +1,5 @@
 //! A client over a reader and a writer, which together carry one connection.
-ghost use Rattle.std.specs.Prelude.{◌≡◌, ℕ, [], ◌∷◌, ◌++◌, take, false, true};
+ghost use Rattle.std.specs.Prelude.{◌≡◌, ◌↔◌, ℕ, [], ◌∷◌, ◌++◌, take, false, true};
 ghost use Rattle.std.specs.Prelude.{IsTrue, IsErr, IsErrOf, IfOk, IfErr, OnOk, OnErr};
 ghost use Rattle.std.specs.Io.KnownBytes.{Appends};
 ghost use Rattle.http.specs.Request.{head_of, body_of};
@@ -8,6 +8,7 @@ ghost use Rattle.http1.specs.Framing.{method_kind};
 ghost use Rattle.http1.specs.declared.conn.Reading.TheVariants as Reading;
 ghost use Rattle.otel_otlp.specs.StreamClient.{initial, request_text, asking, IsRequest};
 ghost use Rattle.otel_otlp.specs.StreamClient.{IsWritable, ReadsAnswer, IsWriteError, Fails};
+ghost use Rattle.otel_otlp.specs.StreamClient.{IsNoAnswer};
 
 mod request;
 mod source;
@@ -148,8 +149,7 @@ fn write<W: WriterCalls>(
 
 // Returns `true` if another request can be sent: the connection is kept, and no byte is unread.
 fn is_free(connection: &Client, unread: &BytesMut) -> bool
-    ensures idle { IsTrue result → IsIdle connection.now }
-    ensures read { IsTrue result → unread.now.items ≡ [] }
+    ensures { IsTrue result ↔ (IsIdle connection.now × (unread.now.items ≡ [])) }
 {
     connection.is_idle() && unread.is_empty()
 }
@@ -181,10 +181,14 @@ impl<R: ReaderCalls + Drop, W: WriterCalls + Drop> HttpClient for StreamClient<R
             (IsRequest (head_of request.now) (body_of request.now).items
             (request_text (head_of request.now) (body_of request.now).items)) }
         ensures answer { IfOk result (λ answer.
-            ReadsAnswer R.remaining (head_of request.now) self.old answer self.new) }
+            ReadsAnswer R.remaining (head_of request.now) (body_of request.now).items
+            self.old answer self.new) }
         ensures failed { IsTrue self.old.is_open → IfErr result
             (Fails W.contents W.may_write W.may_flush R.may_read
             (head_of request.now) (body_of request.now).items self.old self.new) }
+        ensures malformed { IsTrue self.old.is_open → IfErr result
+            (IsNoAnswer R.remaining R.may_read (head_of request.now) (body_of request.now).items
+            self.old.reader self.old.unread self.new.reader) }
         ensures closed { OnErr result (self.new.is_open ≡ false) }
         ensures quiet { IsTrue self.new.is_open → self.new.unread ≡ [] }
         ensures refused { self.old.is_open ≡ false → IsErr result

@@ -1,14 +1,17 @@
 //! Reads a response.
-ghost use Rattle.std.specs.Prelude.{◌≡◌, ◌≢◌, ℕ, List, ◌++◌, ◌≤◌, length, drop, []};
-ghost use Rattle.std.specs.Prelude.{IfOk, IfErr, OnOk, IsTrue};
+ghost use Rattle.std.specs.Prelude.{◌≡◌, ◌≢◌, ℕ, List, ◌++◌, ◌≤◌, length, drop, [], Ok};
+ghost use Rattle.std.specs.Prelude.{IfOk, IfErr, OnOk, IsTrue, is_some, ◌↔◌, ◌<◌, false};
 ghost use Rattle.httparse.specs.Spans.{IsResponseWithin};
-ghost use Rattle.http1.specs.Client.{reading, IsIdle};
+ghost use Rattle.http1.specs.Client.{reading, writing, IsIdle};
+ghost use Rattle.http1.specs.Conn.{awaits_head};
 ghost use Rattle.http1.specs.declared.conn.Reading.TheVariants as Reading;
 ghost use Rattle.http1_typed.specs.Parts.{IsResponseParts};
 ghost use Rattle.otel_otlp.specs.StreamClient.{Gains, Reads, StepsToHead, FindsHead, Grows};
 ghost use Rattle.otel_otlp.specs.StreamClient.{FindsBody, Replies, StaysOpen, is_kept};
-ghost use Rattle.otel_otlp.specs.StreamClient.{max_body_len};
-ghost use Rattle.otel_otlp.specs.StreamClient.{HasAnswered, IsReadError};
+ghost use Rattle.otel_otlp.specs.StreamClient.{max_body_len, max_headers};
+ghost use Rattle.otel_otlp.specs.StreamClient.{HasAnswered, IsReadError, HasBadParts, no_parts};
+ghost use Rattle.otel_otlp.specs.StreamClient.{Breaks, Comes, GoesOn};
+ghost use Rattle.otel_otlp.specs.StreamClient.{LacksMore, LacksAnswer, ClosesAtEnd};
 ghost use Rattle.otel_sdk_base.specs.Writers.{IsStuck};
 
 use crate::otlp_http::client::HttpError;
@@ -43,6 +46,16 @@ pub(crate) struct Source<R> {
     pub keys: RandomState,
 }
 
+// Returns the error of a head whose parts aren't those of a response.
+fn no_parts(error: http::Error) -> HttpError
+    ensures { result ≡ no_parts error }
+{
+    match error {
+        http::Error::OutOfMemory => HttpError::Memory(AllocError),
+        _ => HttpError::Malformed,
+    }
+}
+
 // Returns the parts of the head that the connection found, and drops its bytes.
 fn take_head(
     alloc: Global,
@@ -55,14 +68,15 @@ fn take_head(
     ensures parts { IfOk result (IsResponseParts unread.old.items spans.now head.now) }
     ensures rest { OnOk result (unread.new.items ≡ drop head.now.len unread.old.items) }
     ensures failed { IfErr result (λ error. error ≢ HttpError.Unreachable) }
+    ensures malformed { IfErr result (λ error. error ≡ HttpError.Malformed
+        → HasBadParts unread.old.items spans.now head.now) }
 {
     let Ok(text) = unread.freeze_to(head.len) else {
         return Err(HttpError::Memory(AllocError));
     };
     match response_parts(alloc, keys, &text, head, spans) {
         Ok(parts) => Ok(parts),
-        Err(http::Error::OutOfMemory) => Err(HttpError::Memory(AllocError)),
-        Err(_) => Err(HttpError::Malformed),
+        Err(error) => Err(no_parts(error)),
     }
 }
 
@@ -72,6 +86,8 @@ fn add_piece(body: &mut Vec<u8>, piece: &[u8]) -> Result<(), HttpError>
     ensures added { OnOk result (body.new.items ≡ body.old.items ++ piece.now) }
     ensures within { OnOk result (length body.new.items ≤ max_body_len) }
     ensures failed { IfErr result (λ error. error ≢ HttpError.Unreachable) }
+    ensures malformed { IfErr result (λ error. error ≡ HttpError.Malformed
+        → max_body_len < length (body.old.items ++ piece.now)) }
 {
     if piece.len() > MAX_BODY_LEN - body.len() {
         return Err(HttpError::Malformed);
@@ -109,6 +125,10 @@ impl<R: ReaderCalls> Source<R> {
             ((came : List ℕ) × Gains R.remaining self.old came self.new) }
         ensures answered { OnOk result (HasAnswered R.may_read) }
         ensures failed { IfErr result (IsReadError R.may_read []) }
+        ensures ended { IfErr result (λ error. error ≡ HttpError.Malformed
+            → R.may_read (Ok 0) × Gains R.remaining self.old [] self.new) }
+        ensures part { IfErr result (λ error. error ≡ HttpError.Malformed
+            → self.old.unread.items ≢ []) }
     {
         if self.fill()? > 0 {
             return Ok(());
@@ -125,6 +145,7 @@ impl<R: ReaderCalls> Source<R> {
             ((came : List ℕ) × Gains R.remaining self.old came self.new) }
         ensures answered { OnOk result (self.old.unread.items ≡ [] → HasAnswered R.may_read) }
         ensures failed { IfErr result (IsReadError R.may_read self.old.unread.items) }
+        ensures no_bytes { IfErr result (λ error. error ≢ HttpError.Malformed) }
     {
         if self.unread.is_empty() {
             return self.fill_head();
@@ -138,11 +159,19 @@ impl<R: ReaderCalls> Source<R> {
         connection: &mut Client,
         spans: &mut [HeaderSpan],
     ) -> Result<Option<Parts>, HttpError>
-        requires { reading connection.old ≡ Reading.Head }
+        requires head { reading connection.old ≡ Reading.Head }
+        requires asked { awaits_head (writing connection.old) ≡ false }
+        requires room { length spans.old ≡ max_headers }
         ensures steps { IfOk result (λ found. Reads R.remaining self.old self.new
             (λ given left. StepsToHead connection.old given connection.new left found)) }
+        ensures comes { OnOk result (Reads R.remaining self.old self.new
+            (λ given left. Comes connection.old given connection.new left [])) }
+        ensures begun { IfOk result (λ found. IsTrue (is_some found)
+            → reading connection.new ≢ Reading.Head) }
         ensures failed { IfErr result (λ error. error ≡ HttpError.Unreachable
             → IsStuck R.may_read) }
+        ensures malformed { IfErr result (Breaks R.remaining self.old self.new
+            (LacksAnswer R.may_read connection.old)) }
     {
         let Ok(read) = connection.read(self.unread.as_slice(), spans) else {
             return Err(HttpError::Malformed);
@@ -172,11 +201,17 @@ impl<R: ReaderCalls> Source<R> {
     /// - `Malformed` if the bytes are no head within the limits, or the reader ended in it.
     /// - `Memory` if out of memory.
     pub(crate) fn read_head(&mut self, connection: &mut Client) -> Result<Parts, HttpError>
-        requires { reading connection.old ≡ Reading.Head }
+        requires head { reading connection.old ≡ Reading.Head }
+        requires asked { awaits_head (writing connection.old) ≡ false }
         ensures head { IfOk result (λ parts. Reads R.remaining self.old self.new
             (λ given left. FindsHead connection.old given connection.new left parts)) }
+        ensures comes { OnOk result (Reads R.remaining self.old self.new
+            (λ given left. Comes connection.old given connection.new left [])) }
+        ensures begun { OnOk result (reading connection.new ≢ Reading.Head) }
         ensures failed { IfErr result (λ error. error ≡ HttpError.Unreachable
             → IsStuck R.may_read) }
+        ensures malformed { IfErr result (Breaks R.remaining self.old self.new
+            (LacksAnswer R.may_read connection.old)) }
     {
         let mut spans = [EMPTY_HEADER_SPAN; MAX_HEADERS];
         for _ in 0..u64::MAX {
@@ -184,7 +219,8 @@ impl<R: ReaderCalls> Source<R> {
                 return Ok(parts);
             }
         }
-        Err(HttpError::Malformed)
+        // The steps can't be counted any more.
+        Err(HttpError::Memory(AllocError))
     }
 
     // Takes a step in a body. Returns `true` if the body has ended.
@@ -194,13 +230,20 @@ impl<R: ReaderCalls> Source<R> {
         body: &mut Vec<u8>,
         spans: &mut [HeaderSpan],
     ) -> Result<bool, HttpError>
-        requires { length body.old.items ≤ max_body_len }
+        requires within { length body.old.items ≤ max_body_len }
+        requires closes { ClosesAtEnd connection.old }
+        requires begun { reading connection.old ≢ Reading.Head }
+        requires room { length spans.old ≡ max_headers }
         ensures within { OnOk result (length body.new.items ≤ max_body_len) }
         ensures steps { IfOk result (λ ended. Reads R.remaining self.old self.new (λ given left.
             Grows body.old.items body.new.items connection.old given connection.new left ended)) }
         ensures keeps { IfOk result (λ ended. StaysOpen ended connection.old connection.new) }
+        ensures comes { IfOk result (λ ended. ended ≡ false → GoesOn R.remaining self.old self.new
+            body.old.items body.new.items connection.old connection.new) }
         ensures failed { IfErr result (λ error. error ≡ HttpError.Unreachable
             → IsStuck R.may_read) }
+        ensures malformed { IfErr result (Breaks R.remaining self.old self.new
+            (LacksMore R.may_read body.old.items connection.old)) }
     {
         let Ok(read) = connection.read(self.unread.as_slice(), spans) else {
             return Err(HttpError::Malformed);
@@ -237,13 +280,17 @@ impl<R: ReaderCalls> Source<R> {
     /// - `Malformed` if the bytes are no body within the limits, or the reader ended in it.
     /// - `Memory` if out of memory.
     pub(crate) fn read_body(&mut self, connection: &mut Client) -> Result<Vec<u8>, HttpError>
+        requires closes { ClosesAtEnd connection.old }
+        requires begun { reading connection.old ≢ Reading.Head }
         ensures within { IfOk result (λ body. length body.items ≤ max_body_len) }
         ensures body { IfOk result (λ body. Reads R.remaining self.old self.new
             (λ given left. FindsBody connection.old given body.items left)) }
         ensures keeps { OnOk result
-            (IsIdle connection.new → IsTrue (is_kept connection.old)) }
+            (IsIdle connection.new ↔ IsTrue (is_kept connection.old)) }
         ensures failed { IfErr result (λ error. error ≡ HttpError.Unreachable
             → IsStuck R.may_read) }
+        ensures malformed { IfErr result (Breaks R.remaining self.old self.new
+            (LacksAnswer R.may_read connection.old)) }
     {
         let mut body = Vec::new(self.alloc);
         let mut spans = [EMPTY_HEADER_SPAN; MAX_HEADERS];
@@ -252,7 +299,8 @@ impl<R: ReaderCalls> Source<R> {
                 return Ok(body);
             }
         }
-        Err(HttpError::Malformed)
+        // The steps can't be counted any more.
+        Err(HttpError::Memory(AllocError))
     }
 
     /// Reads the response to the request that the connection has sent.
@@ -264,10 +312,13 @@ impl<R: ReaderCalls> Source<R> {
         &mut self,
         connection: &mut Client,
     ) -> Result<Response<Vec<u8>>, HttpError>
-        requires { reading connection.old ≡ Reading.Head }
+        requires head { reading connection.old ≡ Reading.Head }
+        requires asked { awaits_head (writing connection.old) ≡ false }
         ensures answer { IfOk result (λ answer. Reads R.remaining self.old self.new
             (λ given left. Replies connection.old given connection.new answer left)) }
         ensures failed { IfErr result (IsReadError R.may_read self.old.unread.items) }
+        ensures malformed { IfErr result (Breaks R.remaining self.old self.new
+            (LacksAnswer R.may_read connection.old)) }
     {
         self.start()?;
         let parts = self.read_head(connection)?;

@@ -1,4 +1,4 @@
-use Rattle.std.proofs.Common.{◌∙◌}
+use Rattle.std.proofs.Common.{◌∙◌, sym}
 use Rattle.otel_otlp.proofs.StreamSteps.{map_at-take}
 use Rattle.otel_otlp.proofs.otlp_http.stream_client.source.take_head.Goals as goal
 
@@ -11,3 +11,6 @@ returns-in-Ok-response_parts-clause-parts c =
       version = p.version;
       headers = p.headers ∙ map_at-take r.len _ _ c.requires.section.headers_fit;
     }
+
+pub returns-clause-malformed : goal.returns-clause-malformed
+returns-clause-malformed c = λ is. (c.in-Err.error, sym c.no_parts.ensures ∙ is, rw c.in-Ok.ensures.front at c.in-Err.ensures.err)

@@ -1,8 +1,11 @@
-use Rattle.std.proofs.Common.{◌≡◌, List, ℕ, [], ◌∷◌, ◌++◌, sym, ap, ◌∙◌, append_assoc, subst}
+use Rattle.std.proofs.Common.{◌≡◌, ◌↔◌, IsTrue, Bool, List, ℕ, [], ◌∷◌, ◌++◌, ap, ◌∙◌, append_assoc, subst}
 use Rattle.std.proofs.KnownBytes.{Consumes-trans}
+use Rattle.http1.specs.Client.{IsIdle}
 use Rattle.http1.specs.ServerTrace.{SeenBody, no_body}
 use Rattle.http1.specs.ClientTrace.{Trace}
-use Rattle.otel_otlp.specs.StreamClient.{with_body}
+use Rattle.otel_otlp.specs.StreamClient.{with_body, Comes, LacksAnswer, Breaks}
+use Rattle.otel_otlp.proofs.StreamErrors.{passed}
+use Rattle.otel_otlp.proofs.StreamFaults.{breaks_after, comes_lacks}
 use Rattle.otel_otlp.proofs.otlp_http.stream_client.source.Source.read_response.Goals as goal
 
 pub returns-clause-answer : goal.returns-clause-answer
@@ -27,7 +30,32 @@ returns-clause-answer g c =
         parts = rw c.from_parts.ensures.head (record { status = h.parts.status; version = h.parts.version; headers = h.parts.headers });
         body = ap (λ v. v.items) c.from_parts.ensures.body;
         within = c.in_ok-body.ensures.within;
-        keeps = λ idle. h.keeps (c.in_ok-body.ensures.keeps idle);
+        keeps = subst (λ (b : Bool). IsIdle c.read_body.new.connection ↔ IsTrue b) h.keeps c.in_ok-body.ensures.keeps;
         trace = subst (λ (s : List ℕ). Trace c.args.connection.now s (record { body = no_body; responses = h.interim ++ with_body h.head body ∷ [] }) unread) stream trace;
       },
     )
+
+pub returns-in_err-parts-clause-malformed : goal.returns-in_err-parts-clause-malformed
+returns-in_err-parts-clause-malformed g c =
+    let may = g.R.ReaderCalls.may_read in
+    let (begun, more) = c.in_ok-start.ensures.gains in
+    let e = c.in_err-parts.field-0.0 in
+    passed (Breaks g.R.Read.remaining c.args.self.now c.read_head.new.self (LacksAnswer may c.args.connection.now)) c.from_residual-in_err-parts.result e c.from_residual-in_err-parts.ensures.1
+    (breaks_after g.R.Read.remaining c.args.self.now c.start.new.self c.read_head.new.self (LacksAnswer may c.args.connection.now) (LacksAnswer may c.args.connection.now) begun more.1
+    (λ came h. subst (λ (xs : List ℕ). LacksAnswer may c.args.connection.now (xs ++ came)) more.0 h)
+    e c.in_err-parts.ensures.malformed)
+
+pub returns-in_err-body-clause-malformed : goal.returns-in_err-body-clause-malformed
+returns-in_err-body-clause-malformed g c =
+    let may = g.R.ReaderCalls.may_read in
+    let (begun, more) = c.in_ok-start.ensures.gains in
+    let (first, before, on) = c.in_ok-parts.ensures.comes in
+    let e = c.in_err-body.field-0.0 in
+    let old = c.args.self.now.unread.items in
+    let stream : c.start.new.self.unread.items ++ first ≡ old ++ (begun ++ first) = ap (λ (xs : List ℕ). xs ++ first) more.0 ∙ append_assoc old begun first in
+    let come = subst (λ (s : List ℕ). Comes c.args.connection.now s c.read_head.new.connection c.read_head.new.self.unread.items []) stream on in
+    passed (Breaks g.R.Read.remaining c.args.self.now c.read_body.new.self (LacksAnswer may c.args.connection.now)) c.from_residual-in_err-body.result e c.from_residual-in_err-body.ensures.1
+    (breaks_after g.R.Read.remaining c.args.self.now c.read_head.new.self c.read_body.new.self (LacksAnswer may c.read_head.new.connection) (LacksAnswer may c.args.connection.now) (begun ++ first)
+    (Consumes-trans _ _ _ begun first more.1 before)
+    (λ came. comes_lacks may c.args.connection.now c.read_head.new.connection (old ++ (begun ++ first)) c.read_head.new.self.unread.items came [] [] come)
+    e c.in_err-body.ensures.malformed)
