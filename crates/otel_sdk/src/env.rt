@@ -11,6 +11,7 @@ mod groups;
 mod headers;
 mod help;
 mod limits;
+mod loggers;
 mod propagators;
 mod read;
 mod sampler;

@@ -63,6 +63,21 @@ fn logger_provider_obeys_the_environment(rt: HostRuntime) -> Result<(), Fail> {
 }
 
 #[test]
+fn logger_obeys_the_environment(rt: HostRuntime) -> Result<(), Fail> {
+    let alloc = rt.alloc();
+    let limit = ("OTEL_LOGRECORD_ATTRIBUTE_COUNT_LIMIT", "1");
+    let config = config(alloc, &[limit])?;
+    let queue = config.log_batches.config();
+    let processor = BatchLogProcessor::new(alloc, InMemoryLogExporter::new(alloc), queue)?;
+    let logger = config.logger(alloc, rt, processor, "shop")?;
+    let mut record = logger.create_log_record(alloc)?;
+    record.add_attribute(alloc, Key::from("a"), AnyValue::Int(1))?;
+    record.add_attribute(alloc, Key::from("b"), AnyValue::Int(2))?;
+    assert!(rt; record.attributes.len() == 1);
+    Ok(())
+}
+
+#[test]
 fn help_names_each_variable(rt: HostRuntime) -> Result<(), Fail> {
     let alloc = rt.alloc();
     assert!(rt; EnvConfig::HELP.ends_with("\n"));

@@ -2,7 +2,7 @@
 use crate::lines::Lines;
 use otel_sdk::EnvConfig;
 use otel_sdk::env::{EnvSampler, VariableSource, WithEnv};
-use otel_sdk::logs::SdkLoggerProvider;
+use otel_sdk::logs::{InMemoryLogExporter, SdkLoggerProvider, SimpleLogProcessor};
 use otel_sdk::trace::{Sampler, SdkTracerProvider, ShouldSample, Tracing};
 use std::alloc::{AllocError, Global};
 
@@ -33,6 +33,9 @@ pub fn play<R: Print>(rt: HostRuntime, lines: &Lines<'_, R>) {
     }
     if lines.begin("logger-provider-with-env") {
         lines.end(loggers_with_env(rt, lines));
+    }
+    if lines.begin("env-logger") {
+        lines.end(logger(rt, lines));
     }
 }
 
@@ -94,5 +97,14 @@ fn loggers_with_env<R: Print>(rt: HostRuntime, lines: &Lines<'_, R>) -> Result<(
     let config = EnvConfig::from_vars(alloc, vars.as_slice())?;
     let builder = SdkLoggerProvider::builder(rt);
     lines.answer_named("set", builder.with_env(alloc, &config));
+    Ok(())
+}
+
+fn logger<R: Print>(rt: HostRuntime, lines: &Lines<'_, R>) -> Result<(), AllocError> {
+    let alloc = rt.alloc();
+    let vars = vars(alloc)?;
+    let config = EnvConfig::from_vars(alloc, vars.as_slice())?;
+    let processor = SimpleLogProcessor::new(alloc, InMemoryLogExporter::new(alloc))?;
+    lines.answer_named("made", config.logger(alloc, rt, processor, "shop"));
     Ok(())
 }
