@@ -3,15 +3,15 @@
 use anyhow::{Error, Result, bail, ensure};
 use bytes::{BufMut, Bytes};
 use http::{HeaderMap, Request, StatusCode};
-use http_server::{Config, Connection, Reason, Response, State};
-use opentelemetry::logs::{Logger, LoggerProvider};
+use http_server::{Config, Connection, Reason, Response, Service as HttpService, State};
+use opentelemetry::logs::Logger;
 use opentelemetry::trace::{SpanBuilder, SpanKind, Status};
 use opentelemetry::{KeyValue, Value};
 use otel_appender_log::OpenTelemetryLogBridge;
 use otel_http::{HeaderExtractor, HeaderInjector, add_header_line};
 use otel_otlp::OtlpJsonLogExporter;
-use otel_sdk::env::{ConfiguredPropagator, EnvConfig, WithEnv};
-use otel_sdk::logs::{SdkLoggerProvider, SimpleLogProcessor, SimpleLogger};
+use otel_sdk::env::{ConfiguredPropagator, EnvConfig};
+use otel_sdk::logs::{SimpleLogProcessor, SimpleLogger};
 use otel_sdk::trace::{Pipeline, SpanExporter, SystemClock, Tracing, finish};
 use std::alloc::AllocError;
 use std::io::{self, Read, Stderr, Write};
@@ -45,9 +45,23 @@ pub struct Call<'a, L> {
 pub fn logger(rt: HostRuntime, env: &EnvConfig) -> Result<Log, AllocError> {
     let alloc = rt.alloc();
     let lines = SimpleLogProcessor::new(alloc, OtlpJsonLogExporter::new(alloc, rt.stderr())?)?;
-    let loggers = SdkLoggerProvider::builder(rt).with_log_processor(lines);
-    let loggers = loggers.with_env(alloc, env)?.build(alloc)?;
-    Ok(OpenTelemetryLogBridge::new(alloc, loggers.logger(alloc, NAME.into())?))
+    Ok(OpenTelemetryLogBridge::new(alloc, env.logger(alloc, rt, lines, NAME)?))
+}
+
+/// Answers the HTTP requests of the connection, until it ends or a request is refused.
+fn answer_peer(rt: HostRuntime, peer: &mut Connection, to: &mut impl HttpService) -> Result<()> {
+    http_server::serve(peer, to, &mut rt.stdin(), &mut rt.stdout())?;
+    match peer.state() {
+        State::Closing(Reason::Refused(refusal)) => bail!("a request is refused: {refusal:?}"),
+        _ => Ok(()),
+    }
+}
+
+/// Answers the HTTP requests of standard input, until it ends or a request is refused.
+fn answer_http(rt: HostRuntime, service: &mut impl HttpService) -> Result<()> {
+    let keys = std::hash::RandomState::new(&rt)?;
+    let mut peer = Connection::new(rt.alloc(), keys, Config::default());
+    answer_peer(rt, &mut peer, service)
 }
 
 /// A service that answers requests.
@@ -73,29 +87,13 @@ impl<'a, P: Pipeline, E: SpanExporter, L: Logger> Service<'a, P, E, L> {
             tracing,
             is_told: false,
         };
-        let answered = service.answer_input(call.rt);
+        let answered = match call.is_lines {
+            true => service.answer_lines(call.rt.stdin(), &mut call.rt.stdout()),
+            false => answer_http(call.rt, &mut service),
+        };
         let clock = SystemClock::new(call.rt);
         finish(&mut service.tracing, &clock, &call.env.span_batches)?;
         answered
-    }
-
-    /// Answers the requests of standard input.
-    fn answer_input(&mut self, rt: HostRuntime) -> Result<()> {
-        if self.call.is_lines {
-            return self.answer_lines(rt.stdin(), &mut rt.stdout());
-        }
-        let keys = std::hash::RandomState::new(&rt)?;
-        let mut peer = Connection::new(rt.alloc(), keys, Config::default());
-        self.answer_peer(rt, &mut peer)
-    }
-
-    /// Answers the HTTP requests of the connection, until it ends or a request is refused.
-    fn answer_peer(&mut self, rt: HostRuntime, peer: &mut Connection) -> Result<()> {
-        http_server::serve(peer, self, &mut rt.stdin(), &mut rt.stdout())?;
-        match peer.state() {
-            State::Closing(Reason::Refused(refusal)) => bail!("a request is refused: {refusal:?}"),
-            _ => Ok(()),
-        }
     }
 
     /// Answers requests of the path `/cart` whose headers are lines. Empty lines separate them, and
@@ -178,7 +176,7 @@ impl<'a, P: Pipeline, E: SpanExporter, L: Logger> Service<'a, P, E, L> {
     }
 }
 
-impl<P: Pipeline, E: SpanExporter, L: Logger> http_server::Service for Service<'_, P, E, L> {
+impl<P: Pipeline, E: SpanExporter, L: Logger> HttpService for Service<'_, P, E, L> {
     ghost answers = { λ _ _ _ _. Unit {0} };
 
     fn call(&mut self, request: &Request<Bytes>, answer: &mut Response) -> Result<(), AllocError> {
