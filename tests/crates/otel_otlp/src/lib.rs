@@ -6,6 +6,7 @@
 mod append_file;
 mod batches;
 mod deep_trees;
+mod env_logger;
 mod failures;
 mod files;
 mod flushes;
