@@ -30,19 +30,19 @@ module _ {F : Type 0} (outputs : List ℕ → Option F → Type 0) (inputs : F �
   over_files (Err error) client left opens new writes reads = tt
 
   -- a client over both files that failed
-  pub fails_over_files : (may_write : Result ℕ Error → Type 0) (may_flush : Bool → Type 0) (may_read : Result ℕ Error → Type 0) (r : Answer) (client left : Streaming F F)
+  pub fails_over_files : (may_write : List ℕ → Result ℕ Error → Type 0) (flushed : F → List Bool → Type 0) (may_read : Result ℕ Error → Type 0) (r : Answer) (client left : Streaming F F)
       → Opens outputs inputs folder input output → client ≡ initial input output
-      → (IsTrue client.is_open → IfErr r (Fails contents may_write may_flush may_read p body client left))
+      → (IsTrue client.is_open → IfErr r (Fails contents may_write flushed may_read p body client left))
       → (IsTrue client.is_open → IfErr r (IsNoAnswer remaining may_read p body client.reader client.unread left.reader))
-      → IfErr r (IsUnanswered outputs inputs contents remaining may_write may_flush may_read p body folder)
-  fails_over_files may_write may_flush may_read (Ok answer) client left opens new fails malformed = tt
-  fails_over_files may_write may_flush may_read (Err error) client left opens new fails malformed =
+      → IfErr r (IsUnanswered outputs inputs contents remaining may_write flushed may_read p body folder)
+  fails_over_files may_write flushed may_read (Ok answer) client left opens new fails malformed = tt
+  fails_over_files may_write flushed may_read (Err error) client left opens new fails malformed =
       let open_now : IsTrue client.is_open = ap (λ (c : Streaming F F). c.is_open) new in
       inr (record {
         input = input;
         output = output;
         opens = opens;
         left = left;
-        fails = subst (λ (c : Streaming F F). Fails contents may_write may_flush may_read p body c left error) new (fails open_now);
+        fails = subst (λ (c : Streaming F F). Fails contents may_write flushed may_read p body c left error) new (fails open_now);
         malformed = subst (λ (c : Streaming F F). IsNoAnswer remaining may_read p body c.reader c.unread left.reader error) new (malformed open_now);
       })

@@ -7,8 +7,7 @@ use Rattle.http.specs.declared.request.Parts as Request
 use Rattle.http1.specs.Output.{GivesOrRefuses}
 use Rattle.http1.specs.declared.error.WriteError.{WriteError}
 use Rattle.http1.specs.declared.error.WriteError.TheVariants as refused
-use Rattle.otel_sdk_base.specs.Writers.{IsStuck}
-use Rattle.otel_otlp.specs.StreamClient.{IsWritable, CannotWrite, IsReadError, refusal_of}
+use Rattle.otel_otlp.specs.StreamClient.{IsWritable, CannotWrite, IsReadError, ReadsNone, refusal_of}
 use Rattle.otel_otlp.specs.declared.otlp_http.client.HttpError.{HttpError}
 use Rattle.otel_otlp.specs.declared.otlp_http.client.HttpError.TheVariants.{Memory, Malformed, Unreachable}
 
@@ -20,7 +19,7 @@ passed P (Err f) e is h = subst P (sym is) h
 
 -- an error of the reader, which hasn't read bytes that are none of a response
 pub read_error : (may_read : Result ℕ Error → Type 0) (unread : List ℕ) (e : HttpError)
-    → (e ≡ Unreachable → IsStuck may_read) → e ≢ Malformed → IsReadError may_read unread e
+    → (e ≡ Unreachable → ReadsNone may_read) → e ≢ Malformed → IsReadError may_read unread e
 read_error may_read unread Unreachable stuck other = stuck refl
 read_error may_read unread Malformed stuck other = absurd (other refl)
 read_error may_read unread (Memory failed) stuck other = tt

@@ -2,11 +2,12 @@
 -- [OpenTelemetry protocol file exporter, "JSON Lines file"].
 use Rattle.std.specs.Prelude.{◌≡◌, ◌⊎◌, ◌<◌, ℕ, Bool, true, false, List, [], ◌∷◌, ◌++◌, length}
 use Rattle.std.specs.Prelude.{take, Option, Result, Err, ⊤, IsTrue, OnOk, IfErr, IsErrOf}
+use Rattle.std.specs.Prelude.{MatchResult}
 use Rattle.std.specs.Prelude.{if◌then◌else◌, alloc_error, codes, string_bytes}
 use Rattle.std.specs.Io.KnownBytes.{Appends}
 use Rattle.std.specs.declared.io.Error.{Error}
 use Rattle.otel_sdk_base.specs.Export.{Calls}
-use Rattle.otel_sdk_base.specs.Writers.{IsFlushed, IsWritersError}
+use Rattle.otel_sdk_base.specs.Writers.{FlushesOnce, IsStuck, IsWritersError}
 use Rattle.otel_sdk_base.specs.Resource as resource
 use Rattle.otel_sdk_base.specs.Resource.{Parts}
 use Rattle.otel_sdk_base.specs.declared.error.OTelSdkError.{OTelSdkError}
@@ -113,10 +114,19 @@ pub record Flushes {W : Type 0} (contents : W → Option (List ℕ)) (result : R
   pub goes_on : IsErrOf result error.AlreadyShutdown → ⊥
   pub fails : IfErr result SaysOfFlush
 
+-- the answer to a flush: the writer was flushed once, and said so; or a write before failed.
+-- Only the writer's calls show `may_write` and `flushed`.
+abbrev pub IsFlushed : {W : Type 0} → (List ℕ → Result ℕ Error → Type 0)
+    → (W → List Bool → Type 0) → Result ⊤ OTelSdkError → Lines W → Lines W → Type 0
+IsFlushed may_write flushed answer old new =
+    MatchResult answer
+    (λ _. FlushesOnce flushed true old.writer new.writer)
+    (λ _. FlushesOnce flushed false old.writer new.writer ⊎ IsStuck may_write)
+
 -- an open exporter refused a batch: without a call of the writer if memory ran out, and otherwise
 -- because the writer failed; the error says which
-pub record RefusesBatch {W R : Type 0} (may_write : Result ℕ Error → Type 0) (told : OTelSdkError)
-    (old new : Exporting W R) : Type 0 where
+pub record RefusesBatch {W R : Type 0} (may_write : List ℕ → Result ℕ Error → Type 0)
+    (told : OTelSdkError) (old new : Exporting W R) : Type 0 where
   pub refuses : RefusesIfShutDown (Err told) old new
   pub failed : old.is_shut_down ≡ false → IsWritersError may_write told
   pub says : old.is_shut_down ≡ false → SaysOfLine told
@@ -125,33 +135,34 @@ pub record RefusesBatch {W R : Type 0} (may_write : Result ℕ Error → Type 0)
 -- only the pending newline is written, and on `Ok` it is written; nothing else changes. The writer
 -- of an open exporter was flushed, and each error says how it failed
 pub record ForceFlushes {W R : Type 0} (contents : W → Option (List ℕ))
-    (may_write : Result ℕ Error → Type 0) (may_flush : Bool → Type 0)
+    (may_write : List ℕ → Result ℕ Error → Type 0) (flushed : W → List Bool → Type 0)
     (result : Result ⊤ OTelSdkError) (old new : Exporting W R) : Type 0 where
   pub refuses : RefusesIfShutDown result old new
   pub written : OnOk result (new.lines.newline_is_pending ≡ false)
   pub writes : Writes contents old.lines new.lines []
-  pub flushed : old.is_shut_down ≡ false → IsFlushed may_write may_flush result
+  pub answered : old.is_shut_down ≡ false → IsFlushed may_write flushed result old.lines new.lines
   pub fails : old.is_shut_down ≡ false → IfErr result SaysOfFlush
   pub rest : new ≡ record old { lines = new.lines }
 
 -- the same, and the exporter is shut down
 pub record ShutsDown {W R : Type 0} (contents : W → Option (List ℕ))
-    (may_write : Result ℕ Error → Type 0) (may_flush : Bool → Type 0)
+    (may_write : List ℕ → Result ℕ Error → Type 0) (flushed : W → List Bool → Type 0)
     (result : Result ⊤ OTelSdkError) (old new : Exporting W R) : Type 0 where
   pub refuses : RefusesIfShutDown result old new
   pub written : OnOk result (new.lines.newline_is_pending ≡ false)
   pub writes : Writes contents old.lines new.lines []
-  pub flushed : old.is_shut_down ≡ false → IsFlushed may_write may_flush result
+  pub answered : old.is_shut_down ≡ false → IsFlushed may_write flushed result old.lines new.lines
   pub fails : old.is_shut_down ≡ false → IfErr result SaysOfFlush
   pub rest : new ≡ record old { lines = new.lines; is_shut_down = true }
 
 -- What the exporter says about its calls. Only if it was shut down, a batch is refused with
 -- `AlreadyShutdown`.
-abbrev pub exporter_calls : {W R : Type 0} → (W → Option (List ℕ)) → (Result ℕ Error → Type 0)
-    → (Bool → Type 0) → Calls (Exporting W R)
-exporter_calls contents may_write may_flush = record {
+abbrev pub exporter_calls : {W R : Type 0} → (W → Option (List ℕ))
+    → (List ℕ → Result ℕ Error → Type 0) → (W → List Bool → Type 0) → Calls (Exporting W R)
+exporter_calls contents may_write flushed = record {
   refuses = λ old told new. RefusesBatch may_write told old new;
-  flushes = λ old answer new. ForceFlushes contents may_write may_flush answer old new;
-  shuts_down = λ old answer new. ShutsDown contents may_write may_flush answer old new;
+  flushes = λ old answer new. ForceFlushes contents may_write flushed answer old new;
+  shuts_down = λ old answer new. ShutsDown contents may_write flushed answer old new;
   takes_resource = λ old resource new. new ≡ record old { resource = resource };
+  flushed = λ _ _. Unit {0};
 }

@@ -56,25 +56,25 @@ module _ {F : Type 0} (outputs : List ℕ → Option F → Type 0)
   -- Both files were opened, and a client over them failed. `contents` are the bytes that a file
   -- holds, and `remaining` those that it will give; only the calls show the others.
   pub record FailsOpened (contents remaining : F → Option (List ℕ))
-      (may_write : Result ℕ Error → Type 0) (may_flush : Bool → Type 0)
+      (may_write : List ℕ → Result ℕ Error → Type 0) (flushed : F → List Bool → Type 0)
       (may_read : Result ℕ Error → Type 0) (p : Request.Parts) (body folder : List ℕ)
       (error : HttpError) : Type 0 where
     pub input : F
     pub output : F
     pub opens : Opens folder input output
     pub left : Streaming F F
-    pub fails : Fails contents may_write may_flush may_read p body
+    pub fails : Fails contents may_write flushed may_read p body
         (stream.initial input output) left error
     pub malformed :
         IsNoAnswer remaining may_read p body input [] left.reader error
 
   -- there is no answer: a file couldn't be opened, or memory ran out, or a client over both failed
   abbrev pub IsUnanswered : (F → Option (List ℕ)) → (F → Option (List ℕ))
-      → (Result ℕ Error → Type 0) → (Bool → Type 0) → (Result ℕ Error → Type 0)
-      → Request.Parts → List ℕ → List ℕ → HttpError → Type 0
-  IsUnanswered contents remaining may_write may_flush may_read p body folder error =
+      → (List ℕ → Result ℕ Error → Type 0) → (F → List Bool → Type 0)
+      → (Result ℕ Error → Type 0) → Request.Parts → List ℕ → List ℕ → HttpError → Type 0
+  IsUnanswered contents remaining may_write flushed may_read p body folder error =
       (IsUnopened outputs folder (codes "request") error ⊎ IsUnread folder error)
-      ⊎ FailsOpened contents remaining may_write may_flush may_read p body folder error
+      ⊎ FailsOpened contents remaining may_write flushed may_read p body folder error
 
   -- Both files were opened, the request was written to the one, and its answer was read from the
   -- other. `contents` are the bytes that a file holds, and `remaining` those that it will give.

@@ -264,4 +264,5 @@ module _ {C R : Type 0} (sent : C → List Sent) (answers : C → Sent → Answe
     flushes = Flushes;
     shuts_down = ShutsDown;
     takes_resource = λ old resource new. new ≡ record old { resource = resource };
+    flushed = λ _ _. Unit {0};
   }

@@ -51,7 +51,7 @@ use Rattle.http1.specs.Client.{reading, ClientReads, ClientRefuses, client_eof}
 use Rattle.http1.specs.ServerTrace.{SeenBody, no_body}
 use Rattle.http1.specs.ClientTrace.{SeenResponse, answer_view, Seen, Trace, IsBetween}
 use Rattle.http1_typed.specs.Parts.{fields_of, version_of, ResponseError}
-use Rattle.otel_sdk_base.specs.Writers.{IsStuck}
+use Rattle.otel_sdk_base.specs.Writers.{FlushesOnce, IsStuck, TakesNone}
 use Rattle.otel_otlp.specs.HttpClient.{Sent, Received}
 use Rattle.otel_otlp.specs.declared.otlp_http.client.HttpError.{HttpError}
 use Rattle.otel_otlp.specs.declared.otlp_http.client.HttpError.TheVariants.{Memory, Unreachable}
@@ -155,7 +155,7 @@ pub record IsWritable (p : Request.Parts) (body : List ℕ) : Type 0 where
   pub content : AreAccepted (body ∷ []) (encoder_for plan.framing) []
 
 -- ---- errors
--- `may_write` and `may_flush` are the writer's, and `may_read` the reader's: only their calls show
+-- `may_write` and `flushed` are the writer's, and `may_read` the reader's: only their calls show
 -- them.
 
 -- why a connection doesn't write the request: it can't, or memory ran out
@@ -165,11 +165,15 @@ CannotWrite p body Malformed = ⊥
 CannotWrite p body (Memory failed) = ⊤
 
 -- why the request wasn't written: the same; or a write got no further, or the flush failed
-abbrev pub IsWriteError : (Result ℕ Error → Type 0) → (Bool → Type 0)
-    → Request.Parts → List ℕ → HttpError → Type 0
-IsWriteError may_write may_flush p body error =
+abbrev pub IsWriteError : {W : Type 0} → (List ℕ → Result ℕ Error → Type 0)
+    → (W → List Bool → Type 0) → Request.Parts → List ℕ → W → W → HttpError → Type 0
+IsWriteError may_write flushed p body old new error =
     CannotWrite p body error
-    ⊎ ((error ≡ Unreachable) × (IsStuck may_write ⊎ may_flush false))
+    ⊎ ((error ≡ Unreachable) × (IsStuck may_write ⊎ FlushesOnce flushed false old new))
+
+-- a read got no further: it gave no byte, or an error
+abbrev pub ReadsNone : (Result ℕ Error → Type 0) → Type 0
+ReadsNone may_read = (answer : Result ℕ Error) × may_read answer × TakesNone answer
 
 -- the reader was asked, and answered
 abbrev pub HasAnswered : (Result ℕ Error → Type 0) → Type 0
@@ -178,19 +182,19 @@ HasAnswered may_read = (answer : Result ℕ Error) × may_read answer
 -- why no answer was read: a read got no further; or the bytes are no answer, after a read unless
 -- there were unread ones; or memory ran out
 abbrev pub IsReadError : (Result ℕ Error → Type 0) → List ℕ → HttpError → Type 0
-IsReadError may_read unread Unreachable = IsStuck may_read
+IsReadError may_read unread Unreachable = ReadsNone may_read
 IsReadError may_read unread Malformed = unread ≡ [] → HasAnswered may_read
 IsReadError may_read unread (Memory failed) = ⊤
 
 -- why an open client has no answer: the request wasn't written; or it was written whole, and
 -- flushed, and no answer was read
-abbrev pub Fails : {R W : Type 0} → (W → Option (List ℕ)) → (Result ℕ Error → Type 0)
-    → (Bool → Type 0) → (Result ℕ Error → Type 0)
+abbrev pub Fails : {R W : Type 0} → (W → Option (List ℕ))
+    → (List ℕ → Result ℕ Error → Type 0) → (W → List Bool → Type 0) → (Result ℕ Error → Type 0)
     → Request.Parts → List ℕ → Streaming R W → Streaming R W → HttpError → Type 0
-Fails contents may_write may_flush may_read p body old new error =
-    IsWriteError may_write may_flush p body error
+Fails contents may_write flushed may_read p body old new error =
+    IsWriteError may_write flushed p body old.writer new.writer error
     ⊎ (Appends (contents old.writer) (contents new.writer) (request_text p body)
-    × may_flush true × IsReadError may_read old.unread error)
+    × FlushesOnce flushed true old.writer new.writer × IsReadError may_read old.unread error)
 
 -- ---- the answer
 -- names in lower case, and the values of one name together

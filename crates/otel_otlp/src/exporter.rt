@@ -2,7 +2,7 @@
 ghost use Rattle.std.specs.Prelude.{◌≡◌, ℕ, List, [], ◌∷◌, ◌++◌, true, false};
 ghost use Rattle.std.specs.Prelude.{IsTrue, IsOk, IfOk, IfErr, OnOk, OnErr, IsErrOf, alloc_error};
 ghost use Rattle.std.specs.Rc.{rc_value};
-ghost use Rattle.otel_sdk_base.specs.Writers.{IsWritersError};
+ghost use Rattle.otel_sdk_base.specs.Writers.{FlushesNever, IsWritersError};
 ghost use Rattle.otel_otlp.specs.Exporter.{initial, with_pending_newline, Writes};
 ghost use Rattle.otel_otlp.specs.Exporter.{IsLineOf, IsCutOffLineOf, SaysOfLine};
 ghost use Rattle.otel_otlp.specs.Exporter.{RefusesIfShutDown, ForceFlushes, ShutsDown};
@@ -87,6 +87,7 @@ fn write_batch<W: WriterCalls, R: Grouped>(
     ensures failed { IfErr result (IsWritersError W.may_write) }
     ensures says { IfErr result SaysOfLine }
     ensures empty { batch.now ≡ [] → IsOk result }
+    ensures unflushed { FlushesNever W.flushed lines.old.writer lines.new.writer }
 {
     if batch.is_empty() {
         return Ok(());
@@ -143,7 +144,7 @@ impl<W: WriterCalls + Drop, R: Grouped> Exporter<R> for OtlpJsonExporter<W, R> {
 
     ghost accepted = { λ e. e.accepted };
 
-    ghost calls = { exporter_calls W.contents W.may_write W.may_flush };
+    ghost calls = { exporter_calls W.contents W.may_write W.flushed };
 
     /// Writes the batch as a line. Writes nothing for an empty batch.
     ///
@@ -169,6 +170,8 @@ impl<W: WriterCalls + Drop, R: Grouped> Exporter<R> for OtlpJsonExporter<W, R> {
         ensures cut { OnErr result ((line : List ℕ)
             × IsCutOffLineOf R.form self.old.resource batch.now line
             × Writes W.contents self.old.lines self.new.lines line) }
+        ensures unflushed {
+            FlushesNever W.flushed self.old.lines.writer self.new.lines.writer }
         ensures rest { self.new ≡ record self.old {
           accepted = self.new.accepted;
           lines = self.new.lines;
@@ -190,7 +193,7 @@ impl<W: WriterCalls + Drop, R: Grouped> Exporter<R> for OtlpJsonExporter<W, R> {
     /// - `InternalFailure` if the writer failed. Its text is empty if out of memory.
     fn force_flush(&mut self) -> OTelSdkResult
         ensures same { self.new.accepted ≡ self.old.accepted }
-        ensures flushes { ForceFlushes W.contents W.may_write W.may_flush
+        ensures flushes { ForceFlushes W.contents W.may_write W.flushed
             result self.old self.new }
     {
         if self.is_shut_down {
@@ -211,7 +214,7 @@ impl<W: WriterCalls + Drop, R: Grouped> Exporter<R> for OtlpJsonExporter<W, R> {
           lines = self.new.lines;
           is_shut_down = true;
         } }
-        ensures flushes { ShutsDown W.contents W.may_write W.may_flush
+        ensures flushes { ShutsDown W.contents W.may_write W.flushed
             result self.old self.new }
     {
         if self.is_shut_down {

@@ -2,8 +2,8 @@
 ghost use Rattle.std.specs.Prelude.{◌≡◌, ◌<◌, ◌++◌, ◌∷◌, ℕ, List, [], length, true, false};
 ghost use Rattle.std.specs.Prelude.{IsTrue, IsOk, OnOk, OnErr, IfErr, IsErrOf, alloc_error, ◌↔◌};
 ghost use Rattle.std.specs.Prelude.{string_bytes};
-ghost use Rattle.otel_sdk_base.specs.Writers.{IsFlushed, IsStuck, IsWritersError};
-ghost use Rattle.otel_otlp.specs.Exporter.{Writes, Flushes, IsCutOff};
+ghost use Rattle.otel_sdk_base.specs.Writers.{FlushesNever, IsStuck, IsWritersError};
+ghost use Rattle.otel_otlp.specs.Exporter.{Writes, Flushes, IsFlushed, IsCutOff};
 ghost use Rattle.otel_otlp.specs.Exporter.{Says, SaysOfLine, SaysOfFlush};
 
 use crate::written::write_bytes;
@@ -47,6 +47,7 @@ impl<W: WriterCalls> Lines<W> {
         ensures written { IsTrue result → self.new.newline_is_pending ≡ false }
         ensures stuck { result ≡ false → IsStuck W.may_write }
         ensures writes { Writes W.contents self.old self.new [] }
+        ensures unflushed { FlushesNever W.flushed self.old.writer self.new.writer }
     {
         if self.newline_is_pending && write_bytes(&mut self.writer, b"\n") == 1 {
             self.newline_is_pending = false;
@@ -64,6 +65,7 @@ impl<W: WriterCalls> Lines<W> {
         ensures cut { result ≡ false → (text : List ℕ) → line.now ≡ text ++ 10 ∷ []
             → (cut : List ℕ) × IsCutOff text cut × Writes W.contents self.old self.new cut }
         ensures stuck { result ≡ false → 0 < length line.now → IsStuck W.may_write }
+        ensures unflushed { FlushesNever W.flushed self.old.writer self.new.writer }
     {
         let count = write_bytes(&mut self.writer, line.as_bytes());
         self.newline_is_pending = count > 0 && count < line.len();
@@ -88,6 +90,7 @@ impl<W: WriterCalls> Lines<W> {
         ensures open { IsErrOf result OTelSdkError.AlreadyShutdown → ⊥ }
         ensures failed { IfErr result (IsWritersError W.may_write) }
         ensures says { IfErr result SaysOfLine }
+        ensures unflushed { FlushesNever W.flushed self.old.writer self.new.writer }
     {
         text.push('\n')?;
         if !self.write_pending_newline() || !self.write_object(text.as_str()) {
@@ -103,7 +106,7 @@ impl<W: WriterCalls> Lines<W> {
     /// `InternalFailure` if the writer failed.
     pub(crate) fn flush(&mut self, alloc: Global) -> OTelSdkResult
         ensures flushes { Flushes W.contents result self.old self.new }
-        ensures answered { IsFlushed W.may_write W.may_flush result }
+        ensures answered { IsFlushed W.may_write W.flushed result self.old self.new }
     {
         if !self.write_pending_newline() {
             return Err(failure(alloc, "the writer didn't take the newline"));

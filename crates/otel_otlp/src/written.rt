@@ -1,7 +1,7 @@
 //! Writes bytes to a writer, and counts the accepted bytes.
 ghost use Rattle.std.specs.Prelude.{◌≡◌, ◌<◌, ◌≤◌, length, take};
 ghost use Rattle.std.specs.Io.KnownBytes.{Appends};
-ghost use Rattle.otel_sdk_base.specs.Writers.{IsStuck};
+ghost use Rattle.otel_sdk_base.specs.Writers.{FlushesNever, IsStuck};
 ghost use Rattle.otel_otlp.specs.Written as spec;
 
 use otel_sdk_base::WriterCalls;
@@ -30,6 +30,7 @@ pub(crate) fn write_bytes<W: WriterCalls>(writer: &mut W, bytes: &[u8]) -> usize
     ensures taken { Appends (W.contents writer.old) (W.contents writer.new)
         (take result bytes.now) }
     ensures stuck { result < length bytes.now → IsStuck W.may_write }
+    ensures unflushed { FlushesNever W.flushed writer.old writer.new }
 {
     let mut count = 0;
     for _ in 0..u64::MAX {

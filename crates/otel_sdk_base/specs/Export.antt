@@ -41,7 +41,7 @@ pub record AreExportedUpTo {X E : Type 0} (accepted : E → List (List X)) (Step
   pub exported : AreExported size queue (accepted old) (accepted before) left
   pub step : Step before new
 
--- What an exporter says about its calls. Each relates its states before and after.
+-- What an exporter says about its calls. Each but `flushed` relates its states before and after.
 pub record Calls (E : Type 0) : Type 1 where
   -- it refused a batch with this error
   pub refuses : E → OTelSdkError → E → Type 0
@@ -51,6 +51,8 @@ pub record Calls (E : Type 0) : Type 1 where
   pub shuts_down : E → Result (Unit {0}) OTelSdkError → E → Type 0
   -- it was told the resource of later items
   pub takes_resource : E → Parts → E → Type 0
+  -- it answered these to the flushes so far, in order
+  pub flushed : E → List (Result (Unit {0}) OTelSdkError) → Type 0
 
 -- it refused a batch with this error
 abbrev pub refuses_with : {E : Type 0} → Calls E → OTelSdkError → E → E → Type 0
@@ -63,6 +65,7 @@ any_calls = record {
   flushes = λ _ _ _. Unit {0};
   shuts_down = λ _ _ _. Unit {0};
   takes_resource = λ _ _ _. Unit {0};
+  flushed = λ _ _. Unit {0};
 }
 
 -- it was shut down, with some answer
@@ -88,6 +91,7 @@ in_memory_calls = record {
   shuts_down = λ _ answer new. (answer ≡ Ok tt)
       × (new ≡ record { accepted = []; is_shut_down = true });
   takes_resource = λ old _ new. new ≡ old;
+  flushed = λ _ _. Unit {0};
 }
 
 -- ---- worked rows

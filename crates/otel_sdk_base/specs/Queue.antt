@@ -4,6 +4,7 @@ use Rattle.std.specs.Prelude.{length, Result, Ok, IsErr, IsErrAnd, IsErrOf, IsTr
 use Rattle.std.specs.Prelude.{nat_lt, min, max, if◌then◌else◌, alloc_error, refl}
 use Rattle.otel_sdk_base.specs.Export.{AreExported, AreExportedUpTo, Calls, items_of, refuses_with}
 use Rattle.otel_sdk_base.specs.Resource.{Parts}
+use Rattle.otel_sdk_base.specs.Writers.{FlushesOnce}
 use Rattle.otel_sdk_base.specs.declared.error.OTelSdkError.{OTelSdkError}
 use Rattle.otel_sdk_base.specs.declared.error.OTelSdkError.TheVariants.{AlreadyShutdown, Memory}
 
@@ -117,13 +118,14 @@ module _ {X E : Type 0} where
       old.exporter new.exporter
 
   -- The answer is the exporter's: the error with which it refused a batch, or, if it accepted all
-  -- of them, what it answered to a flush.
+  -- of them, what it answered to one flush.
   abbrev pub IsExportersAnswer : (E → List (List X)) → Calls E → Result (Unit {0}) OTelSdkError
       → QueueState X E → QueueState X E → Type 0
   IsExportersAnswer accepted calls answer old new =
       IsErrAnd answer (λ error. IsFlushedUpTo accepted (refuses_with calls error) old new)
       ⊎ ((new.queue ≡ [])
-      × IsFlushedUpTo accepted (λ before after. calls.flushes before answer after) old new)
+      × IsFlushedUpTo accepted (λ before after. calls.flushes before answer after) old new
+      × FlushesOnce calls.flushed answer old.exporter new.exporter)
 
   -- The queue was flushed with its exporter, and is empty; then its exporter was shut down, which
   -- gave the answer, and it is closed.

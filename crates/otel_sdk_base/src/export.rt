@@ -1,6 +1,7 @@
 //! Exporters, which send ended spans or log records out of the program.
 ghost use Rattle.std.specs.Prelude.{◌≡◌, [], ◌∷◌, ◌++◌, IfErr, OnOk, OnErr};
 ghost use Rattle.std.specs.Rc.{rc_value};
+ghost use Rattle.otel_sdk_base.specs.Writers.{FlushesNever, FlushesOnce};
 
 use crate::error::OTelSdkResult;
 use crate::resource::Resource;
@@ -12,7 +13,8 @@ use std::rc::Rc;
 /// A batch is accepted or refused as a whole. The ghost member `accepted` gives the batches that
 /// the exporter has accepted. The ghost member `calls` says what each other call did: a refusal of
 /// a batch (`refuses`), a flush, a shutdown, and a resource that was set. Each relates the states
-/// before and after, and the error, the answer or the resource.
+/// before and after, and the error, the answer or the resource. `calls.flushed` relates the
+/// exporter and its answers to the flushes so far, which only its calls show.
 ///
 /// If an exporter can never write an item, it must accept the item and count it itself, since a
 /// processor exports a refused batch again.
@@ -32,7 +34,8 @@ pub trait Exporter<T>: Drop {
     fn export(&mut self, batch: &[T]) -> OTelSdkResult
         ensures ok { OnOk result (accepted self.new ≡ accepted self.old ++ batch.now ∷ []) }
         ensures err { OnErr result (accepted self.new ≡ accepted self.old) }
-        ensures refused { IfErr result (λ error. calls.refuses self.old error self.new) };
+        ensures refused { IfErr result (λ error. calls.refuses self.old error self.new) }
+        ensures unflushed { FlushesNever calls.flushed self.old self.new };
 
     /// Writes out the accepted items that aren't written yet.
     ///
@@ -41,7 +44,8 @@ pub trait Exporter<T>: Drop {
     /// Some items aren't written. Accepted items stay accepted.
     fn force_flush(&mut self) -> OTelSdkResult
         ensures same { accepted self.new ≡ accepted self.old }
-        ensures flushed { calls.flushes self.old result self.new };
+        ensures flushed { calls.flushes self.old result self.new }
+        ensures once { FlushesOnce calls.flushed result self.old self.new };
 
     /// Shuts the exporter down.
     ///

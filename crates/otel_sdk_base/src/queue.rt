@@ -2,6 +2,7 @@
 ghost use Rattle.std.specs.Prelude.{◌≡◌, ◌≤◌, ◌<◌, [], not, length, IfOk, IfErr, IsTrue, OnOk};
 ghost use Rattle.std.specs.Rc.{rc_value};
 ghost use Rattle.otel_sdk_base.specs.Export.{refuses_with};
+ghost use Rattle.otel_sdk_base.specs.Writers.{FlushesNever};
 
 mod batches;
 pub(crate) mod config;
@@ -152,6 +153,8 @@ impl<T: Drop, E: Exporter<T>> Queue<T, E> {
         ensures ok { OnOk result ((state self.new).queue ≡ []) }
         ensures refused { IfErr result (λ error. IsFlushedUpTo E.accepted
             (refuses_with E.calls error) (state self.old) (state self.new)) }
+        ensures unflushed { FlushesNever E.calls.flushed
+            (state self.old).exporter (state self.new).exporter }
         ensures capacity { capacity self.new ≡ capacity self.old }
     {
         let size = self.config.max_export_batch_size;

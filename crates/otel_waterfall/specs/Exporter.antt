@@ -1,12 +1,12 @@
 -- Contracts' view of an exporter that draws spans. Not in the Rust crates.
-use Rattle.std.specs.Prelude.{◌≡◌, ◌⊎◌, ◌<◌, ℕ, Bool, true, false, List, [], length, take, codes}
+use Rattle.std.specs.Prelude.{◌≡◌, ◌⊎◌, ℕ, Bool, true, false, List, [], take, codes}
 use Rattle.std.specs.Prelude.{string_bytes}
 use Rattle.std.specs.Prelude.{Option, Result, Err, is_ok, ⊤, alloc_error}
 use Rattle.std.specs.Prelude.{IsTrue, IsErrOf, IfErr}
 use Rattle.std.specs.Io.KnownBytes.{Appends, Keeps}
 use Rattle.std.specs.declared.io.Error.{Error}
 use Rattle.otel_sdk_base.specs.Export.{Calls}
-use Rattle.otel_sdk_base.specs.Writers.{TakesNone}
+use Rattle.otel_sdk_base.specs.Writers.{FlushesOnce, IsStuck}
 use Rattle.otel_sdk_base.specs.declared.error.OTelSdkError.{OTelSdkError}
 use Rattle.otel_sdk_base.specs.declared.error.OTelSdkError.TheVariants as error
 use Rattle.otel_sdk_span.specs.SpanData.{SpanRecord}
@@ -28,12 +28,7 @@ pub record RefusesIfShutDown {W : Type 0} (result : Result ⊤ OTelSdkError) (ol
   pub only_then : IsErrOf result error.AlreadyShutdown → IsTrue old.is_shut_down
   pub unchanged : IsTrue old.is_shut_down → new ≡ old
 
--- ---- the writer's answers, of which only its calls show `may_write` and `flushes`
-
--- a write of one or more bytes got no further
-abbrev pub IsStuck : (List ℕ → Result ℕ Error → Type 0) → Type 0
-IsStuck may_write = (bytes : List ℕ) × (answer : Result ℕ Error) × (0 < length bytes)
-    × may_write bytes answer × TakesNone answer
+-- ---- the writer's answers, of which only its calls show `may_write` and `flushed`
 
 -- the error says that the writer failed; its text is empty if memory ran out too
 abbrev pub SaysThatWriterFailed : OTelSdkError → Type 0
@@ -58,23 +53,24 @@ pub record RefusesBatch {W : Type 0} (may_write : List ℕ → Result ℕ Error 
 
 -- the writer of an open exporter was flushed once, and got no bytes; an error says that it failed
 pub record FlushesWriter {W : Type 0} (contents : W → Option (List ℕ))
-    (flushes : W → Bool → W → Type 0) (answer : Result ⊤ OTelSdkError) (old new : Waterfall W)
+    (flushed : W → List Bool → Type 0) (answer : Result ⊤ OTelSdkError) (old new : Waterfall W)
     : Type 0 where
   pub refuses : RefusesIfShutDown answer old new
   pub bytes : Keeps (contents old.output) (contents new.output)
-  pub flushed : old.is_shut_down ≡ false → flushes old.output (is_ok answer) new.output
+  pub once : old.is_shut_down ≡ false → FlushesOnce flushed (is_ok answer) old.output new.output
   pub failed : old.is_shut_down ≡ false → IfErr answer SaysThatWriterFailed
 
 -- What the exporter says about its calls. It ignores resources.
 abbrev pub exporter_calls : {W : Type 0} → (W → Option (List ℕ))
-    → (List ℕ → Result ℕ Error → Type 0) → (W → Bool → W → Type 0) → Calls (Waterfall W)
-exporter_calls contents may_write flushes = record {
+    → (List ℕ → Result ℕ Error → Type 0) → (W → List Bool → Type 0) → Calls (Waterfall W)
+exporter_calls contents may_write flushed = record {
   refuses = λ old told new. RefusesBatch may_write told old new;
-  flushes = λ old answer new. FlushesWriter contents flushes answer old new
+  flushes = λ old answer new. FlushesWriter contents flushed answer old new
       × (new ≡ record old { output = new.output });
-  shuts_down = λ old answer new. FlushesWriter contents flushes answer old new
+  shuts_down = λ old answer new. FlushesWriter contents flushed answer old new
       × (new ≡ record old { output = new.output; is_shut_down = true });
   takes_resource = λ old _ new. new ≡ old;
+  flushed = λ _ _. Unit {0};
 }
 
 -- ---- pictures

@@ -4,19 +4,19 @@ ghost use Rattle.std.specs.Prelude.{false, true, None, Some, alloc_error, is_ok}
 ghost use Rattle.std.specs.Prelude.{IsTrue, IsOk, IsErrOf, IfErr, IfOk, IfSome, OnOk, OnErr};
 ghost use Rattle.std.specs.Io.KnownBytes.{Appends, Keeps};
 ghost use Rattle.std.specs.String.{string_bytes};
+ghost use Rattle.otel_sdk_base.specs.Writers.{FlushesNever, FlushesOnce, IsStuck};
 ghost use Rattle.otel_waterfall.specs.Columns.{picture_width};
-ghost use Rattle.otel_waterfall.specs.Exporter.{AddsPicture, AddsPartOfPicture, IsStuck};
+ghost use Rattle.otel_waterfall.specs.Exporter.{AddsPicture, AddsPartOfPicture};
 ghost use Rattle.otel_waterfall.specs.Exporter.{IsWritersError, RefusesIfShutDown};
 ghost use Rattle.otel_waterfall.specs.Exporter.{SaysThatWriterFailed};
 ghost use Rattle.otel_waterfall.specs.Picture.{IsPictureOf};
 
 use crate::columns::Style;
 use crate::drawn::drawn;
-use crate::picture_writer::PictureWriter;
 use crate::pictures::picture;
 use otel_sdk_base::error::{OTelSdkError, OTelSdkResult};
 use otel_sdk_base::resource::Resource;
-use otel_sdk_base::{Accepted, Exporter};
+use otel_sdk_base::{Accepted, Exporter, WriterCalls};
 use otel_sdk_span::SpanData;
 use std::alloc::{AllocError, Global};
 use std::io::ErrorKind;
@@ -100,13 +100,14 @@ impl<W> WaterfallExporter<W> {
 
 /// Writes some of the bytes. An interrupted write is tried again. Returns the number of bytes that
 /// the writer took, or `None` if it failed or took none.
-fn write_some<W: PictureWriter>(output: &mut W, bytes: &[u8]) -> Option<usize>
+fn write_some<W: WriterCalls>(output: &mut W, bytes: &[u8]) -> Option<usize>
     requires { 0 < length bytes.now }
     ensures some { IfSome result (λ n. (n ≤ length bytes.now)
         × Appends (W.contents output.old) (W.contents output.new) (take n bytes.now)) }
     ensures more { result ≢ Some 0 }
     ensures none { result ≡ None → Keeps (W.contents output.old) (W.contents output.new) }
     ensures stuck { result ≡ None → IsStuck W.may_write }
+    ensures unflushed { FlushesNever W.flushed output.old output.new }
 {
     for _ in 0..u64::MAX {
         match output.write_some(bytes) {
@@ -123,12 +124,13 @@ fn write_some<W: PictureWriter>(output: &mut W, bytes: &[u8]) -> Option<usize>
 }
 
 /// Writes all bytes. Returns whether the writer accepted them.
-fn write_all<W: PictureWriter>(output: &mut W, bytes: &[u8]) -> bool
+fn write_all<W: WriterCalls>(output: &mut W, bytes: &[u8]) -> bool
     ensures all { IsTrue result
         → Appends (W.contents output.old) (W.contents output.new) bytes.now }
     ensures cut { (n : ℕ) × Appends (W.contents output.old) (W.contents output.new)
         (take n bytes.now) }
     ensures stuck { result ≡ false → IsStuck W.may_write }
+    ensures unflushed { FlushesNever W.flushed output.old output.new }
 {
     let mut rest = bytes;
     while !rest.is_empty() {
@@ -161,7 +163,7 @@ fn writer_failed(alloc: Global) -> OTelSdkError
 
 /// Writes the picture of a batch of spans, which is empty if the batch is.
 #[tactic(auto, using(crate::proofs::Empty::no_picture))]
-fn write_picture<W: PictureWriter>(
+fn write_picture<W: WriterCalls>(
     alloc: Global,
     style: Style,
     output: &mut W,
@@ -176,6 +178,7 @@ fn write_picture<W: PictureWriter>(
     ensures open { IsErrOf result OTelSdkError.AlreadyShutdown → ⊥ }
     ensures failed { IfErr result (IsWritersError W.may_write) }
     ensures empty { batch.now ≡ [] → IsOk result }
+    ensures unflushed { FlushesNever W.flushed output.old output.new }
 {
     if batch.is_empty() {
         return Ok(());
@@ -192,8 +195,8 @@ fn write_picture<W: PictureWriter>(
 /// # Errors
 ///
 /// `InternalFailure` if the writer failed. Its text is empty if out of memory.
-fn flush<W: PictureWriter>(alloc: Global, output: &mut W) -> OTelSdkResult
-    ensures flushed { W.flushes output.old (is_ok result) output.new }
+fn flush<W: WriterCalls>(alloc: Global, output: &mut W) -> OTelSdkResult
+    ensures once { FlushesOnce W.flushed (is_ok result) output.old output.new }
     ensures failed { IfErr result SaysThatWriterFailed }
     ensures bytes { Keeps (W.contents output.old) (W.contents output.new) }
     ensures open { IsErrOf result OTelSdkError.AlreadyShutdown → ⊥ }
@@ -204,12 +207,12 @@ fn flush<W: PictureWriter>(alloc: Global, output: &mut W) -> OTelSdkResult
     Err(writer_failed(alloc))
 }
 
-impl<W: PictureWriter + Drop> Exporter<SpanData> for WaterfallExporter<W> {
+impl<W: WriterCalls + Drop> Exporter<SpanData> for WaterfallExporter<W> {
     ghost use Rattle.otel_waterfall.specs.Exporter.{exporter_calls};
 
     ghost accepted = { λ e. e.accepted };
 
-    ghost calls = { exporter_calls W.contents W.may_write W.flushes };
+    ghost calls = { exporter_calls W.contents W.may_write W.flushed };
 
     /// Draws the batch, and writes the picture. An empty batch is accepted, and nothing is written.
     ///
@@ -232,6 +235,7 @@ impl<W: PictureWriter + Drop> Exporter<SpanData> for WaterfallExporter<W> {
         ensures failed { self.old.is_shut_down ≡ false
             → IfErr result (IsWritersError W.may_write) }
         ensures empty { self.old.is_shut_down ≡ false → batch.now ≡ [] → IsOk result }
+        ensures unflushed { FlushesNever W.flushed self.old.output self.new.output }
         ensures nothing { batch.now ≡ [] → OnOk result
             (Appends (W.contents self.old.output) (W.contents self.new.output) []) }
         ensures rest { self.new ≡ record self.old {
@@ -256,8 +260,8 @@ impl<W: PictureWriter + Drop> Exporter<SpanData> for WaterfallExporter<W> {
     fn force_flush(&mut self) -> OTelSdkResult
         ensures refused { RefusesIfShutDown result self.old self.new }
         ensures bytes { Keeps (W.contents self.old.output) (W.contents self.new.output) }
-        ensures flushed { self.old.is_shut_down ≡ false
-            → W.flushes self.old.output (is_ok result) self.new.output }
+        ensures once { self.old.is_shut_down ≡ false
+            → FlushesOnce W.flushed (is_ok result) self.old.output self.new.output }
         ensures failed { self.old.is_shut_down ≡ false → IfErr result SaysThatWriterFailed }
         ensures rest { self.new ≡ record self.old { output = self.new.output } }
     {
@@ -276,8 +280,8 @@ impl<W: PictureWriter + Drop> Exporter<SpanData> for WaterfallExporter<W> {
     fn shutdown(&mut self) -> OTelSdkResult
         ensures refused { RefusesIfShutDown result self.old self.new }
         ensures bytes { Keeps (W.contents self.old.output) (W.contents self.new.output) }
-        ensures flushed { self.old.is_shut_down ≡ false
-            → W.flushes self.old.output (is_ok result) self.new.output }
+        ensures once { self.old.is_shut_down ≡ false
+            → FlushesOnce W.flushed (is_ok result) self.old.output self.new.output }
         ensures failed { self.old.is_shut_down ≡ false → IfErr result SaysThatWriterFailed }
         ensures down { self.new ≡ record self.old {
           output = self.new.output;

@@ -133,7 +133,7 @@ where
         ensures read { IfOk result (Reads R.outputs R.inputs S.contents S.remaining
             (head_of request.now) (body_of request.now).items self.old.folder) }
         ensures failed { IfErr result (IsUnanswered R.outputs R.inputs S.contents S.remaining
-            S.may_write S.may_flush S.may_read
+            S.may_write S.flushed S.may_read
             (head_of request.now) (body_of request.now).items self.old.folder) }
     {
         self.sent = self.sent.and_one(request);

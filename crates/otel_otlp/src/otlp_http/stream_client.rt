@@ -6,6 +6,7 @@ ghost use Rattle.http.specs.Request.{head_of, body_of};
 ghost use Rattle.http1.specs.Client.{reading, IsIdle};
 ghost use Rattle.http1.specs.Framing.{method_kind};
 ghost use Rattle.http1.specs.declared.conn.Reading.TheVariants as Reading;
+ghost use Rattle.otel_sdk_base.specs.Writers.{FlushesOnce};
 ghost use Rattle.otel_otlp.specs.StreamClient.{initial, request_text, asking, IsRequest};
 ghost use Rattle.otel_otlp.specs.StreamClient.{IsWritable, ReadsAnswer, IsWriteError, Fails};
 ghost use Rattle.otel_otlp.specs.StreamClient.{IsNoAnswer};
@@ -128,11 +129,11 @@ fn write<W: WriterCalls>(
         (take count (request_text (head_of request.now) (body_of request.now).items)) }
     ensures whole { OnOk result (Appends (W.contents writer.old) (W.contents writer.new)
         (request_text (head_of request.now) (body_of request.now).items)) }
-    ensures flushed { OnOk result (W.may_flush true) }
+    ensures flushed { OnOk result (FlushesOnce W.flushed true writer.old writer.new) }
     ensures written { OnOk result
         (IsWritable (head_of request.now) (body_of request.now).items) }
-    ensures failed { IfErr result (IsWriteError W.may_write W.may_flush
-        (head_of request.now) (body_of request.now).items) }
+    ensures failed { IfErr result (IsWriteError W.may_write W.flushed
+        (head_of request.now) (body_of request.now).items writer.old writer.new) }
     ensures asking { IfOk result (λ connection. connection
         ≡ asking (head_of request.now) (body_of request.now).items) }
     ensures waits { IfOk result (λ connection. reading connection ≡ Reading.Head) }
@@ -176,7 +177,8 @@ impl<R: ReaderCalls + Drop, W: WriterCalls + Drop> HttpClient for StreamClient<R
         ensures whole { OnOk result
             (Appends (W.contents self.old.writer) (W.contents self.new.writer)
             (request_text (head_of request.now) (body_of request.now).items)) }
-        ensures flushed { OnOk result (W.may_flush true) }
+        ensures flushed { OnOk result
+            (FlushesOnce W.flushed true self.old.writer self.new.writer) }
         ensures message { OnOk result
             (IsRequest (head_of request.now) (body_of request.now).items
             (request_text (head_of request.now) (body_of request.now).items)) }
@@ -184,7 +186,7 @@ impl<R: ReaderCalls + Drop, W: WriterCalls + Drop> HttpClient for StreamClient<R
             ReadsAnswer R.remaining (head_of request.now) (body_of request.now).items
             self.old answer self.new) }
         ensures failed { IsTrue self.old.is_open → IfErr result
-            (Fails W.contents W.may_write W.may_flush R.may_read
+            (Fails W.contents W.may_write W.flushed R.may_read
             (head_of request.now) (body_of request.now).items self.old self.new) }
         ensures malformed { IsTrue self.old.is_open → IfErr result
             (IsNoAnswer R.remaining R.may_read (head_of request.now) (body_of request.now).items

@@ -1,6 +1,7 @@
 //! Exports a queue in batches.
 ghost use Rattle.std.specs.Prelude.{◌≡◌, ◌≤◌, ◌<◌, ◌↔◌, IfErr, IsOk, length};
 ghost use Rattle.otel_sdk_base.specs.Export.{AreExported, AreExportedUpTo, last_of, refuses_with};
+ghost use Rattle.otel_sdk_base.specs.Writers.{FlushesNever};
 
 use crate::error::OTelSdkResult;
 use crate::export::Exporter;
@@ -20,6 +21,7 @@ pub(crate) fn export_batches<T, E: Exporter<T>>(
     ensures refused { IfErr result.1 (λ error. AreExportedUpTo E.accepted
         (refuses_with E.calls error) size items.now (last_of result.0 items.now)
         exporter.old exporter.new) }
+    ensures unflushed { FlushesNever E.calls.flushed exporter.old exporter.new }
 {
     let mut left = items;
     while !left.is_empty() {

@@ -1,5 +1,6 @@
-use Rattle.std.proofs.Common.{◌≡◌, ◌+◌, ◌≤◌, ◌<◌, ◌==◌, ◌⊎◌, inl, inr, ℕ, Bool, true, false, if◌then◌else◌, List, length, Some, None, is_some, Result, Ok, Err, refl, sym, ap, subst, arith, true≢false}
+use Rattle.std.proofs.Common.{◌≡◌, ◌+◌, ◌-◌, ◌≤◌, ◌<◌, ◌==◌, ◌⊎◌, inl, inr, ℕ, Bool, true, false, if◌then◌else◌, List, length, take, drop, Some, None, is_some, Result, Ok, Err, refl, sym, ap, subst, arith, true≢false}
 use Rattle.std.proofs.lemmas.Bool.Decides.{nat_tests}
+use Rattle.std.proofs.lemmas.List.{length-drop}
 use Rattle.std.specs.Io.{WritesAtMost}
 use Rattle.std.specs.Io.KnownBytes.{WriteAppends}
 use Rattle.std.specs.declared.io.Error.{Error}
@@ -27,26 +28,35 @@ took_some false m n e is =
     subst (λ k. 1 ≤ k) same (some_of m e)
 
 -- each call accepts a byte or more, unless a call gets no further
-more_or_stuck : (may_write : Result ℕ Error → Type 0) (counter count n : ℕ) (answer : Result ℕ Error) → accepted answer ≡ Some n → may_write answer
+more_or_stuck : (may_write : List ℕ → Result ℕ Error → Type 0) (bytes : List ℕ) (counter count n : ℕ) (answer : Result ℕ Error) → accepted answer ≡ Some n → 0 < length bytes → may_write bytes answer
     → (counter ≤ count) ⊎ IsStuck may_write → (counter + 1 ≤ count + n) ⊎ IsStuck may_write
-more_or_stuck may_write counter count n (Ok m) is may (inl more) =
+more_or_stuck may_write bytes counter count n (Ok m) is some may (inl more) =
     let some : 1 ≤ n = took_some (m == 0) m n refl is in
     inl (omega arith)
-more_or_stuck may_write counter count n (Ok m) is may (inr stuck) = inr stuck
-more_or_stuck may_write counter count n (Err error) is may before = inr (Err error, may, tt)
+more_or_stuck may_write bytes counter count n (Ok m) is some may (inr stuck) = inr stuck
+more_or_stuck may_write bytes counter count n (Err error) is some may before = inr (bytes, Err error, some, may, tt)
 
 -- a call that accepts nothing gets no further
-stuck_at : (may_write : Result ℕ Error → Type 0) (answer : Result ℕ Error) → accepted answer ≡ None → may_write answer → IsStuck may_write
-stuck_at may_write (Ok m) is may = (Ok m, may, took_none (m == 0) m refl is)
-stuck_at may_write (Err error) is may = (Err error, may, tt)
+stuck_at : (may_write : List ℕ → Result ℕ Error → Type 0) (bytes : List ℕ) (answer : Result ℕ Error) → accepted answer ≡ None → 0 < length bytes → may_write bytes answer → IsStuck may_write
+stuck_at may_write bytes (Ok m) is some may = (bytes, Ok m, some, may, took_none (m == 0) m refl is)
+stuck_at may_write bytes (Err error) is some may = (bytes, Err error, some, may, tt)
 
 -- so many calls accept all bytes, unless one gets no further
-stuck_after : (may_write : Result ℕ Error → Type 0) (counter count all : ℕ) → all ≤ counter → (counter ≤ count) ⊎ IsStuck may_write → count < all → IsStuck may_write
+stuck_after : (may_write : List ℕ → Result ℕ Error → Type 0) (counter count all : ℕ) → all ≤ counter → (counter ≤ count) ⊎ IsStuck may_write → count < all → IsStuck may_write
 stuck_after may_write counter count all most (inl more) fewer = absurd (omega arith)
 stuck_after may_write counter count all most (inr stuck) fewer = stuck
 
+-- bytes are left of a line that isn't whole
+some_left : (bytes : List ℕ) (count : ℕ) → count ≤ length bytes → ¬ (count ≡ length bytes) → 0 < length (drop count bytes)
+some_left bytes count within other =
+    let size : length (drop count bytes) ≡ length bytes - count = length-drop count bytes in
+    omega (arith, size, other)
+
 pub returns-in-None-clause-stuck : goal.returns-in-None-clause-stuck
-returns-in-None-clause-stuck g c = λ _. stuck_at g.W.WriterCalls.may_write c.write_some.result (sym c.in-None.ensures) c.write_some.ensures.answered
+returns-in-None-clause-stuck g c = λ _.
+    let rest = drop c.loop.count c.args.bytes.now in
+    stuck_at g.W.WriterCalls.may_write rest c.write_some.result (sym c.in-None.ensures) (some_left c.args.bytes.now c.loop.count c.loop.invariant.0 c.if-count-bytes.false)
+    (subst (λ (xs : List ℕ). g.W.WriterCalls.may_write xs c.write_some.result) (rest_whole c.args.bytes.now c.loop.count) c.write_some.ensures.answered)
 
 pub returns-clause-stuck : goal.returns-clause-stuck
 returns-clause-stuck g c =
@@ -63,5 +73,7 @@ loop-preserved g c =
     (subst (λ (xs : List ℕ). WriteAppends before after c.write_some.result xs) rest c.write_some.ensures.bytes) in (
       taken.0,
       taken.1,
-      more_or_stuck g.W.WriterCalls.may_write c.loop.counter c.loop.count c.in-Some.more c.write_some.result (sym c.in-Some.ensures) c.write_some.ensures.answered c.loop.invariant.2,
+      more_or_stuck g.W.WriterCalls.may_write (drop c.loop.count bytes) c.loop.counter c.loop.count c.in-Some.more c.write_some.result (sym c.in-Some.ensures) (some_left bytes c.loop.count c.loop.invariant.0 c.if-count-bytes.false)
+      (subst (λ (xs : List ℕ). g.W.WriterCalls.may_write xs c.write_some.result) rest c.write_some.ensures.answered) c.loop.invariant.2,
+      λ answers already. c.write_some.ensures.unflushed answers (c.loop.invariant.3 answers already),
     )

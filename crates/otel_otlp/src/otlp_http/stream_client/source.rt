@@ -10,9 +10,9 @@ ghost use Rattle.otel_otlp.specs.StreamClient.{Gains, Reads, StepsToHead, FindsH
 ghost use Rattle.otel_otlp.specs.StreamClient.{FindsBody, Replies, StaysOpen, is_kept};
 ghost use Rattle.otel_otlp.specs.StreamClient.{max_body_len, max_headers};
 ghost use Rattle.otel_otlp.specs.StreamClient.{HasAnswered, IsReadError, HasBadParts, no_parts};
+ghost use Rattle.otel_otlp.specs.StreamClient.{ReadsNone};
 ghost use Rattle.otel_otlp.specs.StreamClient.{Breaks, Comes, GoesOn};
 ghost use Rattle.otel_otlp.specs.StreamClient.{LacksMore, LacksAnswer, ClosesAtEnd};
-ghost use Rattle.otel_sdk_base.specs.Writers.{IsStuck};
 
 use crate::otlp_http::client::HttpError;
 use crate::otlp_http::reader_calls::ReaderCalls;
@@ -103,7 +103,7 @@ impl<R: ReaderCalls> Source<R> {
             × Gains R.remaining self.old came self.new) }
         ensures answered { IfOk result (λ count. R.may_read (Ok count)) }
         ensures failed { IfErr result (λ error. error ≡ HttpError.Unreachable
-            → IsStuck R.may_read) }
+            → ReadsNone R.may_read) }
         ensures no_bytes { IfErr result (λ error. error ≢ HttpError.Malformed) }
     {
         self.unread.reserve(READ_SIZE).map_err(HttpError::Memory)?;
@@ -169,7 +169,7 @@ impl<R: ReaderCalls> Source<R> {
         ensures begun { IfOk result (λ found. IsTrue (is_some found)
             → reading connection.new ≢ Reading.Head) }
         ensures failed { IfErr result (λ error. error ≡ HttpError.Unreachable
-            → IsStuck R.may_read) }
+            → ReadsNone R.may_read) }
         ensures malformed { IfErr result (Breaks R.remaining self.old self.new
             (LacksAnswer R.may_read connection.old)) }
     {
@@ -209,7 +209,7 @@ impl<R: ReaderCalls> Source<R> {
             (λ given left. Comes connection.old given connection.new left [])) }
         ensures begun { OnOk result (reading connection.new ≢ Reading.Head) }
         ensures failed { IfErr result (λ error. error ≡ HttpError.Unreachable
-            → IsStuck R.may_read) }
+            → ReadsNone R.may_read) }
         ensures malformed { IfErr result (Breaks R.remaining self.old self.new
             (LacksAnswer R.may_read connection.old)) }
     {
@@ -241,7 +241,7 @@ impl<R: ReaderCalls> Source<R> {
         ensures comes { IfOk result (λ ended. ended ≡ false → GoesOn R.remaining self.old self.new
             body.old.items body.new.items connection.old connection.new) }
         ensures failed { IfErr result (λ error. error ≡ HttpError.Unreachable
-            → IsStuck R.may_read) }
+            → ReadsNone R.may_read) }
         ensures malformed { IfErr result (Breaks R.remaining self.old self.new
             (LacksMore R.may_read body.old.items connection.old)) }
     {
@@ -288,7 +288,7 @@ impl<R: ReaderCalls> Source<R> {
         ensures keeps { OnOk result
             (IsIdle connection.new ↔ IsTrue (is_kept connection.old)) }
         ensures failed { IfErr result (λ error. error ≡ HttpError.Unreachable
-            → IsStuck R.may_read) }
+            → ReadsNone R.may_read) }
         ensures malformed { IfErr result (Breaks R.remaining self.old self.new
             (LacksAnswer R.may_read connection.old)) }
     {

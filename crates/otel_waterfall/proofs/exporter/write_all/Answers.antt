@@ -25,19 +25,27 @@ cut_at a b all done rest e p = (length done, subst (λ (xs : List ℕ). Appends 
 
 pub returns-clause-cut : goal.returns-clause-cut
 returns-clause-cut g c =
-    let (done, split, appended) = c.loop-rest.invariant in
+    let (done, split, appended, unflushed) = c.loop-rest.invariant in
     cut_at _ _ _ done _ split appended
 
 pub returns-in-None-clause-cut : goal.returns-in-None-clause-cut
 returns-in-None-clause-cut g c =
-    let (done, split, appended) = c.loop-rest.invariant in
+    let (done, split, appended, unflushed) = c.loop-rest.invariant in
     cut_at _ _ _ done _ split (Appends-kept _ _ _ done appended (c.in-None.ensures.none refl))
 
 pub loop-rest-preserved : goal.loop-rest-preserved
 loop-rest-preserved g c =
-    let (done, split, appended) = c.loop-rest.invariant in
+    let (done, split, appended, unflushed) = c.loop-rest.invariant in
     let rest = c.loop-rest.rest.now in (
       done ++ take c.in-Some.count rest,
       moves_front _ done rest c.in-Some.count split,
       Appends-trans _ _ _ _ _ appended c.in-Some.ensures.some.1,
+      λ answers before. c.in-Some.ensures.unflushed answers (unflushed answers before),
     )
+
+pub returns-clause-unflushed : goal.returns-clause-unflushed
+returns-clause-unflushed g c = c.loop-rest.invariant.3
+
+pub returns-in-None-clause-unflushed : goal.returns-in-None-clause-unflushed
+returns-in-None-clause-unflushed g c = λ answers before.
+    c.in-None.ensures.unflushed answers (c.loop-rest.invariant.3 answers before)

@@ -36,6 +36,7 @@ returns g c =
             exported = c.export_all.ensures.flushed.exported;
             step = c.force_flush.ensures.flushed;
           },
+          λ answers before. c.force_flush.ensures.once answers (c.export_all.ensures.unflushed answers before),
         ),
       ),
       search rules,

@@ -9,4 +9,5 @@ loop-left-preserved g c = record {
   within = omega arith;
   rest = left_of c.args.items.now _ _ c.min.result c.loop-left.invariant.within (omega arith)
       c.loop-left.invariant.rest c.split_at.ensures.back;
+  unflushed = λ answers before. c.export.ensures.unflushed answers (c.loop-left.invariant.unflushed answers before);
 }

@@ -19,7 +19,7 @@ pub returns-clause-failed : goal.returns-clause-failed
 returns-clause-failed g c =
     fails_over_files {F = g.row.S.Denot} g.R.FileCalls.outputs g.R.FileCalls.inputs g.S.Write.contents g.S.Read.remaining
     (head_of c.args.request.now) (body_of c.args.request.now).items c.args.self.now.folder c.in_ok-input.input c.in_ok-output.output
-    g.S.WriterCalls.may_write g.S.WriterCalls.may_flush g.S.ReaderCalls.may_read
+    g.S.WriterCalls.may_write g.S.WriterCalls.flushed g.S.ReaderCalls.may_read
     c.send_bytes.result c.new.result c.send_bytes.new.self
     (record { written = rw (← c.self.view_is) c.in_ok-output.ensures.ok; read = rw (← c.self.view_is) c.in_ok-input.ensures.ok })
     c.new.ensures c.send_bytes.ensures.failed c.send_bytes.ensures.malformed
