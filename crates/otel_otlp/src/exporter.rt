@@ -170,8 +170,7 @@ impl<W: WriterCalls + Drop, R: Grouped> Exporter<R> for OtlpJsonExporter<W, R> {
         ensures cut { OnErr result ((line : List ℕ)
             × IsCutOffLineOf R.form self.old.resource batch.now line
             × Writes W.contents self.old.lines self.new.lines line) }
-        ensures unflushed {
-            FlushesNever W.flushed self.old.lines.writer self.new.lines.writer }
+        ensures unflushed { FlushesNever W.flushed self.old.lines.writer self.new.lines.writer }
         ensures rest { self.new ≡ record self.old {
           accepted = self.new.accepted;
           lines = self.new.lines;

@@ -74,6 +74,6 @@ loop-preserved g c =
       taken.0,
       taken.1,
       more_or_stuck g.W.WriterCalls.may_write (drop c.loop.count bytes) c.loop.counter c.loop.count c.in-Some.more c.write_some.result (sym c.in-Some.ensures) (some_left bytes c.loop.count c.loop.invariant.0 c.if-count-bytes.false)
-      (subst (λ (xs : List ℕ). g.W.WriterCalls.may_write xs c.write_some.result) rest c.write_some.ensures.answered) c.loop.invariant.2,
+          (subst (λ (xs : List ℕ). g.W.WriterCalls.may_write xs c.write_some.result) rest c.write_some.ensures.answered) c.loop.invariant.2,
       λ answers already. c.write_some.ensures.unflushed answers (c.loop.invariant.3 answers already),
     )
