@@ -1,9 +1,9 @@
 -- A journal loses no span.
 use Rattle.std.proofs.Common.{◌≡◌, ◌∙◌, ◌⊎◌, ℕ, ◌+◌, ◌<◌, ◌≤◌, Bool, true, false, cond, List, [], ◌∷◌, ◌++◌, Option, Some, None, refl, sym, ap, subst, arith, inl, inr, take, map as each, append_assoc, append-nil, Result, Ok, Err}
-use Rattle.std.specs.Prelude.{◌==◌, IsTrue, OnErr, OnOk, if◌then◌else◌, not, option_map, reverse}
+use Rattle.std.specs.Prelude.{◌==◌, OnErr, OnOk, not, option_map, reverse}
 use Rattle.std.specs.FinMap as map
 use Rattle.std.specs.Ordering.{nat_cmp}
-use Rattle.std.specs.List.{cons_option, filter_map, flat_map}
+use Rattle.std.specs.List.{cons_option, flat_map}
 use Rattle.std.specs.Prelude.{IsPermutation}
 use Rattle.std.proofs.lemmas.Bool.{cases_Bool}
 use Rattle.std.proofs.lemmas.Cmp.{nat_eq_equiv}
@@ -14,11 +14,10 @@ use Rattle.std.proofs.lemmas.List.Sorted.{IsPermutation-cons, IsPermutation-midd
 use Rattle.otel_context.specs.SpanCalls.{after_effect}
 use Rattle.otel_context.specs.Spans as table
 use Rattle.otel_context.specs.Spans.{HasSameSpans, SpansState}
-use Rattle.otel_sdk.specs.Ended.{AreCollected, AreListed, Collecting, Fate, NothingLost, after_end_of, ended_data, exported, is_ended, of, waiting}
-use Rattle.otel_sdk.specs.Journal.{AllArrived, AreOpen, EndsOnce, JournalState, LosesNone, SpanIds, found, ids_of, no_journal, open_of, sampled_of}
+use Rattle.otel_sdk.specs.Ended.{AreCollected, AreListed, Collecting, Fate, ended_data, exported, is_ended, of, waiting}
+use Rattle.otel_sdk.specs.Journal.{AllArrived, AreOpen, EndsOnce, LosesNone, SpanIds, found, ids_of, no_journal, open_of, sampled_of}
 use Rattle.otel_sdk.specs.LiveState.{LiveState, no_spans, with_changed, with_ended, with_started}
 use Rattle.otel_sdk.specs.Processor.{ProcessorState}
-use Rattle.otel_sdk.specs.Run.{WasOpen}
 use Rattle.otel_sdk.specs.SpanChange.{change_of}
 use Rattle.otel_sdk.specs.SpanEnd.{is_running}
 use Rattle.otel_sdk.specs.Tracing.{SameSpans}
@@ -26,13 +25,11 @@ use Rattle.otel_sdk.specs.declared.trace.change.SpanChange.{SpanChange}
 use Rattle.otel_sdk.specs.declared.trace.change.SpanChange.TheVariants.{SetAttribute, AddEvent, AddLink, SetStatus, UpdateName}
 use Rattle.otel_sdk.specs.declared.trace.live.Entered.{Entered}
 use Rattle.otel_sdk_base.specs.Export.{Calls, items_of}
-use Rattle.otel_sdk_base.specs.Queue.{IsFlushed, IsForceFlushed, IsShutDown, Limits, new as new_processor}
-use Rattle.otel_sdk_base.specs.declared.error.OTelSdkError.{OTelSdkError}
-use Rattle.otel_sdk_span.specs.Span.{SpanState, after_end, recording, says_nothing, with_kept_link}
+use Rattle.otel_sdk_base.specs.Queue.{Limits, new as new_processor}
+use Rattle.otel_sdk_span.specs.Span.{SpanState, after_end}
 use Rattle.otel_sdk_span.specs.SpanData.{SpanRecord}
 use Rattle.otel_sdk.proofs.Agreement.{Both, all_gone, get-changed, get-replaced, next_stays, next-changed}
-use Rattle.otel_sdk.proofs.EndLemmas.{flush-loses_nothing, loses_nothing}
-use Rattle.otel_sdk.proofs.LiveLemmas.{Keeps, change-stays, changed-keeps, get-replace, get-started, keeps-waiting, replaced-keeps, same_number, started-keeps, with_ended-now}
+use Rattle.otel_sdk.proofs.LiveLemmas.{change-stays, changed-keeps, get-replace, get-started, replaced-keeps, same_number, started-keeps, with_ended-now}
 use Rattle.otel_sdk.proofs.ParentLemmas.{change-ids, end-ids}
 use Rattle.otel_sdk.proofs.LosesNone.{lost-more, lost-none, lost-same}
 use Rattle.otel_sdk.proofs.TracingLemmas.{reverse-last}

@@ -9,7 +9,7 @@ use Rattle.otel_ids.specs.SpanContext.{SpanContextRecord}
 use Rattle.opentelemetry.specs.Event.{LinkRecord}
 use Rattle.opentelemetry.specs.SpanBuilder.{BuilderRecord}
 use Rattle.otel_sdk.specs.Sampler.{Asked, Answer}
-use Rattle.otel_sdk_span.specs.Span.{SpanState, after_end, recording, says_nothing, started, unrecorded, with_attribute, with_event}
+use Rattle.otel_sdk_span.specs.Span.{SpanState, after_end, recording, says_nothing, unrecorded, with_attribute, with_event}
 use Rattle.otel_sdk_span.specs.Span.{with_kept_link, with_link, within}
 use Rattle.otel_sdk_span.specs.SpanData.{SpanRecord}
 use Rattle.otel_sdk_span.specs.declared.limits.SpanLimits.{SpanLimits}

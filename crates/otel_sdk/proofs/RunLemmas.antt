@@ -1,7 +1,7 @@
 -- A run of events loses nothing.
-use Rattle.std.proofs.Common.{◌≡◌, ℕ, Bool, true, false, List, [], ◌∷◌, ◌++◌, length}
-use Rattle.std.proofs.Common.{take, map as each, fold, Option, Some, None, refl, sym, ap, subst, ◌∙◌, inl, inr, append_assoc, append-nil}
-use Rattle.std.specs.Prelude.{if◌then◌else◌, nat_lt, not, Result, Ok, Err}
+use Rattle.std.proofs.Common.{◌≡◌, ℕ, Bool, true, false, List, [], ◌∷◌, ◌++◌}
+use Rattle.std.proofs.Common.{Option, Some, None, refl, sym, ap, subst, ◌∙◌, inl, inr, append-nil}
+use Rattle.std.specs.Prelude.{not, Result, Ok, Err}
 use Rattle.std.specs.List.{cons_option}
 use Rattle.std.proofs.lemmas.Bool.{cases_Bool}
 use Rattle.std.proofs.lemmas.List.Elements.{filter_map-append}
@@ -10,16 +10,14 @@ use Rattle.otel_context.specs.Context.{ContextRecord}
 use Rattle.opentelemetry.specs.SpanBuilder.{BuilderRecord}
 use Rattle.otel_context.specs.Stack as stack
 use Rattle.otel_context.specs.Stack.{Live}
-use Rattle.otel_sdk.specs.Ended.{Collecting, Fate, NothingLost, after_end_if, after_end_of, ended_data, exported, is_ended, of, waiting}
+use Rattle.otel_sdk.specs.Ended.{ended_data, exported, is_ended, waiting}
 use Rattle.otel_sdk_base.specs.Export.{Calls, items_of}
 use Rattle.otel_sdk.specs.Journal.{LosesNone}
 use Rattle.otel_sdk.specs.LiveState.{LiveState, with_started, with_changed, with_ended}
-use Rattle.otel_sdk.specs.Processor.{is_sampled}
-use Rattle.otel_sdk_base.specs.Queue.{IsFlushed, counted}
 use Rattle.otel_sdk.specs.Processor.{ProcessorState}
-use Rattle.otel_sdk_base.specs.Queue.{new as new_processor, queued, Limits}
+use Rattle.otel_sdk_base.specs.Queue.{Limits}
 use Rattle.otel_sdk.specs.Run.{RunState, IsCollected, IsExported, IsShutDown, Plays, Follows}
-use Rattle.otel_sdk.specs.Run.{Takes, Fails, FailsToClose, RunsOut, StaysUnattached, WasOpen, active_context, at_start, with_both, with_child, with_stack}
+use Rattle.otel_sdk.specs.Run.{Takes, Fails, FailsToClose, RunsOut, StaysUnattached, active_context, at_start, with_both, with_child, with_stack}
 use Rattle.otel_sdk_span.specs.Span.{SpanState, after_end}
 use Rattle.otel_sdk.specs.SpanChange.{change_of}
 use Rattle.otel_sdk.specs.SpanEnd.{is_running}
@@ -30,7 +28,6 @@ use Rattle.otel_sdk.specs.declared.trace.program.event.SpanEvent.TheVariants.{St
 use Rattle.otel_sdk.specs.declared.trace.program.event.SpanEvent.TheVariants.{Change, End, Collect, Flush, Shutdown}
 use Rattle.otel_sdk.specs.declared.trace.program.event.EventOutcome.{EventOutcome}
 use Rattle.otel_sdk.specs.declared.trace.program.event.EventOutcome.TheVariants.{Done, NumbersUsedUp, NotAttached, Failed}
-use Rattle.otel_sdk.proofs.EndLemmas.{flush-loses_nothing, loses_nothing}
 use Rattle.otel_sdk.proofs.LosesNone.{lost-closed, lost-collected, lost-flushed, lost-more, lost-none}
 use Rattle.otel_sdk.proofs.LiveLemmas.{Keeps, keeps-waiting, change-stays}
 use Rattle.otel_sdk.proofs.LiveLemmas.{with_ended-now, with_ended-nothing, changed-keeps, replaced-keeps}

@@ -1,5 +1,5 @@
 -- Readings of a clock while time is left, and tries between them.
-use Rattle.std.proofs.Common.{◌≡◌, ℕ, suc, ◌+◌, ◌-◌, ◌<◌, ◌≤◌, sym, subst, arith, List, Result, Ok, Err, IsErr, OnErr, false, true}
+use Rattle.std.proofs.Common.{◌≡◌, ℕ, suc, ◌+◌, ◌<◌, ◌≤◌, sym, subst, arith, List, Result, Ok, Err, IsErr, OnErr, false, true}
 use Rattle.otel_sdk.specs.LastExport.{HasGivenUp, HasWaited, IsLast, StoodStill, TimeLeft, Tries, Waits, again, read_again, with_moment}
 use Rattle.otel_sdk.specs.Tracing.{ShutsDown, TracingState}
 use Rattle.otel_sdk_base.specs.Export.{Calls}

@@ -15,7 +15,7 @@ use Rattle.otel_sdk_base.specs.Export.{Calls}
 use Rattle.otel_sdk_base.specs.Queue.{IsShutDown}
 use Rattle.otel_sdk_span.specs.Span.{SpanState}
 use Rattle.otel_sdk_span.specs.SpanData.{SpanRecord}
-use Rattle.std.specs.Prelude.{is_err, reverse, not, ◌==◌, if◌then◌else◌}
+use Rattle.std.specs.Prelude.{is_err, reverse, not, ◌==◌}
 use Rattle.std.proofs.lemmas.Bool.{cases_Bool}
 use Rattle.std.specs.List.{AllByRecursion, IsDistinct, list_any}
 use Rattle.std.proofs.lemmas.List.{reverse-append}

@@ -32,4 +32,6 @@ pub use sampler::parent_based::ParentBased;
 pub use sampler::{Sampler, SamplingDecision, SamplingResult, ShouldSample, laws};
 pub use tracer::calls::TracerCalls;
 pub use tracer::{OpenPipeline, Pipeline, SdkTracer, TracerPipeline};
-pub use tracing::{Attached, NotEntered, SpanWork, Tracing, TracingBuilder, Unfinished, finish};
+pub use tracing::{
+    Attached, NotEntered, SpanWork, Traces, Tracing, TracingBuilder, Unfinished, finish,
+};

@@ -20,6 +20,7 @@ mod export;
 mod journal;
 mod last_export;
 mod moments;
+mod traces;
 mod work;
 
 use crate::trace::live::Entered;
@@ -36,6 +37,7 @@ use otel_sdk_span::SpanExporter;
 use std::alloc::{AllocError, Global};
 use std::marker::Model;
 use thiserror::Error;
+pub use traces::Traces;
 pub use work::SpanWork;
 
 /// The greatest position of an attachment.

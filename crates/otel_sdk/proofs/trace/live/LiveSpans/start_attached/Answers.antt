@@ -1,5 +1,5 @@
-use Rattle.std.proofs.Common.{◌≡◌, ◌∙◌, ap, sym, rules}
-use Rattle.otel_sdk.specs.LiveState.{LiveState, with_started}
+use Rattle.std.proofs.Common.{◌∙◌, ap, sym, rules}
+use Rattle.otel_sdk.specs.LiveState.{LiveState}
 use Rattle.otel_sdk.specs.Tracing.{SameSpans}
 use Rattle.otel_sdk.proofs.TracingLemmas.{same-listed, same-taken, taken-fits}
 use Rattle.otel_sdk.proofs.trace.live.LiveSpans.start_attached.Goals as goal

@@ -1,5 +1,4 @@
-use Rattle.std.proofs.Common.{inl, inr, refl, rules, sym}
-use Rattle.otel_sdk.specs.Tracing.{Flushes, GoesOn, StopsAt}
+use Rattle.std.proofs.Common.{inl, inr, rules, sym}
 use Rattle.otel_sdk.proofs.TracingLemmas.{processed-state}
 use Rattle.otel_sdk.proofs.trace.tracing.Tracing.flush.Goals as goal
 

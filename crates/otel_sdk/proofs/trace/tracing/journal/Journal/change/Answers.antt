@@ -1,4 +1,3 @@
-use Rattle.std.proofs.Common.{Result, refl}
 use Rattle.otel_sdk.proofs.JournalLemmas.{change-once, change-lost}
 use Rattle.otel_sdk.proofs.trace.tracing.journal.Journal.change.Goals as goal
 

@@ -1,4 +1,4 @@
-use Rattle.std.proofs.Common.{◌∙◌, List, ap, refl, rules, sym}
+use Rattle.std.proofs.Common.{rules}
 use Rattle.otel_sdk.proofs.JournalLemmas.{enter-once, enter-lost, items-one, refused-once, refused-lost}
 use Rattle.otel_sdk.proofs.trace.tracing.journal.Journal.enter.Goals as goal
 
