@@ -21,4 +21,5 @@ mod ratio;
 mod run;
 mod sampler;
 mod tracer;
+mod traces;
 mod tracing;
