@@ -1,4 +1,4 @@
-use Rattle.std.proofs.Common.{[], length, lit<, arith, refl, rules, string_bytes}
+use Rattle.std.proofs.Common.{[], length, lit<, arith, refl, string_bytes}
 use Rattle.std.proofs.lemmas.List.{length_push}
 use Rattle.std.proofs.lemmas.Iterator.Splits.{YieldsList-from_str_split}
 use Rattle.std.proofs.lemmas.Iterator.Consumers.{YieldsList-at, YieldsList-turn, YieldsList-end}

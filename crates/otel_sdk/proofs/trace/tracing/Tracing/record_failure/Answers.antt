@@ -1,4 +1,4 @@
-use Rattle.std.proofs.Common.{◌≡◌, ◌∙◌, ap, codes, inl, inr, refl, rules, sym, Err, Ok, OnErr, Result}
+use Rattle.std.proofs.Common.{◌≡◌, ◌∙◌, ap, codes, inl, inr, rules, sym, Err, Ok, OnErr, Result}
 use Rattle.std.proofs.lemmas.Result.{on_ok_weaker, on_err_weaker}
 use Rattle.otel_context.specs.SpanEffects.{attributes_of, message}
 use Rattle.otel_context.specs.declared.span.status.Status.TheVariants.{Error}

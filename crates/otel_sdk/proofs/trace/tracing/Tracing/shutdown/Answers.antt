@@ -1,4 +1,4 @@
-use Rattle.std.proofs.Common.{◌≡◌, ◌∙◌, [], true, Result, ap, inl, inr, refl, rules, subst, sym}
+use Rattle.std.proofs.Common.{◌∙◌, Result, ap, inl, inr, refl, rules, subst, sym}
 use Rattle.otel_sdk.specs.Journal.{JournalState}
 use Rattle.otel_sdk.specs.Tracing.{Collects, TracingState, at}
 use Rattle.otel_sdk_base.specs.Queue.{IsShutDown}

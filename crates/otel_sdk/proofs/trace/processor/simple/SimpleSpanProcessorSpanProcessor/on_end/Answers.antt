@@ -1,4 +1,4 @@
-use Rattle.std.proofs.Common.{◌≡◌, ◌∙◌, not, Result, Ok, Err, ap, subst}
+use Rattle.std.proofs.Common.{◌∙◌, not, Result, Ok, Err, ap, subst}
 use Rattle.otel_sdk.specs.Processor.{ProcessorState}
 use Rattle.otel_sdk_base.specs.Queue.{IsExportersAnswer, IsFlushed}
 use Rattle.otel_sdk_base.specs.declared.error.OTelSdkError.{OTelSdkError}

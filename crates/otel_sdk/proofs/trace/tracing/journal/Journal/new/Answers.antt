@@ -1,5 +1,5 @@
 use Rattle.std.proofs.Common.{rules}
-use Rattle.otel_sdk.proofs.JournalLemmas.{given-one, items-none, made, none-lost, none-once}
+use Rattle.otel_sdk.proofs.JournalLemmas.{items-none, made, none-lost, none-once}
 use Rattle.otel_sdk_base.specs.Export.{items_of}
 use Rattle.otel_sdk.proofs.trace.tracing.journal.Journal.new.Goals as goal
 

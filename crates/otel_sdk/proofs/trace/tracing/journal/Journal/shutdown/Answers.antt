@@ -1,4 +1,4 @@
-use Rattle.std.proofs.Common.{rules, sym}
+use Rattle.std.proofs.Common.{sym}
 use Rattle.otel_sdk.proofs.LosesNone.{lost-shut}
 use Rattle.otel_sdk.proofs.trace.tracing.journal.Journal.shutdown.Goals as goal
 
