@@ -1,4 +1,4 @@
-use Rattle.std.proofs.Common.{◌≡◌, ◌++◌, ap, subst}
+use Rattle.std.proofs.Common.{◌≡◌, ◌++◌, ap, subst, inl, inr}
 use Rattle.http.specs.Request.{head_of, body_of}
 use Rattle.http1.specs.declared.client.Client.{Client}
 use Rattle.http1.specs.Client.{writing}
@@ -27,6 +27,17 @@ returns-clause-answer g c =
     let method = subst (λ k. k.method ≡ method_kind p.method) asked c.in_ok-connection.ensures.method in
     let answers = answers_from p body stream rest now c.in_ok-response.response method told in
     rw (← c.self.view_is) (came, consumed, (answers.0, opens _ _ _ _ c.is_free-self-inside.ensures answers.1))
+
+pub returns-in_err-connection-clause-failed : goal.returns-in_err-connection-clause-failed
+returns-in_err-connection-clause-failed g c =
+    let e = c.in_err-connection.field-0.0 in
+    rw (← c.self.view_is) (λ _. passed _ c.from_residual.result e c.from_residual.ensures.1 (inl c.in_err-connection.ensures.failed))
+
+pub returns-in_err-response-clause-failed : goal.returns-in_err-response-clause-failed
+returns-in_err-response-clause-failed g c =
+    let e = c.in_err-response.field-0.0 in
+    rw (← c.self.view_is) (λ _. passed _ c.from_residual-in_err-response.result e c.from_residual-in_err-response.ensures.1
+    (inr (c.in_ok-connection.ensures.whole, c.in_ok-connection.ensures.flushed, c.in_err-response.ensures.failed)))
 
 pub returns-in_err-response-clause-malformed : goal.returns-in_err-response-clause-malformed
 returns-in_err-response-clause-malformed g c =
