@@ -25,10 +25,11 @@ fn answered(rt: HostRuntime, given: &[u8], fails: bool) -> anyhow::Result<Outcom
     let env = EnvConfig::from_vars(alloc, &[])?;
     let call = Call {
         rt,
-        env: &env,
+        batches: &env.span_batches,
         propagator: &env.propagator(alloc)?,
         log: &logger(rt, &env)?,
         is_lines: true,
+        is_fixed: true,
     };
     let tracing = Tracing::builder(rt)
         .with_exporter(InMemorySpanExporter::new(alloc))

@@ -12,7 +12,7 @@ use opentelemetry::{Context, StringValue};
 use otel_propagators::TraceContextPropagator;
 use otel_sdk::resource::Resource;
 use otel_sdk::trace::{
-    CountedIdGenerator, Entered, ManualClock, NotEntered, OpenPipeline, Sampler, Tracing,
+    CountedIdGenerator, Entered, ManualClock, NotEntered, OpenPipeline, Sampler, Traces, Tracing,
     TracingBuilder,
 };
 use std::alloc::{AllocError, Global};
@@ -77,11 +77,12 @@ fn crowded(rt: HostRuntime) -> Result<App, AllocError> {
 
 fn spans<R: Print>(rt: HostRuntime, lines: &Lines<'_, R>) {
     if lines.begin("tracing-enter") {
-        lines.end(entered(lines, app(rt), |app| app.enter("s")));
+        lines.end(entered(lines, app(rt), |app| Traces::enter(app, "s")));
     }
     if lines.begin("tracing-enter-with") {
         let builder = SpanBuilder::from_name(StringValue::from("s"));
-        lines.end(entered(lines, crowded(rt), |app| app.enter_with(builder)));
+        let enter_with = |app: &mut App| Traces::enter_with(app, builder);
+        lines.end(entered(lines, crowded(rt), enter_with));
     }
     if lines.begin("tracing-exit") {
         lines.end(exit(rt, lines));
@@ -178,7 +179,7 @@ fn caller(alloc: Global) -> Result<Context, AllocError> {
 
 fn attach<R: Print>(rt: HostRuntime, lines: &Lines<'_, R>) -> Result<(), AllocError> {
     let mut app = crowded(rt)?;
-    let answer = app.attach(caller(rt.alloc())?);
+    let answer = Traces::attach(&mut app, caller(rt.alloc())?);
     let is_attached = answer.is_ok();
     lines.answer_named("attached", answer);
     lines.due(app.context().has_active_span() == is_attached);
@@ -197,7 +198,7 @@ fn receive<R: Print>(rt: HostRuntime, lines: &Lines<'_, R>) -> Result<(), AllocE
     let mut app = crowded(rt)?;
     let propagator = TraceContextPropagator::new(rt.alloc())?;
     let carrier = carrier_of(rt.alloc(), &TRACE_TEXTS)?;
-    let answer = app.receive(&propagator, &carrier);
+    let answer = Traces::receive(&mut app, &propagator, &carrier);
     let is_attached = answer.is_ok();
     lines.answer_named("received", answer);
     lines.due(app.context().has_active_span() == is_attached);
@@ -209,7 +210,7 @@ fn send<R: Print>(rt: HostRuntime, lines: &Lines<'_, R>) -> Result<(), AllocErro
     enter(&mut app)?;
     let propagator = TraceContextPropagator::new(rt.alloc())?;
     let mut carrier = carrier(rt.alloc())?;
-    let answer = app.send(&propagator, &mut carrier);
+    let answer = Traces::send(&app, &propagator, &mut carrier);
     injected(lines, answer, &carrier, &TRACE_KEYS);
     Ok(())
 }

@@ -5,6 +5,7 @@ use crate::sdk::tracing::exports::has_exported;
 use crate::sdk::tracing::{App, app, builder, enter};
 use opentelemetry::trace::{Run, SpanBuilder, Status, TraceState};
 use opentelemetry::{Key, KeyValue, StringValue, Value};
+use otel_sdk::trace::Traces;
 use std::alloc::{AllocError, Global};
 
 pub fn play<R: Print>(rt: HostRuntime, lines: &Lines<'_, R>) {
@@ -45,7 +46,7 @@ fn attribute() -> KeyValue {
 }
 
 /// Makes this call on the current span.
-fn add(alloc: Global, app: &mut App, call: Call) -> Result<(), AllocError> {
+fn add(alloc: Global, app: &mut impl Traces, call: Call) -> Result<(), AllocError> {
     match call {
         Call::SetAttribute => app.set_attribute(attribute()),
         Call::AddEvent => app.add_event(StringValue::from("e"), Vec::new(alloc)),
@@ -70,9 +71,9 @@ fn set_status<R: Print>(rt: HostRuntime, lines: &Lines<'_, R>) -> Result<(), All
     let mut app = app(rt)?;
     enter(&mut app)?;
     let status = Status::error(StringValue::from("x"));
-    lines.free_ok("Tracing::set_status", app.set_status(status));
+    lines.free_ok("Tracing::set_status", Traces::set_status(&mut app, status));
     let name = StringValue::from("renamed");
-    lines.free_ok("Tracing::update_name", app.update_name(name));
+    lines.free_ok("Tracing::update_name", Traces::update_name(&mut app, name));
     lines.due(app.open_spans() == 1 && has_exported(&mut app, 1, 0));
     Ok(())
 }

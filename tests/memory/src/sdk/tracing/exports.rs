@@ -4,7 +4,7 @@ use crate::sdk::tracing::{App, app, enter};
 use otel_sdk::env::EnvBatches;
 use otel_sdk::error::OTelSdkResult;
 use otel_sdk::resource::Resource;
-use otel_sdk::trace::{Exporter, ManualClock, SpanData, Unfinished, finish};
+use otel_sdk::trace::{Exporter, ManualClock, SpanData, Traces, Unfinished, finish};
 use otel_sdk_base::Accepted;
 use std::alloc::AllocError;
 use std::rc::Rc;
@@ -85,7 +85,7 @@ fn flush<R: Print>(rt: HostRuntime, lines: &Lines<'_, R>) -> Result<(), AllocErr
     let ended = enter(&mut app)?;
     app.exit(ended);
     enter(&mut app)?;
-    let answer = app.flush();
+    let answer = Traces::flush(&mut app);
     let exported = if answer.is_ok() { 1 } else { 0 };
     lines.answer_named("flushed", answer);
     let is_due = app.open_spans() == 1 && app.exporter().spans == exported;
