@@ -15,10 +15,10 @@ use std::alloc::{AllocError, Global};
 use std::process::ExitCode;
 
 /// Answers the requests, and hands their spans to the exporter.
-fn run<E: SpanExporter, L: Logger>(call: &Call<L>, env: &EnvConfig, to: E) -> Result<()> {
+fn run<E: SpanExporter, L: Logger>(call: &Call<L>, matches: &ArgMatches<'_>, to: E) -> Result<()> {
     let spans = Tracing::builder(call.rt).with_exporter(to);
-    let spans = spans.with_env(call.rt.alloc(), env)?;
-    if call.is_fixed {
+    let spans = spans.with_env(call.rt.alloc(), call.env)?;
+    if matches.get_flag("fixed") {
         // A millisecond from one reading of the clock to the next.
         return Service::serve(call, spans.counted(1_000_000).build(call.rt.alloc(), NAME)?);
     }
@@ -42,32 +42,31 @@ fn command<'a>(alloc: Global) -> Result<Command<'a>, AllocError> {
 }
 
 /// Answers the requests with the exporter that the arguments name.
-fn export<L: Logger>(call: &Call<L>, env: &EnvConfig, matches: &ArgMatches<'_>) -> Result<()> {
+fn export<L: Logger>(call: &Call<L>, matches: &ArgMatches<'_>) -> Result<()> {
     let alloc = call.rt.alloc();
     if matches.get_flag("waterfall") {
         let exporter = WaterfallExporter::new(alloc, call.rt.stderr());
-        return run(call, env, exporter);
+        return run(call, matches, exporter);
     }
     if let Some(folder) = matches.get_str("otlp") {
-        let exporter = pipe_exporter(alloc, call.rt, folder, &env.otlp_traces)?;
-        return run(call, env, exporter);
+        let exporter = pipe_exporter(alloc, call.rt, folder, &call.env.otlp_traces)?;
+        return run(call, matches, exporter);
     }
     let path = matches.get_str("FILE").unwrap_or("/dev/null");
     let file = AppendFile::new(call.rt, String::from_str(alloc, path)?);
-    run(call, env, OtlpJsonSpanExporter::new(alloc, file)?)
+    run(call, matches, OtlpJsonSpanExporter::new(alloc, file)?)
 }
 
 /// Answers the requests as the environment and the arguments say.
 fn start(rt: HostRuntime, env: &EnvConfig, matches: &ArgMatches<'_>) -> Result<ExitCode> {
     let call = Call {
         rt,
-        batches: &env.span_batches,
+        env,
         propagator: &env.propagator(rt.alloc())?,
         log: &logger(rt, env)?,
         is_lines: matches.get_flag("headers"),
-        is_fixed: matches.get_flag("fixed"),
     };
-    export(&call, env, matches).map(|_| ExitCode::SUCCESS)
+    export(&call, matches).map(|_| ExitCode::SUCCESS)
 }
 
 fn main(rt: HostRuntime) -> Result<ExitCode> {

@@ -10,9 +10,9 @@ use opentelemetry::{KeyValue, Value};
 use otel_appender_log::OpenTelemetryLogBridge;
 use otel_http::{HeaderExtractor, HeaderInjector, add_header_line};
 use otel_otlp::OtlpJsonLogExporter;
-use otel_sdk::env::{ConfiguredPropagator, EnvBatches, EnvConfig};
+use otel_sdk::env::{ConfiguredPropagator, EnvConfig};
 use otel_sdk::logs::{SimpleLogProcessor, SimpleLogger};
-use otel_sdk::trace::{Pipeline, SpanExporter, SystemClock, Traces, Tracing, finish};
+use otel_sdk::trace::{Pipeline, SpanExporter, SystemClock, Tracing, finish};
 use std::alloc::AllocError;
 use std::io::{self, Read, Stderr, Write};
 
@@ -27,16 +27,14 @@ pub type Log = OpenTelemetryLogBridge<SimpleLogger<OtlpJsonLogExporter<Stderr>, 
 pub struct Call<'a, L> {
     /// The runtime.
     pub rt: HostRuntime,
-    /// How the spans are exported at the end.
-    pub batches: &'a EnvBatches,
+    /// The configuration from the environment.
+    pub env: &'a EnvConfig,
     /// Reads and writes the headers.
     pub propagator: &'a ConfiguredPropagator,
     /// Writes the log lines.
     pub log: &'a OpenTelemetryLogBridge<L>,
     /// Whether a request is lines of headers.
     pub is_lines: bool,
-    /// Whether ids and the clock are counted.
-    pub is_fixed: bool,
 }
 
 /// Makes the log.
@@ -68,37 +66,36 @@ fn answer_http(rt: HostRuntime, service: &mut impl HttpService) -> Result<()> {
 
 /// A service that answers requests.
 #[derive(Drop)]
-pub struct Service<'a, T, L> {
+pub struct Service<'a, P, E: SpanExporter, L> {
     /// How it was called.
     pub call: &'a Call<'a, L>,
     /// Starts and exports the spans.
-    pub tracing: T,
+    pub tracing: Tracing<P, E>,
     /// Whether a failed export was told.
     pub is_told: bool,
 }
 
-impl<'a, P: Pipeline, E: SpanExporter, L: Logger> Service<'a, Tracing<P, E>, L> {
+impl<'a, P: Pipeline, E: SpanExporter, L: Logger> Service<'a, P, E, L> {
     /// Answers the requests of standard input, exports their spans, and logs them.
     ///
     /// # Errors
     ///
     /// The reason why the input isn't read, an answer isn't written, or spans are lost.
     pub fn serve(call: &'a Call<'a, L>, tracing: Tracing<P, E>) -> Result<()> {
-        let mut app = Service {
+        let mut service = Service {
             call,
             tracing,
             is_told: false,
         };
         let answered = match call.is_lines {
-            true => app.answer_lines(call.rt.stdin(), &mut call.rt.stdout()),
-            false => answer_http(call.rt, &mut app),
+            true => service.answer_lines(call.rt.stdin(), &mut call.rt.stdout()),
+            false => answer_http(call.rt, &mut service),
         };
-        finish(&mut app.tracing, &SystemClock::new(call.rt), call.batches)?;
+        let clock = SystemClock::new(call.rt);
+        finish(&mut service.tracing, &clock, &call.env.span_batches)?;
         answered
     }
-}
 
-impl<T: Traces, L: Logger> Service<'_, T, L> {
     /// Answers requests of the path `/cart` whose headers are lines. Empty lines separate them, and
     /// their answers. Empty input is a request without headers. Other lines are ignored.
     ///
@@ -179,7 +176,7 @@ impl<T: Traces, L: Logger> Service<'_, T, L> {
     }
 }
 
-impl<T: Traces, L: Logger> HttpService for Service<'_, T, L> {
+impl<P: Pipeline, E: SpanExporter, L: Logger> HttpService for Service<'_, P, E, L> {
     ghost answers = { λ _ _ _ _. Unit {0} };
 
     fn call(&mut self, request: &Request<Bytes>, answer: &mut Response) -> Result<(), AllocError> {

@@ -25,11 +25,10 @@ fn answered(rt: HostRuntime, given: &[u8], fails: bool) -> anyhow::Result<Outcom
     let env = EnvConfig::from_vars(alloc, &[])?;
     let call = Call {
         rt,
-        batches: &env.span_batches,
+        env: &env,
         propagator: &env.propagator(alloc)?,
         log: &logger(rt, &env)?,
         is_lines: true,
-        is_fixed: true,
     };
     let tracing = Tracing::builder(rt)
         .with_exporter(InMemorySpanExporter::new(alloc))
