@@ -42,7 +42,7 @@ use std::fmt::Display;
 ///
 /// Each call does and returns the same as the one of [`Tracing`]. Contracts see what the `Tracing`
 /// holds through the ghost member `held`.
-pub trait Traces: Drop {
+pub trait Traces {
     ghost use Rattle.otel_sdk.specs.Tracing.{TracingState};
 
     /// Starts the spans.
