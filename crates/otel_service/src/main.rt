@@ -57,8 +57,8 @@ fn export<L: Logger>(call: &Call<L>, matches: &ArgMatches<'_>) -> Result<()> {
     run(call, matches, OtlpJsonSpanExporter::new(alloc, file)?)
 }
 
-/// Answers the requests as the environment and the arguments say.
-fn start(rt: HostRuntime, env: &EnvConfig, matches: &ArgMatches<'_>) -> Result<ExitCode> {
+/// Answers the requests as the configuration and the arguments say.
+fn answer(rt: HostRuntime, env: &EnvConfig, matches: &ArgMatches<'_>) -> Result<ExitCode> {
     let call = Call {
         rt,
         env,
@@ -69,10 +69,15 @@ fn start(rt: HostRuntime, env: &EnvConfig, matches: &ArgMatches<'_>) -> Result<E
     export(&call, matches).map(|_| ExitCode::SUCCESS)
 }
 
+/// Reads the configuration from the environment, and answers the requests.
+fn start(rt: HostRuntime, matches: &ArgMatches<'_>) -> Result<ExitCode> {
+    answer(rt, &EnvConfig::from_env(&rt)?, matches)
+}
+
 fn main(rt: HostRuntime) -> Result<ExitCode> {
     let words: Vec<String> = std::env::args(&rt)?.collect(rt.alloc())?;
     match command(rt.alloc())?.try_get_matches_from(words.as_slice()) {
-        Ok(matches) => start(rt, &EnvConfig::from_env(&rt)?, &matches),
+        Ok(matches) => start(rt, &matches),
         Err(error) => {
             error.print(&rt)?;
             Ok(ExitCode::from(error.exit_code() as u8))
