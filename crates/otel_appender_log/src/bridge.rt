@@ -28,12 +28,22 @@ use std::fmt::Display;
 /// let bridge = OpenTelemetryLogBridge::new(alloc, logger);
 /// let rt = Logged::new(rt, Level::Info, bridge.sink(&context));
 /// ```
-#[derive(Drop)]
 pub struct OpenTelemetryLogBridge<L> {
     /// The logger that gets the records.
     pub logger: L,
     alloc: Global,
     dropped: Cell<u64>,
+}
+
+// Written out, so that a caller's proof has one call here, and not the drops of all parts.
+impl<L: Drop> Drop for OpenTelemetryLogBridge<L> {
+    fn drop(self) {
+        let OpenTelemetryLogBridge {
+            logger: _,
+            alloc: _,
+            dropped: _,
+        } = self;
+    }
 }
 
 impl<L: Logger> OpenTelemetryLogBridge<L> {

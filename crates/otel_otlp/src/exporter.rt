@@ -36,13 +36,25 @@ use std::rc::Rc;
 ///
 /// Contracts see the batches that it has accepted, the writer, whether a newline is pending, the
 /// resource of later items, and whether it was shut down.
-#[derive(Drop)]
 pub struct OtlpJsonExporter<W, R> {
     lines: Lines<W>,
     alloc: Global,
     resource: Rc<Resource>,
     is_shut_down: bool,
     accepted: Accepted<R>,
+}
+
+// Written out, so that a caller's proof has one call here, and not the drops of all parts.
+impl<W: Drop, R> Drop for OtlpJsonExporter<W, R> {
+    fn drop(self) {
+        let OtlpJsonExporter {
+            lines: _,
+            alloc: _,
+            resource: _,
+            is_shut_down: _,
+            accepted: _,
+        } = self;
+    }
 }
 
 /// Writes each batch of spans as a line of JSON.

@@ -18,12 +18,22 @@ use std::alloc::{AllocError, Global};
 /// ```
 /// let propagator = W3cPropagator::new(alloc)?;
 /// ```
-#[derive(Drop)]
 pub struct W3cPropagator {
     trace_context: TraceContextPropagator,
     baggage: BaggagePropagator,
     fields: Vec<String>,
     ghost named: { map string_bytes fields.items ≡ w3c_fields },
+}
+
+// Written out, so that a caller's proof has one call here, and not the drops of all parts.
+impl Drop for W3cPropagator {
+    fn drop(self) {
+        let W3cPropagator {
+            trace_context: _,
+            baggage: _,
+            fields: _,
+        } = self;
+    }
 }
 
 impl W3cPropagator {

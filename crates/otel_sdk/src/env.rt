@@ -80,7 +80,7 @@ pub use warning::{EnvWarning, Instead};
 ///     .with_exporter(InMemorySpanExporter::new(alloc))
 ///     .build(alloc, "shop")?;
 /// ```
-#[derive(Debug, Drop)]
+#[derive(Debug)]
 pub struct EnvConfig {
     /// Whether the SDK is disabled: no span is recorded.
     pub is_disabled: bool,
@@ -112,6 +112,29 @@ pub struct EnvConfig {
     pub otlp_timeout_millis: u32,
     /// The texts that don't count, in the order of the variables above.
     pub warnings: Vec<EnvWarning>,
+}
+
+// Written out, so that a caller's proof has one call here, and not the drops of all parts.
+impl Drop for EnvConfig {
+    fn drop(self) {
+        let EnvConfig {
+            is_disabled: _,
+            service_name: _,
+            resource_attributes: _,
+            propagators: _,
+            sampler: _,
+            span_limits: _,
+            log_limits: _,
+            span_batches: _,
+            log_batches: _,
+            traces_exporter: _,
+            logs_exporter: _,
+            otlp_traces: _,
+            otlp_logs: _,
+            otlp_timeout_millis: _,
+            warnings: _,
+        } = self;
+    }
 }
 
 /// Returns the configuration of these parts.

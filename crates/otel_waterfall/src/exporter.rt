@@ -31,13 +31,26 @@ use std::rc::Rc;
 /// ```
 /// let exporter = WaterfallExporter::new(alloc, output).with_width(120);
 /// ```
-#[derive(Debug, Drop)]
+#[derive(Debug)]
 pub struct WaterfallExporter<W> {
     alloc: Global,
     output: W,
     style: Style,
     is_shut_down: bool,
     accepted: Accepted<SpanData>,
+}
+
+// Written out, so that a caller's proof has one call here, and not the drops of all parts.
+impl<W: Drop> Drop for WaterfallExporter<W> {
+    fn drop(self) {
+        let WaterfallExporter {
+            alloc: _,
+            output: _,
+            style: _,
+            is_shut_down: _,
+            accepted: _,
+        } = self;
+    }
 }
 
 impl<W> Model for WaterfallExporter<W> {

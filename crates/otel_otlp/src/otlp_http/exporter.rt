@@ -51,7 +51,6 @@ use std::rc::Rc;
 /// Contracts see the accepted batches, the parts that have left and that wait, the counts, the
 /// client, the head of its requests, the wait and the moments that the clock showed, the resource
 /// of later items, and whether it was shut down.
-#[derive(Drop)]
 pub struct OtlpHttpExporter<C, R, S, K> {
     alloc: Global,
     link: Link<C>,
@@ -62,6 +61,23 @@ pub struct OtlpHttpExporter<C, R, S, K> {
     max_body: usize,
     is_shut_down: bool,
     accepted: Accepted<R>,
+}
+
+// Written out, so that a caller's proof has one call here, and not the drops of all parts.
+impl<C: Drop, R, S: Drop, K: Drop> Drop for OtlpHttpExporter<C, R, S, K> {
+    fn drop(self) {
+        let OtlpHttpExporter {
+            alloc: _,
+            link: _,
+            outbox: _,
+            tally: _,
+            pause: _,
+            resource: _,
+            max_body: _,
+            is_shut_down: _,
+            accepted: _,
+        } = self;
+    }
 }
 
 /// Sends each batch of spans.
@@ -147,7 +163,18 @@ impl<C: HttpClient, R: Signal, S: RandomSource + Drop, K: ClockCalls> OtlpHttpEx
     pub fn into_client(self) -> C
         ensures { result ≡ self.client }
     {
-        let Link { client, head: _ } = self.link;
+        let OtlpHttpExporter {
+            alloc: _,
+            link,
+            outbox: _,
+            tally: _,
+            pause: _,
+            resource: _,
+            max_body: _,
+            is_shut_down: _,
+            accepted: _,
+        } = self;
+        let Link { client, head: _ } = link;
         client
     }
 

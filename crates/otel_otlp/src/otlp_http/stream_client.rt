@@ -60,12 +60,23 @@ const LIMITS: Limits = Limits {
 ///
 /// Contracts see the requests that it was asked to send, the reader, the writer, the bytes that
 /// the reader gave past the last response, and whether another request can be sent.
-#[derive(Drop)]
 pub struct StreamClient<R, W> {
     source: Source<R>,
     writer: W,
     is_open: bool,
     sent: Accepted<Request<Vec<u8>>>,
+}
+
+// Written out, so that a caller's proof has one call here, and not the drops of all parts.
+impl<R: Drop, W: Drop> Drop for StreamClient<R, W> {
+    fn drop(self) {
+        let StreamClient {
+            source: _,
+            writer: _,
+            is_open: _,
+            sent: _,
+        } = self;
+    }
 }
 
 impl<R, W> Model for StreamClient<R, W> {

@@ -22,10 +22,19 @@ use std::marker::Model;
 /// refuses.
 ///
 /// Contracts see the list of their names. See [`EnvConfig::propagator`](crate::EnvConfig).
-#[derive(Drop)]
 pub struct ConfiguredPropagator {
     members: Vec<Member>,
     fields: IndexSet<String>,
+}
+
+// Written out, so that a caller's proof has one call here, and not the drops of all parts.
+impl Drop for ConfiguredPropagator {
+    fn drop(self) {
+        let ConfiguredPropagator {
+            members: _,
+            fields: _,
+        } = self;
+    }
 }
 
 impl Model for ConfiguredPropagator {

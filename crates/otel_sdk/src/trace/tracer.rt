@@ -119,10 +119,19 @@ impl<P: Pipeline> Tracer for SdkTracer<P> {
 /// parent, and the provider counts it.
 ///
 /// See [`crate::trace::SdkTracerProvider`].
-#[derive(Drop)]
 pub struct TracerPipeline<S, G, C> {
     pub(crate) provider: Rc<TracerProviderInner<S, G, C>>,
     pub(crate) scope: Rc<InstrumentationScope>,
+}
+
+// Written out, so that a caller's proof has one call here, and not the drops of all parts.
+impl<S: Drop, G: Drop, C: Drop> Drop for TracerPipeline<S, G, C> {
+    fn drop(self) {
+        let TracerPipeline {
+            provider: _,
+            scope: _,
+        } = self;
+    }
 }
 
 impl<S, G, C> Model for TracerPipeline<S, G, C> {
@@ -180,10 +189,19 @@ where
 /// shut down. Not in the Rust crate.
 ///
 /// [`Tracing`]: crate::trace::Tracing
-#[derive(Drop)]
 pub struct OpenPipeline<S, G, C> {
     pub(crate) config: TracerConfig<S, G, C>,
     pub(crate) scope: Rc<InstrumentationScope>,
+}
+
+// Written out, so that a caller's proof has one call here, and not the drops of all parts.
+impl<S: Drop, G: Drop, C: Drop> Drop for OpenPipeline<S, G, C> {
+    fn drop(self) {
+        let OpenPipeline {
+            config: _,
+            scope: _,
+        } = self;
+    }
 }
 
 impl<S, G, C> Model for OpenPipeline<S, G, C> {

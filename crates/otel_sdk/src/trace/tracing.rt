@@ -130,7 +130,6 @@ pub struct Attached {
 /// tracing.exit(serve);
 /// tracing.flush()
 /// ```
-#[derive(Drop)]
 pub struct Tracing<P, E: SpanExporter> {
     alloc: Global,
     tracer: SdkTracer<P>,
@@ -139,6 +138,21 @@ pub struct Tracing<P, E: SpanExporter> {
     moments: Moments,
     unrecorded: u64,
     is_disabled: bool,
+}
+
+// Written out, so that a caller's proof has one call here, and not the drops of all parts.
+impl<P: Drop, E: SpanExporter> Drop for Tracing<P, E> {
+    fn drop(self) {
+        let Tracing {
+            alloc: _,
+            tracer: _,
+            stack: _,
+            journal: _,
+            moments: _,
+            unrecorded: _,
+            is_disabled: _,
+        } = self;
+    }
 }
 
 impl<P, E: SpanExporter> Model for Tracing<P, E> {

@@ -22,10 +22,16 @@ use std::rc::Rc;
 /// ```
 /// let mut processor = BatchLogProcessor::new(alloc, exporter, config)?;
 /// ```
-#[derive(Drop)]
 pub struct BatchLogProcessor<E> {
     queue: Queue<LogData, E>,
     ghost is_reserved: { (queue_view.state queue).config.max_queue_size ≤ queue_view.capacity queue },
+}
+
+// Written out, so that a caller's proof has one call here, and not the drops of all parts.
+impl<E: Drop> Drop for BatchLogProcessor<E> {
+    fn drop(self) {
+        let BatchLogProcessor { queue: _ } = self;
+    }
 }
 
 impl<E: LogExporter> BatchLogProcessor<E> {

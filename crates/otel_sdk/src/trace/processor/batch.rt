@@ -32,9 +32,15 @@ use std::rc::Rc;
 /// live.collect(processor)?;
 /// processor.force_flush()
 /// ```
-#[derive(Drop)]
 pub struct BatchSpanProcessor<E> {
     queue: Queue<SpanData, E>,
+}
+
+// Written out, so that a caller's proof has one call here, and not the drops of all parts.
+impl<E: Drop> Drop for BatchSpanProcessor<E> {
+    fn drop(self) {
+        let BatchSpanProcessor { queue: _ } = self;
+    }
 }
 
 impl<E> Model for BatchSpanProcessor<E> {

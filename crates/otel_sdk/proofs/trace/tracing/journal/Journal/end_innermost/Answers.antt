@@ -7,13 +7,13 @@ use Rattle.otel_sdk_base.specs.Export.{items_of}
 use Rattle.otel_sdk_span.specs.Span.{SpanState}
 use Rattle.otel_sdk.proofs.trace.tracing.journal.Journal.end_innermost.Goals as goal
 
-in_table : (g : _) (c : goal.After-self-1 g) → table.get c.end.new.self.spans c.in_ok-innermost.innermost.number ≡ Some c.in-Some.span.now
+in_table : (g : _) (c : goal.After-drop-self-inside g) → table.get c.end.new.self.spans c.in_ok-innermost.innermost.number ≡ Some c.in-Some.span.now
 in_table g c = ap (λ (s : SpansState SpanState). table.get s c.in_ok-innermost.innermost.number) (sym c.spans.ensures.spans)
     ∙ sym c.get.ensures ∙ (search rules)
 
-more : (g : _) (c : goal.After-self-1 g) → items_of c.and_one-self-inside.result.batches
+more : (g : _) (c : goal.After-drop-self-inside g) → items_of c.and_one.result.batches
     ≡ items_of c.self.inside.history.batches ++ found (table.get c.end.new.self.spans c.in_ok-innermost.innermost.number)
-more g c = items-one c.self.inside.history.batches c.and_one-self-inside.result.batches c.in-Some.span.now (search rules)
+more g c = items-one c.self.inside.history.batches c.and_one.result.batches c.in-Some.span.now (search rules)
     ∙ ap (λ (o : Option SpanState). items_of c.self.inside.history.batches ++ found o) (sym (in_table g c))
 
 pub invariant_of-self-in-Some : goal.invariant_of-self-in-Some
