@@ -2,7 +2,7 @@
 use crate::batches::{root, scope};
 use crate::http_texts::environment;
 use otel_otlp::pipe_exporter;
-use otel_sdk::env::EnvOtlp;
+use otel_sdk::EnvConfig;
 use otel_sdk_base::Exporter;
 use std::alloc::Global;
 use std::fs;
@@ -19,13 +19,13 @@ pub fn folder(rt: HostRuntime) -> Result<String, Fail> {
     Ok(folder)
 }
 
-// What the environment gives for spans.
-fn given(alloc: Global, endpoint: &str, headers: &str) -> Result<EnvOtlp, Fail> {
+// The configuration with this endpoint and these headers.
+fn given(alloc: Global, endpoint: &str, headers: &str) -> Result<EnvConfig, Fail> {
     let vars = [
         ("OTEL_EXPORTER_OTLP_ENDPOINT", endpoint),
         ("OTEL_EXPORTER_OTLP_HEADERS", headers),
     ];
-    Ok(environment(alloc, &vars)?.otlp_traces)
+    environment(alloc, &vars)
 }
 
 // Makes both files anew: nothing is written yet, and the response is this one.
@@ -61,8 +61,8 @@ const CUT: &str = "HTTP/1.1 200 OK\r\nContent-Length: 2\r\n\r\n{";
 fn each_request_opens_the_pipes(rt: HostRuntime) -> Result<(), Fail> {
     let alloc = rt.alloc();
     let folder = folder(rt)?;
-    let otlp = given(alloc, "http://h:4318/base", "a=1, B = x y")?;
-    let mut exporter = pipe_exporter(alloc, rt, folder.as_str(), &otlp)?;
+    let env = given(alloc, "http://h:4318/base", "a=1, B = x y")?;
+    let mut exporter = pipe_exporter(alloc, rt, folder.as_str(), &env.otlp_traces)?;
     for (number, response) in [(1, OK), (2, CUT), (3, OK)] {
         lay(rt, folder.as_str(), response)?;
         let mut batch = Vec::new(alloc);
@@ -117,8 +117,8 @@ fn a_refused_configuration_is_named(rt: HostRuntime) -> Result<(), Fail> {
         ("http://h", "a=1,Host=x", "header not allowed: Host"),
     ];
     for (endpoint, headers, wanted) in rows {
-        let otlp = given(alloc, endpoint, headers)?;
-        match pipe_exporter(alloc, rt, "/tmp", &otlp) {
+        let env = given(alloc, endpoint, headers)?;
+        match pipe_exporter(alloc, rt, "/tmp", &env.otlp_traces) {
             Ok(_) => assert!(rt; false, "{endpoint} {headers}"),
             Err(error) => {
                 let text = format!(in alloc; "{error}")?;
