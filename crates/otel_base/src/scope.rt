@@ -33,7 +33,7 @@ use std::slice::Iter;
 ///     .with_version(StringValue::from("1.0"))
 ///     .build(alloc)?;
 /// ```
-#[derive(Debug, Drop)]
+#[derive(Debug)]
 pub struct InstrumentationScope {
     name: StringValue,
     version: Option<StringValue>,
@@ -42,6 +42,19 @@ pub struct InstrumentationScope {
     // The positions of the attributes, sorted by key. Attributes with the same key keep their
     // order.
     positions: Vec<usize>,
+}
+
+// Written out, so that a caller's proof has one call here, and not the drops of all parts.
+impl Drop for InstrumentationScope {
+    fn drop(self) {
+        let InstrumentationScope {
+            name: _,
+            version: _,
+            schema_url: _,
+            attributes: _,
+            positions: _,
+        } = self;
+    }
 }
 
 impl Model for InstrumentationScope {

@@ -23,9 +23,16 @@ enum Form {
     Shared(RcStr),
 }
 
-#[derive(Drop)]
 pub struct Text {
     form: Form,
+}
+
+// Written out, so that a caller's proof has one call here, and not the drops of all parts.
+impl Drop for Text {
+    #[inline]
+    fn drop(self) {
+        let Text { form: _ } = self;
+    }
 }
 
 impl Model for Text {
@@ -53,7 +60,8 @@ impl Text {
     pub fn into_string(self, alloc: Global) -> Result<String, AllocError>
         ensures { IfOk result (λ s. string_bytes s ≡ self) }
     {
-        match self.form {
+        let Text { form } = self;
+        match form {
             Form::Owned(text) => Ok(text),
             Form::Static(text) => String::from_str(alloc, text),
             Form::Shared(text) => String::from_str(alloc, text.as_str()),

@@ -46,11 +46,22 @@ use std::marker::Model;
 /// baggage.insert(Key::from("tenant"), StringValue::from("acme"))?;
 /// baggage.insert(Key::from("region"), StringValue::from("eu west"))?;
 /// ```
-#[derive(Debug, Drop)]
+#[derive(Debug)]
 pub struct Baggage {
     inner: Members,
     // The total bytes of all keys, values and metadata in `inner`.
     content_len: usize,
+}
+
+// Written out, so that a caller's proof has one call here, and not the drops of all parts.
+impl Drop for Baggage {
+    #[inline(always)]
+    fn drop(self) {
+        let Baggage {
+            inner: _,
+            content_len: _,
+        } = self;
+    }
 }
 
 impl Model for Baggage {

@@ -18,9 +18,15 @@ use std::marker::Model;
 /// value counts, if it is readable.
 ///
 /// Contracts see it as a finite map of texts.
-#[derive(Drop)]
 pub struct HeaderExtractor {
     texts: HashMap<String, String>,
+}
+
+// Written out, so that a caller's proof has one call here, and not the drops of all parts.
+impl Drop for HeaderExtractor {
+    fn drop(self) {
+        let HeaderExtractor { texts: _ } = self;
+    }
 }
 
 impl Model for HeaderExtractor {

@@ -29,11 +29,23 @@ enum Kept {
 /// span.set_attribute(alloc, KeyValue::new(Key::from("k"), Value::I64(1)))?;
 /// span.end(now);
 /// ```
-#[derive(Debug, Drop)]
+#[derive(Debug)]
 pub struct SdkSpan {
     kept: Kept,
     limits: SpanLimits,
     has_ended: bool,
+}
+
+// Written out, so that a caller's proof has one call here, and not the drops of all parts.
+impl Drop for SdkSpan {
+    #[inline(always)]
+    fn drop(self) {
+        let SdkSpan {
+            kept: _,
+            limits: _,
+            has_ended: _,
+        } = self;
+    }
 }
 
 impl Model for SdkSpan {
@@ -101,7 +113,12 @@ impl SdkSpan {
     pub fn into_data(self) -> Option<SpanData>
         ensures { result ≡ self.recorded }
     {
-        match self.kept {
+        let SdkSpan {
+            kept,
+            limits: _,
+            has_ended: _,
+        } = self;
+        match kept {
             Kept::Recorded(recorded) => Some(recorded),
             Kept::Context(_) => None,
         }

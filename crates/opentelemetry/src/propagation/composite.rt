@@ -21,10 +21,19 @@ use std::alloc::{AllocError, Global};
 /// members.push(Box::new(alloc, NoopTextMapPropagator::new())?)?;
 /// let composite = TextMapCompositePropagator::new(alloc, members)?;
 /// ```
-#[derive(Drop)]
 pub struct TextMapCompositePropagator {
     members: Vec<Box<dyn TextMapPropagator>>,
     fields: IndexSet<String>,
+}
+
+// Written out, so that a caller's proof has one call here, and not the drops of all parts.
+impl Drop for TextMapCompositePropagator {
+    fn drop(self) {
+        let TextMapCompositePropagator {
+            members: _,
+            fields: _,
+        } = self;
+    }
 }
 
 /// Injects with one member.

@@ -83,6 +83,8 @@ impl Tracer for NoopTracer {
     ///
     /// `AllocError` if the reference count of the trace state's pairs is at its limit, which can't
     /// happen without pairs.
+    // Inlined, since a call copies the builder.
+    #[inline(always)]
     fn build_with_context(
         &self,
         _alloc: Global,

@@ -56,6 +56,7 @@ impl Contents {
     }
 
     /// Returns the value of the entry named `key`.
+    #[inline(always)]
     pub fn get(&self, key: &str) -> Option<&AnyValue>
         ensures { option_map (λ v. tree v.now) result ≡ get self.now key.now }
     {

@@ -79,6 +79,7 @@ impl Entries {
     /// Returns the value named `key`.
     ///
     /// Compares `key` with the last name of its slot, and with the others only if they differ.
+    #[inline(always)]
     pub fn get(&self, key: &str) -> Option<&AnyValue>
         ensures { option_map (λ v. tree v.now) result ≡ map.get self.now key.now }
     {

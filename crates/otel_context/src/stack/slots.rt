@@ -10,7 +10,7 @@ ghost use Rattle.otel_context.specs.Slots.{live_of};
 mod slot_vec;
 
 use self::slot_vec::{Neighbors, SlotVec};
-use crate::context::{Context, into_shared, of_shared, replace_shared};
+use crate::context::{Context, of_shared, replace_shared};
 use std::alloc::{AllocError, Global};
 use std::marker::Model;
 
@@ -74,6 +74,8 @@ impl Slots {
     }
 
     /// Makes the position above the newest one live, and returns it. Adds a slot if it has none.
+    // Inlined, since a call copies the context.
+    #[inline(always)]
     pub fn push(&mut self, context: Context) -> Result<u16, AllocError>
         requires { newest_position (live_of self.old) < last_position }
         ensures position { IfOk result (λ position.
@@ -88,7 +90,7 @@ impl Slots {
         let newest = self.newest();
         let position = newest + 1;
         self.slots.set_live(position, newest)?;
-        let below = replace_shared(&mut self.current, into_shared(context));
+        let below = replace_shared(&mut self.current, context.into_shared());
         self.slots.cover(newest, below, position);
         self.slots.set_older(0, position);
         Ok(position)

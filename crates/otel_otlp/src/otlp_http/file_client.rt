@@ -30,13 +30,25 @@ use std::marker::Model;
 /// client may use a folder at a time.
 ///
 /// Contracts see the requests that it was asked to send, and the folder's path.
-#[derive(Drop)]
 pub struct FileClient<R> {
     alloc: Global,
     keys: RandomState,
     files: R,
     folder: String,
     sent: Accepted<Request<Vec<u8>>>,
+}
+
+// Written out, so that a caller's proof has one call here, and not the drops of all parts.
+impl<R: Drop> Drop for FileClient<R> {
+    fn drop(self) {
+        let FileClient {
+            alloc: _,
+            keys: _,
+            files: _,
+            folder: _,
+            sent: _,
+        } = self;
+    }
 }
 
 impl<R> Model for FileClient<R> {

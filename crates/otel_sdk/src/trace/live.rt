@@ -145,6 +145,8 @@ impl LiveSpans {
     ///
     /// `NumbersUsedUp` if the next number is 18446744073709551615, and otherwise `Memory` if out of
     /// memory. Nothing changes, and the error returns the span.
+    // Inlined, since a call copies the span.
+    #[inline(always)]
     pub fn start(&mut self, span: SdkSpan) -> Result<u64, SpanRefused<SdkSpan>>
         ensures number { IfOk result (λ number. number ≡ self.old.spans.next_number) }
         ensures fresh { get self.old.spans self.old.spans.next_number ≡ None }
@@ -167,6 +169,8 @@ impl LiveSpans {
     /// # Errors
     ///
     /// As for [`LiveSpans::start`]. Nothing changes, and the error returns the span.
+    // Inlined, since a call copies the span.
+    #[inline(always)]
     pub fn start_in(
         &mut self,
         stack: &ContextStack,

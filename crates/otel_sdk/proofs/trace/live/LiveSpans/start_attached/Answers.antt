@@ -4,7 +4,7 @@ use Rattle.otel_sdk.specs.Tracing.{SameSpans}
 use Rattle.otel_sdk.proofs.TracingLemmas.{same-listed, same-taken, taken-fits}
 use Rattle.otel_sdk.proofs.trace.live.LiveSpans.start_attached.Goals as goal
 
-same : (c : goal.After-drop-in-Err-push)
+same : (c : goal.After-drop)
     → SameSpans c.args.self.now (record { spans = c.take.new.self; ended = c.self-2.inside.ended.items })
 same c = same-taken c.args.self.now c.args.span c.self-2.inside.spans c.take.new.self c.self-2.inside.ended.items c.next_number-number.result
     (search rules) (search rules) (search rules) c.take.ensures.taken
