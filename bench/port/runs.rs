@@ -42,28 +42,21 @@ fn source_of(alloc: Global, size: usize) -> Result<Source, AllocError> {
     })
 }
 
-/// An attach; or, for an odd number and if there was an attach, the detach of any attach so far.
-fn event(source: &Source, drawn: usize, attaches: usize) -> Result<StackEvent, AllocError> {
-    if attaches > 0 && drawn % 2 == 1 {
-        Ok(StackEvent::Detach(drawn / 2 % attaches))
-    } else if drawn % 4 == 0 {
-        Ok(StackEvent::Attach(source.named.clone()?))
-    } else {
-        Ok(StackEvent::Attach(source.remote.clone()?))
-    }
-}
-
+/// Attaches; or, for an odd number and if there was an attach, the detach of any attach so far.
 #[inline(never)]
 fn events(source: &Source) -> Result<Vec<StackEvent>, AllocError> {
     let mut random = Random::new();
     let mut events = Vec::new(source.alloc);
     let mut attaches = 0usize;
     for _ in 0..source.size {
-        let event = event(source, random.next(), attaches)?;
-        if matches!(&event, StackEvent::Attach(_)) {
+        let drawn = random.next();
+        if attaches > 0 && drawn % 2 == 1 {
+            events.push(StackEvent::Detach(drawn / 2 % attaches))?;
+        } else {
+            let context = if drawn % 4 == 0 { &source.named } else { &source.remote };
+            events.push(StackEvent::Attach(context.clone()?))?;
             attaches = attaches.wrapping_add(1);
         }
-        events.push(event)?;
     }
     Ok(events)
 }

@@ -5,7 +5,7 @@ use opentelemetry::StringValue;
 use opentelemetry::context::{Context, ContextStack};
 use opentelemetry::trace::noop::{NoopSpan, NoopTracer};
 use opentelemetry::trace::{
-    Run, Span, SpanContext, SpanId, Spans, TraceFlags, TraceId, TraceState, Tracer,
+    Run, Span, SpanContext, SpanId, SpanRefused, Spans, TraceFlags, TraceId, TraceState, Tracer,
     mark_span_as_active,
 };
 use otel_examples::recording::{RecordingSpan, RecordingTracer};
@@ -28,7 +28,9 @@ pub fn play(task: &Task<'_>, alloc: Global) -> Result<Option<u64>, AllocError> {
         }
         "span_is_recording" => {
             let mut spans = table_of(alloc, task.size.saturating_sub(1))?;
-            let context = with_span(alloc, &Context::new(), &mut spans)?;
+            let Ok(context) = with_span(alloc, &Context::new(), &mut spans) else {
+                return Err(AllocError);
+            };
             repeat(Asking { spans, context }, task.times)
         }
         "span_mark_active" => {
@@ -132,10 +134,12 @@ pub fn take<S: Drop>(spans: &mut Spans<S>, number: u64, sum: &mut u64) {
 }
 
 #[inline(never)]
-fn with_span(alloc: Global, context: &Context, spans: &mut Table) -> Result<Context, AllocError> {
-    context
-        .with_span(alloc, spans, span_of(alloc))
-        .map_err(|_| AllocError)
+fn with_span(
+    alloc: Global,
+    context: &Context,
+    spans: &mut Table,
+) -> Result<Context, SpanRefused<RecordingSpan>> {
+    context.with_span(alloc, spans, span_of(alloc))
 }
 
 #[inline(never)]
@@ -186,7 +190,9 @@ struct IntoContext {
 impl Operation for IntoContext {
     fn once(&mut self, sum: &mut u64) -> Result<(), AllocError> {
         let number = self.spans.next_number();
-        let context = with_span(self.alloc, &self.context, &mut self.spans)?;
+        let Ok(context) = with_span(self.alloc, &self.context, &mut self.spans) else {
+            return Err(AllocError);
+        };
         add(sum, usize::from(context.has_active_span()));
         take(&mut self.spans, number, sum);
         Ok(())
