@@ -169,8 +169,6 @@ impl LiveSpans {
     /// # Errors
     ///
     /// As for [`LiveSpans::start`]. Nothing changes, and the error returns the span.
-    // Inlined, since a call copies the span.
-    #[inline(always)]
     pub fn start_in(
         &mut self,
         stack: &ContextStack,
