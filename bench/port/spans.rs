@@ -5,7 +5,7 @@ use opentelemetry::StringValue;
 use opentelemetry::context::{Context, ContextStack};
 use opentelemetry::trace::noop::{NoopSpan, NoopTracer};
 use opentelemetry::trace::{
-    Run, Span, SpanContext, SpanId, SpanRefused, Spans, TraceFlags, TraceId, TraceState, Tracer,
+    Run, Span, SpanContext, SpanId, Spans, TraceFlags, TraceId, TraceState, Tracer,
     mark_span_as_active,
 };
 use otel_examples::recording::{RecordingSpan, RecordingTracer};
@@ -28,9 +28,7 @@ pub fn play(task: &Task<'_>, alloc: Global) -> Result<Option<u64>, AllocError> {
         }
         "span_is_recording" => {
             let mut spans = table_of(alloc, task.size.saturating_sub(1))?;
-            let Ok(context) = with_span(alloc, &Context::new(), &mut spans) else {
-                return Err(AllocError);
-            };
+            let context = with_span(alloc, &Context::new(), &mut spans)?;
             repeat(Asking { spans, context }, task.times)
         }
         "span_mark_active" => {
@@ -138,8 +136,11 @@ fn with_span(
     alloc: Global,
     context: &Context,
     spans: &mut Table,
-) -> Result<Context, SpanRefused<RecordingSpan>> {
-    context.with_span(alloc, spans, span_of(alloc))
+) -> Result<Context, AllocError> {
+    match context.with_span(alloc, spans, span_of(alloc)) {
+        Ok(context) => Ok(context),
+        Err(_) => Err(AllocError),
+    }
 }
 
 #[inline(never)]
@@ -155,9 +156,9 @@ fn mark(
     spans: &mut Table,
     sum: &mut u64,
 ) -> Result<(), AllocError> {
-    let (guard, number) = mark_span_as_active(stack, spans, span_of(alloc)).map_err(
-        |_| AllocError,
-    )?;
+    let Ok((guard, number)) = mark_span_as_active(stack, spans, span_of(alloc)) else {
+        return Err(AllocError);
+    };
     drop(stack.detach(guard));
     take(spans, number, sum);
     Ok(())
@@ -174,9 +175,10 @@ fn work<T: Tracer>(
     let body = Run(|_stack: &mut ContextStack, _spans: &mut Spans<T::Span>, context: Context| {
         context.has_active_span()
     });
-    tracer
-        .in_span(alloc, stack, spans, name, body)
-        .map_err(|_| AllocError)
+    match tracer.in_span(alloc, stack, spans, name, body) {
+        Ok(ran) => Ok(ran),
+        Err(_) => Err(AllocError),
+    }
 }
 
 /// A span is inserted into the table and a context, and removed again.
@@ -190,9 +192,7 @@ struct IntoContext {
 impl Operation for IntoContext {
     fn once(&mut self, sum: &mut u64) -> Result<(), AllocError> {
         let number = self.spans.next_number();
-        let Ok(context) = with_span(self.alloc, &self.context, &mut self.spans) else {
-            return Err(AllocError);
-        };
+        let context = with_span(self.alloc, &self.context, &mut self.spans)?;
         add(sum, usize::from(context.has_active_span()));
         take(&mut self.spans, number, sum);
         Ok(())

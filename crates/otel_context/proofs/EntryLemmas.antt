@@ -137,8 +137,8 @@ find_step q es i e within is other =
     ∙ other_cut q es i within (at_read es (λ (e : Rc Entry Global). bytes_eq q e.value.key ≡ false) i e within is other)
 
 -- a slot's number
-pub slot_below : (q : List ℕ) → slot_number q < 64
-slot_below q = mod_below _ 64 (omega arith)
+pub slot_below : (q : List ℕ) → slot_number q < 128
+slot_below q = mod_below _ 128 (omega arith)
 
 first : (a b : Bool) → T (a && b) → T a
 first true b h = tt
@@ -232,7 +232,7 @@ pub find_older : (q : List ℕ) (lasts : List ℕ) (es : List (Rc Entry Global))
     → AreInSlots es → AreLasts lasts es → IsOtherAt q es (slice_index lasts (slot_number q))
     → (last < length es) × (slice_index (slots es) last ≡ s) × (find text_cmp q (pairs es) ≡ find text_cmp q (pairs (take last es)))
 find_older q lasts es s last is_slot is_last low h all other =
-    let known = subst (IsLast (slots es) (length es) s) (sym is_last) (all s (subst (λ n. n < 64) (sym is_slot) (slot_below q))) in
+    let known = subst (IsLast (slots es) (length es) s) (sym is_last) (all s (subst (λ n. n < 128) (sym is_slot) (slot_below q))) in
     let within = known.0 (omega arith) in (
       within,
       known.1 low,
@@ -267,14 +267,14 @@ find_empty q lasts es empty h all =
     omega (arith, place.0, empty))
 
 -- of no entries
-pub lasts_none : (xs : List ℕ) (s : ℕ) → s < 64 → IsLast xs 0 s (slice_index (replicate 64 255) s)
+pub lasts_none : (xs : List ℕ) (s : ℕ) → s < 128 → IsLast xs 0 s (slice_index (replicate 128 255) s)
 lasts_none xs s below =
-    subst (IsLast xs 0 s) (sym (get_or-replicate 64 s 255 0 below))
+    subst (IsLast xs 0 s) (sym (get_or-replicate 128 s 255 0 below))
     (λ h. absurd (omega (arith, h)), λ h. absurd (omega (arith, h)), λ k a is. absurd (omega (arith, a)))
 
 -- and one more
-pub lasts_more : (lasts xs : List ℕ) (i n v : ℕ) → length lasts ≡ 64 → n < 64 → v ≡ min i 254 → slice_index xs i ≡ n
-    → ((s : ℕ) → s < 64 → IsLast xs i s (slice_index lasts s)) → (s : ℕ) → s < 64 → IsLast xs (i + 1) s (slice_index (set lasts n v) s)
+pub lasts_more : (lasts xs : List ℕ) (i n v : ℕ) → length lasts ≡ 128 → n < 128 → v ≡ min i 254 → slice_index xs i ≡ n
+    → ((s : ℕ) → s < 128 → IsLast xs i s (slice_index lasts s)) → (s : ℕ) → s < 128 → IsLast xs (i + 1) s (slice_index (set lasts n v) s)
 lasts_more lasts xs i n v long within index at old s below =
     ⊎_elim
     (λ same. subst (IsLast xs (i + 1) s) (sym (ap (slice_index (set lasts n v)) same ∙ get_or-set_same lasts n v 0 (omega arith))) (

@@ -1,5 +1,5 @@
 -- Lists of slots whose numbers ascend, and the finite map of their spans.
-use Rattle.std.proofs.Common.{◌≡◌, ℕ, zero, suc, ◌+◌, ◌-◌, ◌<◌, ◌≤◌, List, [], ◌∷◌, ◌++◌, length, get_or, take, Option, Some, None, Result, Ok, Err, Bool, cond, true, false, is_some, refl, sym, ap, subst, ◌∙◌, length-append, arith, inl, inr, get_or-set_same, lt-length-set}
+use Rattle.std.proofs.Common.{◌≡◌, ℕ, zero, suc, ◌+◌, ◌-◌, ◌<◌, ◌≤◌, List, [], ◌∷◌, ◌++◌, length, get_or, take, Option, Some, None, Result, Ok, Err, Bool, cond, true, false, is_some, refl, sym, ap, subst, ◌∙◌, length-append, append-nil, arith, inl, inr, get_or-set_same, lt-length-set}
 use Rattle.std.specs.Prelude.{slice_set}
 use Rattle.std.specs.List.{filter}
 use Rattle.std.specs.Ordering.{nat_cmp, eq_by_cmp, ordering_index}
@@ -13,7 +13,7 @@ use Rattle.std.specs.Cmp.{nat_cmp_total, unsigned_tied}
 use Rattle.std.specs.FinMap as map
 use Rattle.std.proofs.lemmas.Bool.{ne_eqb, eq-eqb, cases_Bool, cases_lt, true≢false}
 use Rattle.otel_context.specs.Spans.{IsNumbered}
-use Rattle.otel_context.specs.SpanSlots.{IsIndexOf, Finds, KeepsSlots, Replaces}
+use Rattle.otel_context.specs.SpanSlots.{IsIndexOf, Finds, KeepsSlots, Replaces, TakesOut}
 use Rattle.otel_context.specs.View.{with_entry, entries_of, map_of, IsAscending}
 use Rattle.otel_context.specs.declared.span.spans.Slot.{Slot}
 use Rattle.otel_context.proofs.shared.SpansLemmas.{same_by_cmp}
@@ -293,6 +293,91 @@ module _ {S : Type 0} where
       let before : one (get_or ss i s).span ≡ 1 = ap (λ t. one t.span) (sym e) ∙ sym (ap one f) in
       let after : one w.span ≡ 0 = ap one o in
       omega (arith, before, after, set-count i ss s w at.0)
+
+  -- the slots before the last one
+  raised : (first n next : ℕ) (ss : List (Slot S)) → n ≤ next → IsAscending first ss n → IsAscending first ss next
+  raised first n next [] l a = omega (arith, l, a)
+  raised first n next (s ∷ ss) l a = (a.0, raised (s.number + 1) n next ss l a.1)
+
+  front-below : (first next : ℕ) (ss : List (Slot S)) (s : Slot S) → IsAscending first (ss ++ s ∷ []) next → IsAscending first ss s.number
+  front-below first next [] s a = a.0
+  front-below first next (t ∷ ts) s a = (a.0, front-below (t.number + 1) next ts s a.1)
+
+  last-below : (first next : ℕ) (ss : List (Slot S)) (s : Slot S) → IsAscending first (ss ++ s ∷ []) next → s.number ≤ next
+  last-below first next [] s a = omega (arith, a.1)
+  last-below first next (t ∷ ts) s a = last-below (t.number + 1) next ts s a.1
+
+  last-entries : (ss : List (Slot S)) (s : Slot S) → entries_of (ss ++ s ∷ []) ≡ entries_of ss ++ with_entry s.number s.span []
+  last-entries [] s = refl
+  last-entries (t ∷ ts) s = with_entry-append t.number t.span (entries_of ts) (with_entry s.number s.span []) (last-entries ts s)
+
+  inserted-removed : (b : Bool) (x : S) (o : Option S) → cond b None (cond b (Some x) o) ≡ cond b None o
+  inserted-removed true x o = refl
+  inserted-removed false x o = refl
+
+  remove-insert : (m : map.FinMap nat_cmp S) (n : ℕ) (x : S) → map.get m n ≡ None → map.remove (map.insert m n x) n ≡ m
+  remove-insert m n x absent = same _ _ (λ q.
+      map.get-remove nat_cmp_total (map.insert m n x) n q
+      ∙ ap (cond (eq_by_cmp nat_cmp q n) None) (map.get-insert nat_cmp_total m n x q)
+      ∙ inserted-removed (eq_by_cmp nat_cmp q n) x (map.get m q)
+      ∙ without (eq_by_cmp nat_cmp q n) (map.get m q) (λ t. ap (map.get m) (same_by_cmp q n t) ∙ absent))
+
+  last-removed : (n : ℕ) (o : Option S) (ss : List (Slot S)) → IsAscending 0 ss n
+      → map.remove (map.from_entries {R = nat_cmp} (entries_of ss ++ with_entry n o [])) n ≡ map_of ss
+  last-removed n None ss a =
+      ap (λ es. map.remove (map.from_entries {R = nat_cmp} es) n) (append-nil (entries_of ss))
+      ∙ removed-absent (map_of ss) n (get-map ss n ∙ absent_above n 0 n ss a (omega arith))
+  last-removed n (Some x) ss a =
+      ap (λ m. map.remove m n) (map.from_entries_push nat_cmp_total map.nat_cmp-IsAntisymmetric (entries_of ss) n x (absent_above n 0 n ss a (omega arith)))
+      ∙ remove-insert (map_of ss) n x (get-map ss n ∙ absent_above n 0 n ss a (omega arith))
+
+  -- taking out the span with a number: there is none
+  pub none-out : (q : ℕ) (ss : List (Slot S)) → Finds ss q None → TakesOut ss q None ss
+  none-out q ss absent = record {
+    ascends = λ next a. a;
+    count = omega arith;
+    value = absent;
+    removed = λ next a. sym (removed-absent (map_of ss) q (absent next a));
+  }
+
+  -- by writing `None`
+  pub sets-out : (q i : ℕ) (ss : List (Slot S)) (s w : Slot S) → IsIndexOf ss q (Some i) → s ≡ get_or ss i s → w.number ≡ s.number → w.span ≡ None → TakesOut ss q s.span (slice_set ss i w)
+  sets-out q i ss s w at e n o = record {
+    ascends = λ next a. set-ascends 0 next i ss s w at.0 (n ∙ ap (λ t. t.number) e) a;
+    count =
+        let before : one (get_or ss i s).span ≡ one s.span = ap (λ t. one t.span) (sym e) in
+        let after : one w.span ≡ 0 = ap one o in
+        omega (arith, before, after, set-count i ss s w at.0);
+    value = has-span q i ss s at e;
+    removed = takes-set q i ss s w at e n o;
+  }
+
+  last-slot : (front : List (Slot S)) (s d : Slot S) (i : ℕ) → i + 1 ≡ length (front ++ s ∷ []) → get_or (front ++ s ∷ []) i d ≡ s
+  last-slot [] s d zero l = refl
+  last-slot [] s d (suc i) l = absurd (omega (arith, l))
+  last-slot (t ∷ ts) s d zero l = absurd (omega (arith, l, length-append ts (s ∷ [])))
+  last-slot (t ∷ ts) s d (suc i) l = last-slot ts s d i (omega (arith, l))
+
+  -- by dropping the last slot
+  pub pops-out : (q i : ℕ) (ss front : List (Slot S)) (s : Slot S) → IsIndexOf ss q (Some i) → i + 1 ≡ length ss → ss ≡ front ++ s ∷ [] → TakesOut ss q s.span front
+  pops-out q i ss front s at l f =
+      let e : s ≡ get_or ss i s = sym (ap (λ ts. get_or ts i s) f ∙ last-slot front s s i (l ∙ ap length f)) in
+      let number : s.number ≡ q = ap (λ t. t.number) e ∙ at.1 s in
+      record {
+        ascends = λ next a.
+            let b = subst (λ l. IsAscending 0 l next) f a in
+            raised 0 s.number next front (last-below 0 next front s b) (front-below 0 next front s b);
+        count = ap (λ l. length (entries_of l)) f ∙ ap length (last-entries front s)
+            ∙ length-append (entries_of front) (with_entry s.number s.span [])
+            ∙ omega (arith, count-with_entry s.number s.span []);
+        value = has-span q i ss s at e;
+        removed = λ next a.
+            let b = front-below 0 next front s (subst (λ l. IsAscending 0 l next) f a) in
+            sym (ap (λ k. map.remove (map_of ss) k) (sym number)
+            ∙ ap (λ l. map.remove (map_of l) s.number) f
+            ∙ ap (λ es. map.remove (map.from_entries {R = nat_cmp} es) s.number) (last-entries front s)
+            ∙ last-removed s.number s.span front b);
+      }
 
   -- each span has a number below the next one
   pub fresh : (next : ℕ) (ss : List (Slot S)) → IsAscending 0 ss next → map.get (map_of ss) next ≡ None

@@ -1,10 +1,11 @@
 -- The slots of a span table: what the private calls on them find and lend. No public contract cites
 -- this file.
-use Rattle.std.specs.Prelude.{◌≡◌, ℕ, ◌<◌, List, Option, Some, None, is_some, Vec, length}
+use Rattle.std.specs.Prelude.{◌≡◌, ℕ, ◌+◌, ◌<◌, List, Option, Some, None, is_some, Vec, length}
+use Rattle.std.specs.Prelude.{if◌then◌else◌}
 use Rattle.std.specs.Borrow.{LendsSo, Fml, RattleType, MutBor}
 use Rattle.std.specs.List.{HoldsAt}
 use Rattle.std.specs.Option.{OnSome}
-use Rattle.std.specs.FinMap.{get, insert}
+use Rattle.std.specs.FinMap.{get, insert, remove}
 use Rattle.std.specs.declared.alloc.Global.{Global}
 use Rattle.std.specs.contracts.alloc.Global as global
 use Rattle.std.specs.contracts.vec.Vec as vec
@@ -34,6 +35,16 @@ module _ {S : Type 0} where
   abbrev pub Replaces : List (Slot S) → ℕ → S → List (Slot S) → Type 0
   Replaces before number span after =
       (next : ℕ) → IsAscending 0 before next → map_of after ≡ insert (map_of before) number span
+
+  -- slots after a call that takes out the span with the number, if there is one
+  pub record TakesOut (before : List (Slot S)) (number : ℕ) (out : Option S)
+      (after : List (Slot S)) : Type 0 where
+    pub value : Finds before number out
+    pub ascends : (next : ℕ) → IsAscending 0 before next → IsAscending 0 after next
+    pub count : length (entries_of before)
+        ≡ (if is_some out then 1 else 0) + length (entries_of after)
+    pub removed : (next : ℕ) → IsAscending 0 before next
+        → map_of after ≡ remove (map_of before) number
 
   -- slots after a call that keeps the spans and their numbers
   abbrev pub HasSameEntries : List (Slot S) → List (Slot S) → Type 0

@@ -30,8 +30,8 @@ pairs = map (λ e. (e.value.key, tree e.value.value))
 abbrev pub slot_number : List ℕ → ℕ
 slot_number name =
     (if nat_lt (length name) 2 then slice_index name 0
-    else 4 * (length name % 64) + slice_index name 0 + 10 * slice_index name (length name - 2)
-    + slice_index name (length name - 1)) % 64
+    else 4 * (length name % 128) + slice_index name 0 + 10 * slice_index name (length name - 2)
+    + slice_index name (length name - 1)) % 128
 
 -- the order of two lists, of bytes or of a slot and bytes
 abbrev pub text_cmp : List ℕ → List ℕ → Ordering
@@ -72,7 +72,7 @@ IsLast slots n s last =
 -- each slot's last entry is where the table says
 abbrev pub AreLasts : List ℕ → List (Rc Entry Global) → Type 0
 AreLasts lasts entries =
-    (s : ℕ) → s < 64 → IsLast (slots entries) (length entries) s (slice_index lasts s)
+    (s : ℕ) → s < 128 → IsLast (slots entries) (length entries) s (slice_index lasts s)
 
 -- the entry at the index has another name
 abbrev pub IsOtherAt : List ℕ → List (Rc Entry Global) → ℕ → Type 0

@@ -182,10 +182,11 @@ pub(crate) fn enter<S: Span>(
     ensures refused { IfErr result (λ refused. refused ≡ refusal spans.old span) }
 {
     let number = spans.next_number();
-    match parent.with_span(alloc, spans, span) {
-        Ok(context) => attach_span(stack, spans, number, context),
-        Err(refused) => Err(refused),
-    }
+    let context = match parent.with_span(alloc, spans, span) {
+        Ok(context) => context,
+        Err(refused) => return Err(refused),
+    };
+    attach_span(stack, spans, number, context)
 }
 
 /// Does the same with the current context as the parent, which needn't be cloned.
@@ -205,10 +206,11 @@ pub(crate) fn enter_current<S: Span>(
     ensures refused { IfErr result (λ refused. refused ≡ refusal spans.old span) }
 {
     let number = spans.next_number();
-    match stack.current().with_span(alloc, spans, span) {
-        Ok(context) => attach_span(stack, spans, number, context),
-        Err(refused) => Err(refused),
-    }
+    let context = match stack.current().with_span(alloc, spans, span) {
+        Ok(context) => context,
+        Err(refused) => return Err(refused),
+    };
+    attach_span(stack, spans, number, context)
 }
 
 /// Attaches a copy of the context of the span with the number. If out of memory, takes the span.
@@ -229,20 +231,23 @@ fn attach_span<S: Span>(
     ensures refused { IfErr result (λ refused. (get spans.old number ≡ Some refused.span)
         × (refused.cause ≡ Cause.Memory alloc_error)) }
 {
-    match attach_copy(stack, &context) {
-        Ok(position) => Ok(Entered {
-            context,
-            number,
-            position,
-        }),
+    let position = match attach_copy(stack, &context) {
+        Ok(position) => position,
         Err(error) => match spans.take(number) {
-            Some(span) => Err(SpanRefused {
-                span,
-                cause: SpanCause::Memory(error),
-            }),
+            Some(span) => {
+                return Err(SpanRefused {
+                    span,
+                    cause: SpanCause::Memory(error),
+                });
+            }
             None => unreachable!(),
         },
-    }
+    };
+    Ok(Entered {
+        context,
+        number,
+        position,
+    })
 }
 
 /// Runs the body in the context that was entered, and removes whatever is attached at its position

@@ -168,7 +168,11 @@ pub trait Tracer {
             → IsErr result × (spans.new ≡ spans.old) }
     {
         let builder = self.span_builder(name);
-        self.in_span_with_builder_and_context(alloc, stack, spans, builder, parent, f)
+        // Matched, since a result that is passed on is copied, with its room for a span.
+        match self.in_span_with_builder_and_context(alloc, stack, spans, builder, parent, f) {
+            Ok(ran) => Ok(ran),
+            Err(error) => return Err(error),
+        }
     }
 
     /// Runs a body in a span started from a builder, with the current context as its parent, as
@@ -229,6 +233,10 @@ pub trait Tracer {
             → IsErr result × (spans.new ≡ spans.old) }
     {
         let builder = self.span_builder(name);
-        self.in_span_with_builder(alloc, stack, spans, builder, f)
+        // Matched, since a result that is passed on is copied, with its room for a span.
+        match self.in_span_with_builder(alloc, stack, spans, builder, f) {
+            Ok(ran) => Ok(ran),
+            Err(error) => return Err(error),
+        }
     }
 }

@@ -15,7 +15,7 @@ use std::rc::Rc;
 
 /// The number of slots. Each name falls into one. More slots make a map larger and slower to copy;
 /// with fewer, more names share a slot.
-const SLOTS: usize = 64;
+const SLOTS: usize = 128;
 
 /// Stands for the index of a slot's last entry if the slot has none.
 const EMPTY: u8 = u8::MAX;

@@ -44,13 +44,14 @@ pub fn mark_span_as_active<S: Span>(
         Ok(context) => context,
         Err(refused) => return Err(refused),
     };
-    match stack.attach(context) {
-        Ok(guard) => Ok((guard, number)),
+    let guard = match stack.attach(context) {
+        Ok(guard) => guard,
         Err(_) => match spans.take(number) {
-            Some(span) => Err(SpanRefused::no_memory(span)),
+            Some(span) => return Err(SpanRefused::no_memory(span)),
             None => unreachable!(),
         },
-    }
+    };
+    Ok((guard, number))
 }
 
 /// Calls `f` once with a reference to the current context's span, and returns its result.

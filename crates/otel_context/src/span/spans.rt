@@ -4,7 +4,9 @@ ghost use Rattle.std.specs.Prelude.{◌≤◌, length, take as front, option_cop
 ghost use Rattle.std.specs.Option.{option_copied_mut};
 ghost use Rattle.std.specs.Borrow.{sem};
 ghost use Rattle.otel_context.specs.SpanSlots.{Finds, IsIndexOf, HasSameEntries};
-ghost use Rattle.otel_context.specs.SpanSlots.{LendsOwn, LendsSlot};
+ghost use Rattle.otel_context.specs.SpanSlots.{LendsOwn, LendsSlot, TakesOut};
+
+mod with_span;
 
 use std::alloc::{AllocError, Global};
 use std::error::Error;
@@ -263,13 +265,32 @@ impl<S: Drop> Spans<S> {
         ensures value { result ≡ get self.old number }
         ensures taken { self.new ≡ take self.old number }
     {
-        let index = index_of(&self.slots, number)?;
-        let span = self.slots[index].span.take()?;
+        let span = take_out(&mut self.slots, number)?;
         self.live -= 1;
+        if self.is_loose() {
+            self.tidy();
+        }
+        Some(span)
+    }
+
+    // Returns `true` if the last slot has no span, most slots have none, or there is room for many
+    // times the slots.
+    fn is_loose(&self) -> bool {
+        let len = self.slots.len();
+        if len > 0 && self.slots[len - 1].span.is_none() {
+            return true;
+        }
+        len - self.live > self.live + 8 || self.slots.capacity() / 8 > len + 8
+    }
+
+    // Drops slots that have no span, and shrinks the table.
+    #[inline(never)]
+    fn tidy(&mut self)
+        ensures { self.new ≡ self.old }
+    {
         self.drop_last();
         self.drop_taken();
         self.give_back();
-        Some(span)
     }
 
     // Drops the slots at the end that have no span.
@@ -349,6 +370,18 @@ fn span_mut<S>(slots: &mut Vec<Slot<S>>, number: u64) -> Option<&mut S>
         Some(index) => slots[index].span_mut(),
         None => None,
     }
+}
+
+// Takes out the span with the number: with its slot if that is the last one.
+#[inline(always)]
+fn take_out<S>(slots: &mut Vec<Slot<S>>, number: u64) -> Option<S>
+    ensures { TakesOut slots.old.items number result slots.new.items }
+{
+    let index = index_of(slots, number)?;
+    if index + 1 == slots.len() {
+        return slots.pop()?.span;
+    }
+    slots[index].span.take()
 }
 
 // Returns the length without the slots at the end that have no span.

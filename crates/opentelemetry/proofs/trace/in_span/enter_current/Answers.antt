@@ -12,16 +12,16 @@ attach_span-requires g c =
     rw (c.in-Ok.ensures.inserted, n.number) (get-insert c.args.spans.now c.args.span) in
     record { found = ap is_some found }
 
-pub returns-in-Ok-clause-same_spans : goal.returns-in-Ok-clause-same_spans
-returns-in-Ok-clause-same_spans g c =
+pub returns-clause-same_spans : goal.returns-clause-same_spans
+returns-clause-same_spans g c =
     let n = c.next_number-number.ensures in
     let same : HasSameSpans c.args.spans.now (take c.with_span.new.spans c.next_number-number.result) =
     rw (c.in-Ok.ensures.inserted, n.number)
     (HasSameSpans-take_back c.args.spans.now c.args.span (rw n.number at n.fresh)) in
     on_err_weaker c.attach_span.result (λ taken. rw taken same) c.attach_span.ensures.taken
 
-pub returns-in-Ok-clause-refused : goal.returns-in-Ok-clause-refused
-returns-in-Ok-clause-refused g c =
+pub returns-clause-refused : goal.returns-clause-refused
+returns-clause-refused g c =
     let n = c.next_number-number.ensures in
     let found : get c.with_span.new.spans c.next_number-number.result ≡ Some c.args.span =
     rw (c.in-Ok.ensures.inserted, n.number) (get-insert c.args.spans.now c.args.span) in

@@ -14,8 +14,8 @@ pub loop-entry-preserved : goal.loop-entry-preserved
 loop-entry-preserved c =
     let i = c.loop-entry.entry-index in
     let e = c.entry-item.result in
-    let long : length (slice_set c.loop-entry.lasts c.deref.result.now.slot c.loop-entry.index) ≡ 64 = search rules in
-    let within : c.deref.result.now.slot < 64 = search rules in
+    let long : length (slice_set c.loop-entry.lasts c.deref.result.now.slot c.loop-entry.index) ≡ 128 = search rules in
+    let within : c.deref.result.now.slot < 128 = search rules in
     let slot : c.deref.result.now.slot ≡ e.value.slot = ap (λ (e : Entry). e.slot) c.deref.ensures in
     let at = slot_at c.args.items.now i e c.loop-entry-test.true ∙ sym (ap (λ (e : Rc Entry Global). e.value.slot) c.entry-item.is) ∙ sym slot in
     let next : c.if-index-lt-FAR.index ≡ min (i + 1) 254 = elim c.if-index-lt-FAR.branch [

@@ -8,5 +8,5 @@ pub invariant_of-result : goal.invariant_of-result
 invariant_of-result c = (
   subst IsRising (sym c.new.ensures.items) tt,
   subst AreInSlots (sym c.new.ensures.items) (All-nil InSlot),
-  subst (AreLasts (replicate 64 255)) (sym c.new.ensures.items) (lasts_none []),
+  subst (AreLasts (replicate 128 255)) (sym c.new.ensures.items) (lasts_none []),
 )
