@@ -162,16 +162,17 @@ fn pair_at(text: &str, at: usize, place: Place) -> (&str, &str, usize)
     (&text[at..equals], &text[equals + 1..end], end)
 }
 
-/// Returns the value of the first pair with the key. Keys of another length are skipped without a
-/// comparison.
+/// Returns the value of the first pair with the key. Keys of another length, or with another last
+/// byte, are skipped without a comparison.
 fn value_of<'a>(text: &'a str, places: &[Place], key: &str) -> Option<&'a str>
     requires { IsLeft places.now text.now }
     ensures { option_copied result ≡ get (cut places.now text.now) key.now }
 {
+    let last = key.as_bytes().last();
     let mut at = 0;
     for place in places {
         let length = place.key as usize;
-        if length == key.len() {
+        if length == key.len() && text.as_bytes()[at..at + length].last() == last {
             let (name, value, _) = pair_at(text, at, *place);
             if name == key {
                 return Some(value);
