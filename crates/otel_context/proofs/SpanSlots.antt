@@ -1,5 +1,5 @@
 -- Lists of slots whose numbers ascend, and the finite map of their spans.
-use Rattle.std.proofs.Common.{◌≡◌, ℕ, zero, suc, ◌+◌, ◌-◌, ◌<◌, ◌≤◌, List, [], ◌∷◌, ◌++◌, length, get_or, take, Option, Some, None, Result, Ok, Err, Bool, cond, true, false, is_some, refl, sym, ap, subst, ◌∙◌, length-append, append-nil, arith, inl, inr, get_or-set_same, lt-length-set}
+use Rattle.std.proofs.Common.{◌≡◌, ℕ, zero, suc, ◌+◌, ◌-◌, ◌<◌, ◌≤◌, List, [], ◌∷◌, ◌++◌, length, get_or, Option, Some, None, Result, Ok, Err, Bool, cond, true, false, is_some, refl, sym, ap, subst, ◌∙◌, length-append, append-nil, arith, inl, inr, get_or-set_same, lt-length-set}
 use Rattle.std.specs.Prelude.{slice_set}
 use Rattle.std.specs.List.{filter}
 use Rattle.std.specs.Ordering.{nat_cmp, eq_by_cmp, ordering_index}
@@ -139,21 +139,6 @@ module _ {S : Type 0} where
   push-entries n x [] = refl
   push-entries n x (s ∷ ss) = with_entry-append s.number s.span (entries_of ss) ((n, x) ∷ []) (push-entries n x ss)
 
-  -- the slots up to the last one with a span
-  pub front-entries : (n : ℕ) (ss : List (Slot S)) → ((k : ℕ) (d : Slot S) → n ≤ k → k < length ss → (get_or ss k d).span ≡ None) → entries_of (take n ss) ≡ entries_of ss
-  front-entries zero [] h = refl
-  front-entries (suc n) [] h = refl
-  front-entries zero (s ∷ ss) h =
-      front-entries zero ss (λ k d l m. h (suc k) d (omega arith) (omega (arith, m)))
-      ∙ sym (ap (λ o. with_entry s.number o (entries_of ss)) (h zero s (omega arith) (omega arith)))
-  front-entries (suc n) (s ∷ ss) h =
-      ap (with_entry s.number s.span) (front-entries n ss (λ k d l m. h (suc k) d (omega (arith, l)) (omega (arith, m))))
-
-  pub front-ascends : (n first next : ℕ) (ss : List (Slot S)) → IsAscending first ss next → IsAscending first (take n ss) next
-  front-ascends zero first next ss a = first_at_most first next ss a
-  front-ascends (suc n) first next [] a = a
-  front-ascends (suc n) first next (s ∷ ss) a = (a.0, front-ascends n (s.number + 1) next ss a.1)
-
   -- the slots with a span
   live-step : (s : Slot S) (o : Option S) → s.span ≡ o → (ss rest : List (Slot S)) → entries_of rest ≡ entries_of ss → entries_of (cond (is_some s.span) (s ∷ rest) rest) ≡ entries_of (s ∷ ss)
   live-step s None e ss rest h =
@@ -287,13 +272,6 @@ module _ {S : Type 0} where
       let here : w.number ≡ (get_or ss i s).number = n ∙ ap (λ t. t.number) e in
       taken next i ss s w a at.0 here o ∙ ap (map.remove (map_of ss)) (here ∙ at.1 s)
 
-  pub takes-count : (q i : ℕ) (ss : List (Slot S)) (s w : Slot S) (x : S) → IsIndexOf ss q (Some i) → s ≡ get_or ss i s → Some x ≡ s.span → w.span ≡ None
-      → length (entries_of ss) ≡ length (entries_of (slice_set ss i w)) + 1
-  takes-count q i ss s w x at e f o =
-      let before : one (get_or ss i s).span ≡ 1 = ap (λ t. one t.span) (sym e) ∙ sym (ap one f) in
-      let after : one w.span ≡ 0 = ap one o in
-      omega (arith, before, after, set-count i ss s w at.0)
-
   -- the slots before the last one
   raised : (first n next : ℕ) (ss : List (Slot S)) → n ≤ next → IsAscending first ss n → IsAscending first ss next
   raised first n next [] l a = omega (arith, l, a)
@@ -352,7 +330,7 @@ module _ {S : Type 0} where
     removed = takes-set q i ss s w at e n o;
   }
 
-  last-slot : (front : List (Slot S)) (s d : Slot S) (i : ℕ) → i + 1 ≡ length (front ++ s ∷ []) → get_or (front ++ s ∷ []) i d ≡ s
+  pub last-slot : (front : List (Slot S)) (s d : Slot S) (i : ℕ) → i + 1 ≡ length (front ++ s ∷ []) → get_or (front ++ s ∷ []) i d ≡ s
   last-slot [] s d zero l = refl
   last-slot [] s d (suc i) l = absurd (omega (arith, l))
   last-slot (t ∷ ts) s d zero l = absurd (omega (arith, l, length-append ts (s ∷ [])))

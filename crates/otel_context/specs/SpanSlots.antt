@@ -46,11 +46,6 @@ module _ {S : Type 0} where
     pub removed : (next : ℕ) → IsAscending 0 before next
         → map_of after ≡ remove (map_of before) number
 
-  -- slots after a call that keeps the spans and their numbers
-  abbrev pub HasSameEntries : List (Slot S) → List (Slot S) → Type 0
-  HasSameEntries before after = ((next : ℕ) → IsAscending 0 before next → IsAscending 0 after next)
-      × (entries_of after ≡ entries_of before)
-
 -- once the borrow ends, the slot has the span left behind it; for `None` it is unchanged
 abbrev pub LendsOwn : (S : RattleType) → MutBor (Slot S.Denot) → Option (MutBor S.Denot) → Fml
 LendsOwn S slot lent = LendsSo (the_row S) S slot lent

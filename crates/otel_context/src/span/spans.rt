@@ -1,10 +1,10 @@
 //! The table of spans, to which contexts refer by number.
 ghost use Rattle.std.specs.Prelude.{◌≡◌, ◌↔◌, IsTrue, IsErr, OnOk, OnErr, IfOk, IfErr, None, Some};
-ghost use Rattle.std.specs.Prelude.{◌≤◌, length, take as front, option_copied, alloc_error};
+ghost use Rattle.std.specs.Prelude.{length, option_copied, alloc_error};
 ghost use Rattle.std.specs.Option.{option_copied_mut};
 ghost use Rattle.std.specs.Borrow.{sem};
-ghost use Rattle.otel_context.specs.SpanSlots.{Finds, IsIndexOf, HasSameEntries};
-ghost use Rattle.otel_context.specs.SpanSlots.{LendsOwn, LendsSlot, TakesOut};
+ghost use Rattle.otel_context.specs.SpanSlots.{Finds, IsIndexOf, LendsOwn, LendsSlot, TakesOut};
+ghost use Rattle.otel_context.specs.View.{entries_of};
 
 mod with_span;
 
@@ -257,30 +257,29 @@ impl<S: Drop> Spans<S> {
 
     /// Removes the span with the given number, and returns it. The number isn't used again.
     ///
-    /// A table with room for many times the remaining spans is shrunk, or left as it is if out of
-    /// memory.
+    /// If the table has room for many times its spans, it is shrunk first, or left as it is if out
+    /// of memory.
     // Inlined, since a call copies the span.
     #[inline(always)]
     pub fn take(&mut self, number: u64) -> Option<S>
         ensures value { result ≡ get self.old number }
         ensures taken { self.new ≡ take self.old number }
     {
-        let span = take_out(&mut self.slots, number)?;
-        self.live -= 1;
-        if self.is_loose() {
+        // First, since the span is copied once more if anything is done after it is moved.
+        if self.is_sparse() || self.is_roomy() {
             self.tidy();
         }
-        Some(span)
+        take_out(&mut self.slots, &mut self.live, number)
     }
 
-    // Returns `true` if the last slot has no span, most slots have none, or there is room for many
-    // times the slots.
-    fn is_loose(&self) -> bool {
-        let len = self.slots.len();
-        if len > 0 && self.slots[len - 1].span.is_none() {
-            return true;
-        }
-        len - self.live > self.live + 8 || self.slots.capacity() / 8 > len + 8
+    // Returns `true` if most slots have no span.
+    fn is_sparse(&self) -> bool {
+        self.slots.len() / 4 > self.live + 2
+    }
+
+    // Returns `true` if there is room for many times the slots.
+    fn is_roomy(&self) -> bool {
+        self.slots.capacity() / 8 > self.slots.len() + 8
     }
 
     // Drops slots that have no span, and shrinks the table.
@@ -288,24 +287,15 @@ impl<S: Drop> Spans<S> {
     fn tidy(&mut self)
         ensures { self.new ≡ self.old }
     {
-        self.drop_last();
         self.drop_taken();
         self.give_back();
-    }
-
-    // Drops the slots at the end that have no span.
-    fn drop_last(&mut self)
-        ensures { self.new ≡ self.old }
-    {
-        let len = live_len(&self.slots);
-        self.slots.truncate(len);
     }
 
     // Drops all slots that have no span if they are many more than the others.
     fn drop_taken(&mut self)
         ensures { self.new ≡ self.old }
     {
-        if self.slots.len() - self.live > self.live + 8 {
+        if self.is_sparse() {
             self.slots.retain(|slot| slot.span.is_some());
         }
     }
@@ -314,9 +304,8 @@ impl<S: Drop> Spans<S> {
     fn give_back(&mut self)
         ensures { self.new ≡ self.old }
     {
-        let len = self.slots.len();
-        if self.slots.capacity() / 8 > len + 8 {
-            self.slots.shrink_to(2 * len);
+        if self.is_roomy() {
+            self.slots.shrink_to(2 * self.slots.len());
         }
     }
 
@@ -372,26 +361,17 @@ fn span_mut<S>(slots: &mut Vec<Slot<S>>, number: u64) -> Option<&mut S>
     }
 }
 
-// Takes out the span with the number: with its slot if that is the last one.
+// Takes out the span with the number: with its slot if that is the last one. `live` counts spans.
 #[inline(always)]
-fn take_out<S>(slots: &mut Vec<Slot<S>>, number: u64) -> Option<S>
-    ensures { TakesOut slots.old.items number result slots.new.items }
+fn take_out<S>(slots: &mut Vec<Slot<S>>, live: &mut usize, number: u64) -> Option<S>
+    requires counted { live.old ≡ length (entries_of slots.old.items) }
+    ensures taken { TakesOut slots.old.items number result slots.new.items }
+    ensures counted { live.new ≡ length (entries_of slots.new.items) }
 {
     let index = index_of(slots, number)?;
+    *live -= usize::from(slots[index].span.is_some());
     if index + 1 == slots.len() {
         return slots.pop()?.span;
     }
     slots[index].span.take()
-}
-
-// Returns the length without the slots at the end that have no span.
-fn live_len<S>(slots: &[Slot<S>]) -> usize
-    ensures bound { result ≤ length slots.now }
-    ensures entries { HasSameEntries slots.now (front result slots.now) }
-{
-    let mut len = slots.len();
-    while len > 0 && slots[len - 1].span.is_none() {
-        len -= 1;
-    }
-    len
 }

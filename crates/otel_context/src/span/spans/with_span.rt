@@ -77,8 +77,9 @@ fn prepare<S>(
     if slots.reserve(1).is_err() {
         return Err(SpanCause::Memory(AllocError));
     }
-    match context.shared_with_span(alloc, span_context, number) {
-        Ok(shared) => Ok(shared),
-        Err(error) => Err(SpanCause::Memory(error)),
-    }
+    let shared = match context.shared_with_span(alloc, span_context, number) {
+        Ok(shared) => shared,
+        Err(error) => return Err(SpanCause::Memory(error)),
+    };
+    Ok(shared)
 }
