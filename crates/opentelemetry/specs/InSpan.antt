@@ -1,5 +1,6 @@
 -- The effect of the calls that run a body in a span.
-use Rattle.std.specs.Prelude.{◌≡◌, ℕ, List, ◌++◌, codes, Option, IsSome}
+use Rattle.std.specs.Prelude.{◌≡◌, ℕ, List, ◌++◌, codes, Option, IsSome, alloc_error}
+use Rattle.otel_context.specs.declared.span.spans.SpanCause.TheVariants.{Memory}
 use Rattle.otel_context.specs.declared.span.spans.SpanRefused.{SpanRefused}
 use Rattle.otel_ids.specs.SpanContext.{SpanContextRecord}
 use Rattle.otel_context.specs.Context.{ContextRecord, with_span}
@@ -57,6 +58,14 @@ module _ {S : Type 0} where
   -- the table has a span of that number
   abbrev pub Holds : SpansState S → ℕ → Type 0
   Holds spans number = IsSome (get spans number)
+
+  -- the error for a span that was taken from the table again, out of memory
+  abbrev pub out_of_memory : S → StartError S
+  out_of_memory span = Refused (record { span = span; cause = Memory alloc_error })
+
+  -- the error for a span that the table refuses
+  abbrev pub refused_by : SpansState S → S → StartError S
+  refused_by spans span = Refused (refusal spans span)
 
   -- the span was inserted into the table, and the parent's context with that span attached
   pub record Enters (context_of : S → SpanContextRecord) (parent : ContextRecord) (span : S)

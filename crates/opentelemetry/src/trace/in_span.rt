@@ -1,11 +1,10 @@
 //! Work that runs in a span.
-ghost use Rattle.std.specs.Prelude.{◌≡◌, Some, alloc_error, IfOk, IfErr, IsErr, OnOk, OnErr};
+ghost use Rattle.std.specs.Prelude.{◌≡◌, IfSome, IfOk, IfErr, IsErr, OnErr};
 ghost use Rattle.otel_context.specs.Active.{AttachesAt};
-ghost use Rattle.otel_context.specs.Spans.{HasSameSpans, get, take, used_up, refusal};
+ghost use Rattle.otel_context.specs.Spans.{HasSameSpans, get, take, used_up};
 ghost use Rattle.otel_context.specs.Stack.{current};
-ghost use Rattle.otel_context.specs.declared.span.spans.SpanCause.TheVariants as Cause;
 ghost use Rattle.opentelemetry.specs.Closure.{CallLeaves};
-ghost use Rattle.opentelemetry.specs.InSpan.{Holds, Enters, RunsAt};
+ghost use Rattle.opentelemetry.specs.InSpan.{Holds, Enters, RunsAt, out_of_memory, refused_by};
 
 use otel_context::{Context, ContextStack, Span, SpanCause, SpanRefused, Spans};
 use std::alloc::{AllocError, Global};
@@ -162,6 +161,22 @@ fn attach_copy(stack: &mut ContextStack, context: &Context) -> Result<u16, Alloc
     }
 }
 
+// Takes the span with the number, for which there is no memory.
+#[cold]
+fn take_back<S: Span>(spans: &mut Spans<S>, number: u64, error: AllocError) -> StartError<S>
+    requires found { Holds spans.now number }
+    ensures taken { spans.new ≡ take spans.old number }
+    ensures refused { IfSome (get spans.old number) (λ span. result ≡ out_of_memory span) }
+{
+    match spans.take(number) {
+        Some(span) => StartError::Refused(SpanRefused {
+            span,
+            cause: SpanCause::Memory(error),
+        }),
+        None => unreachable!(),
+    }
+}
+
 /// Inserts the span into the table, and attaches a copy of the parent's context in which it is
 /// active.
 // Inlined, since a call copies the span.
@@ -172,21 +187,29 @@ pub(crate) fn enter<S: Span>(
     spans: &mut Spans<S>,
     parent: &Context,
     span: S,
-) -> Result<Entered, SpanRefused<S>>
+) -> Result<Entered, StartError<S>>
     ensures entered { IfOk result (λ e.
         Enters S.context_of parent.now span stack.old spans.old stack.new spans.new e) }
     ensures same_stack { OnErr result (stack.new ≡ stack.old) }
     ensures same_spans { OnErr result (HasSameSpans spans.old spans.new) }
     ensures used_up { spans.old.next_number ≡ used_up
         → IsErr result × (spans.new ≡ spans.old) }
-    ensures refused { IfErr result (λ refused. refused ≡ refusal spans.old span) }
+    ensures refused { IfErr result (λ error. error ≡ refused_by spans.old span) }
 {
     let number = spans.next_number();
     let context = match parent.with_span(alloc, spans, span) {
         Ok(context) => context,
-        Err(refused) => return Err(refused),
+        Err(refused) => return Err(StartError::Refused(refused)),
     };
-    attach_span(stack, spans, number, context)
+    let position = match attach_copy(stack, &context) {
+        Ok(position) => position,
+        Err(error) => return Err(take_back(spans, number, error)),
+    };
+    Ok(Entered {
+        context,
+        number,
+        position,
+    })
 }
 
 /// Does the same with the current context as the parent, which needn't be cloned.
@@ -196,52 +219,23 @@ pub(crate) fn enter_current<S: Span>(
     stack: &mut ContextStack,
     spans: &mut Spans<S>,
     span: S,
-) -> Result<Entered, SpanRefused<S>>
+) -> Result<Entered, StartError<S>>
     ensures entered { IfOk result (λ e. Enters S.context_of (current stack.old.live) span
         stack.old spans.old stack.new spans.new e) }
     ensures same_stack { OnErr result (stack.new ≡ stack.old) }
     ensures same_spans { OnErr result (HasSameSpans spans.old spans.new) }
     ensures used_up { spans.old.next_number ≡ used_up
         → IsErr result × (spans.new ≡ spans.old) }
-    ensures refused { IfErr result (λ refused. refused ≡ refusal spans.old span) }
+    ensures refused { IfErr result (λ error. error ≡ refused_by spans.old span) }
 {
     let number = spans.next_number();
     let context = match stack.current().with_span(alloc, spans, span) {
         Ok(context) => context,
-        Err(refused) => return Err(refused),
+        Err(refused) => return Err(StartError::Refused(refused)),
     };
-    attach_span(stack, spans, number, context)
-}
-
-/// Attaches a copy of the context of the span with the number. If out of memory, takes the span.
-#[inline(always)]
-fn attach_span<S: Span>(
-    stack: &mut ContextStack,
-    spans: &mut Spans<S>,
-    number: u64,
-    context: Context,
-) -> Result<Entered, SpanRefused<S>>
-    requires found { Holds spans.now number }
-    ensures context { IfOk result (λ e. e.context ≡ context) }
-    ensures number { IfOk result (λ e. e.number ≡ number) }
-    ensures attached { IfOk result (λ e. AttachesAt e.position context stack.old stack.new) }
-    ensures inserted { OnOk result (spans.new ≡ spans.old) }
-    ensures same_stack { OnErr result (stack.new ≡ stack.old) }
-    ensures taken { OnErr result (spans.new ≡ take spans.old number) }
-    ensures refused { IfErr result (λ refused. (get spans.old number ≡ Some refused.span)
-        × (refused.cause ≡ Cause.Memory alloc_error)) }
-{
     let position = match attach_copy(stack, &context) {
         Ok(position) => position,
-        Err(error) => match spans.take(number) {
-            Some(span) => {
-                return Err(SpanRefused {
-                    span,
-                    cause: SpanCause::Memory(error),
-                });
-            }
-            None => unreachable!(),
-        },
+        Err(error) => return Err(take_back(spans, number, error)),
     };
     Ok(Entered {
         context,

@@ -137,7 +137,7 @@ pub trait Tracer {
         };
         let entered = match enter(alloc, stack, spans, parent, span) {
             Ok(entered) => entered,
-            Err(refused) => return Err(StartError::Refused(refused)),
+            Err(error) => return Err(error),
         };
         Ok(run_entered(stack, spans, entered, f))
     }
@@ -204,7 +204,7 @@ pub trait Tracer {
         };
         let entered = match enter_current(alloc, stack, spans, span) {
             Ok(entered) => entered,
-            Err(refused) => return Err(StartError::Refused(refused)),
+            Err(error) => return Err(error),
         };
         Ok(run_entered(stack, spans, entered, f))
     }
@@ -232,11 +232,15 @@ pub trait Tracer {
         ensures used_up { spans.old.next_number ≡ used_up
             → IsErr result × (spans.new ≡ spans.old) }
     {
-        let builder = self.span_builder(name);
-        // Matched, since a result that is passed on is copied, with its room for a span.
-        match self.in_span_with_builder(alloc, stack, spans, builder, f) {
-            Ok(ran) => Ok(ran),
+        // Here too, since a result that is passed on is copied, with its room for a span.
+        let span = match self.build(alloc, self.span_builder(name), stack) {
+            Ok(span) => span,
+            Err(error) => return Err(StartError::Build(error)),
+        };
+        let entered = match enter_current(alloc, stack, spans, span) {
+            Ok(entered) => entered,
             Err(error) => return Err(error),
-        }
+        };
+        Ok(run_entered(stack, spans, entered, f))
     }
 }
