@@ -11,6 +11,9 @@ use std::alloc::{AllocError, Global};
 /// A number of spans for which a table allocates more than once.
 const MANY: u64 = 40;
 
+/// Many more spans than a table that held `MANY` has room for.
+const MOST: u64 = 10_000;
+
 /// The number of attachments of a stack, for which a new one has room.
 pub const ATTACHED: u16 = 8;
 
@@ -20,6 +23,9 @@ pub fn play<R: Print>(alloc: Global, lines: &Lines<'_, R>) {
     }
     if lines.begin("spans-looks") {
         lines.end(looks(alloc, lines));
+    }
+    if lines.begin("spans-in-turn") {
+        lines.end(in_turn(alloc, lines));
     }
     for (name, call) in CALLS {
         if lines.begin(name) {
@@ -91,6 +97,24 @@ fn looks<R: Print>(alloc: Global, lines: &Lines<'_, R>) -> Result<(), AllocError
     lines.free("Spans::take", &spans.take(0).unwrap_or(0));
     lines.free("Spans::len", &spans.len());
     lines.free("Spans::next_number", &spans.next_number());
+    Ok(())
+}
+
+/// Takes each span once the next one is inserted, beside one that stays. The room of taken spans is
+/// used again, so no insert allocates.
+fn in_turn<R: Print>(alloc: Global, lines: &Lines<'_, R>) -> Result<(), AllocError> {
+    let mut spans: Spans<u64> = Spans::new(alloc);
+    inserted(&mut spans).1?;
+    for number in 1..MANY {
+        spans.take(number);
+    }
+    let mut taken = 0;
+    for number in MANY..MOST {
+        if spans.insert(number).is_ok() && spans.take(number - 1).is_some() {
+            taken += 1;
+        }
+    }
+    lines.free("Spans::take", &taken);
     Ok(())
 }
 
