@@ -1,376 +1,530 @@
--- Lists of slots whose numbers ascend, and the finite map of their spans.
-use Rattle.std.proofs.Common.{◌≡◌, ℕ, zero, suc, ◌+◌, ◌-◌, ◌<◌, ◌≤◌, List, [], ◌∷◌, ◌++◌, length, get_or, Option, Some, None, Result, Ok, Err, Bool, cond, true, false, is_some, refl, sym, ap, subst, ◌∙◌, length-append, append-nil, arith, inl, inr, get_or-set_same, lt-length-set}
-use Rattle.std.specs.Prelude.{slice_set}
-use Rattle.std.specs.List.{filter}
-use Rattle.std.specs.Ordering.{nat_cmp, eq_by_cmp, ordering_index}
+-- Lists of slots under the numbers of an index, and the finite map of their spans.
+use Rattle.std.proofs.Common.{◌≡◌, ◌⊎◌, ℕ, zero, suc, ◌+◌, ◌<◌, List, [], ◌∷◌, ◌++◌, length, get_or, Option, Some, None, cond, is_some, refl, sym, ap, subst, ◌∙◌, length-append, arith, inl, inr, get_or-set_same}
+use Rattle.std.specs.Prelude.{slice_set, IsSome}
+use Rattle.std.specs.Prelude as list
+use Rattle.std.specs.List.{SwappedAt}
+use Rattle.std.specs.Ordering.{nat_cmp, eq_by_cmp}
 use Rattle.std.specs.Borrow.{MutBor}
-use Rattle.std.specs.Option.{OnSome}
-use Rattle.std.specs.Result.{result_ok}
-use Rattle.std.specs.List.Sorted.{IsSearchInRange, IsBinarySearchResult, IsNonDecreasingBy}
-use Rattle.std.proofs.lemmas.Cmp.{ranked}
-use Rattle.std.proofs.lemmas.Bool.Decides.{nat_tests}
-use Rattle.std.specs.Cmp.{nat_cmp_total, unsigned_tied}
+use Rattle.std.specs.Option.{OnSome, option_copied_mut, option_to_list}
+use Rattle.std.specs.Cmp.{nat_cmp_total}
 use Rattle.std.specs.FinMap as map
-use Rattle.std.proofs.lemmas.Bool.{ne_eqb, eq-eqb, cases_Bool, cases_lt, true≢false}
+use Rattle.std.proofs.Math.Seq.{get_or-append_seam}
+use Rattle.std.proofs.lemmas.Bool.{cases_Bool, cases_lt, true≢false}
+use Rattle.std.proofs.lemmas.List.{get_or_append_left, get_or_default, get_or-set_other, map-append, length-set}
 use Rattle.otel_context.specs.Spans.{IsNumbered}
-use Rattle.otel_context.specs.SpanSlots.{IsIndexOf, Finds, KeepsSlots, Replaces, TakesOut}
-use Rattle.otel_context.specs.View.{with_entry, entries_of, map_of, IsAscending}
+use Rattle.otel_context.specs.View.{map_of, spans_of, IsAscending, IsIndex}
+use Rattle.otel_context.specs.SpanPlaces.{MovesTo, TakesOut}
+use Rattle.otel_context.specs.SpanSlots.{BringsLast, IsSpanOf, KeepsNumbers, Replaces}
 use Rattle.otel_context.specs.declared.span.spans.Slot.{Slot}
+use Rattle.otel_context.specs.declared.span.spans.places.Place.{Place}
+use Rattle.otel_context.proofs.SpanPlaces.{told_apart, not_told_apart, get-map, absent_above, pushed}
+use Rattle.otel_context.proofs.SpanPlaces as places
 use Rattle.otel_context.proofs.shared.SpansLemmas.{same_by_cmp}
 
--- the order of numbers tells different ones apart, and equal ones not
-pub told_apart : (q n : ℕ) → (q ≡ n → ⊥) → eq_by_cmp nat_cmp q n ≡ false
-told_apart q n ne = unsigned_tied q n ∙ ne_eqb q n ne
+some≢none : {X : Type 0} (x : X) → Some x ≡ None → ⊥
+some≢none x e = true≢false (ap is_some e)
 
-pub not_told_apart : (n : ℕ) → eq_by_cmp nat_cmp n n ≡ true
-not_told_apart n = unsigned_tied n n ∙ eq-eqb n n refl
+number_of : Option ℕ → ℕ
+number_of None = 0
+number_of (Some k) = k
 
-higher : (a b q : ℕ) → a ≤ b → ordering_index (nat_cmp a q) ≤ ordering_index (nat_cmp b q)
-higher a b q le = grind (arith, nat_tests)
+some-injective : (j k : ℕ) → Some j ≡ Some k → j ≡ k
+unfolding number_of
+some-injective j k e = ap number_of e
+
+cases_option : (o : Option ℕ) → (o ≡ None) ⊎ ((k : ℕ) × (o ≡ Some k))
+cases_option None = inl refl
+cases_option (Some k) = inr (k, refl)
+
+nat_cases : (k i : ℕ) → (k ≡ i) ⊎ (k ≡ i → ⊥)
+nat_cases k i = elim (cases_lt k i) [
+  | inl h ↦ inr (λ e. absurd (omega (arith, h, e)))
+  | inr h ↦ elim (cases_lt i k) [
+    | inl l ↦ inr (λ e. absurd (omega (arith, l, e)))
+    | inr l ↦ inl (omega (arith, h, l))
+  ]
+]
 
 module _ {S : Type 0} where
   pub OnSome-map : (r : Option (MutBor S)) {P Q : Type 0} → (P → Q) → OnSome r P → OnSome r Q
   OnSome-map (Some x) f p = f p
   OnSome-map None f p = tt
 
-  -- 1 for a slot with a span, and else 0
-  abbrev pub one : Option S → ℕ
-  one o = cond (is_some o) 1 0
-
-  count-with_entry : (n : ℕ) (o : Option S) (es : List (ℕ × S)) → length (with_entry n o es) ≡ one o + length es
-  count-with_entry n None es = omega arith
-  count-with_entry n (Some x) es = omega arith
-
-  find-other : (q n : ℕ) (o : Option S) (es : List (ℕ × S)) → (q ≡ n → ⊥) → map.find nat_cmp q (with_entry n o es) ≡ map.find nat_cmp q es
-  find-other q n None es ne = refl
-  find-other q n (Some x) es ne = ap (λ b. cond b (Some x) (map.find nat_cmp q es)) (told_apart q n ne)
-
-  find-same : (n : ℕ) (o : Option S) (es : List (ℕ × S)) → map.find nat_cmp n es ≡ None → map.find nat_cmp n (with_entry n o es) ≡ o
-  find-same n None es absent = absent
-  find-same n (Some x) es absent = ap (λ b. cond b (Some x) (map.find nat_cmp n es)) (not_told_apart n)
-
-  find-behind : (q n : ℕ) (o : Option S) (es fs : List (ℕ × S)) → map.find nat_cmp q es ≡ map.find nat_cmp q fs
-      → map.find nat_cmp q (with_entry n o es) ≡ map.find nat_cmp q (with_entry n o fs)
-  find-behind q n None es fs e = e
-  find-behind q n (Some x) es fs e = ap (cond (eq_by_cmp nat_cmp q n) (Some x)) e
-
-  -- the first number is at most the next one, and may be lowered
-  pub first_at_most : (first next : ℕ) (ss : List (Slot S)) → IsAscending first ss next → first ≤ next
-  first_at_most first next [] a = a
-  first_at_most first next (s ∷ ss) a = omega (arith, a.0, first_at_most (s.number + 1) next ss a.1)
-
-  lowered : (low first next : ℕ) (ss : List (Slot S)) → low ≤ first → IsAscending first ss next → IsAscending low ss next
-  lowered low first next [] l a = omega (arith, l, a)
-  lowered low first next (s ∷ ss) l a = (omega (arith, l, a.0), a.1)
-
-  -- the number at an index is at least that far above the first one, and below the next one
-  pub at_least : (first next i : ℕ) (ss : List (Slot S)) (d : Slot S) → IsAscending first ss next → i < length ss → first + i ≤ (get_or ss i d).number
-  at_least first next i [] d a l = absurd (omega (arith, l))
-  at_least first next zero (s ∷ ss) d a l = omega (arith, a.0)
-  at_least first next (suc i) (s ∷ ss) d a l = omega (arith, a.0, at_least (s.number + 1) next i ss d a.1 (omega (arith, l)))
-
-  pub below_next : (first next i : ℕ) (ss : List (Slot S)) (d : Slot S) → IsAscending first ss next → i < length ss → (get_or ss i d).number < next
-  below_next first next i [] d a l = absurd (omega (arith, l))
-  below_next first next zero (s ∷ ss) d a l = omega (arith, first_at_most (s.number + 1) next ss a.1)
-  below_next first next (suc i) (s ∷ ss) d a l = below_next (s.number + 1) next i ss d a.1 (omega (arith, l))
-
-  -- numbers rise
-  pub rises : (first next i j : ℕ) (ss : List (Slot S)) (d e : Slot S) → IsAscending first ss next → i ≤ j → j < length ss → (get_or ss i d).number ≤ (get_or ss j e).number
-  rises first next i j [] d e a h l = absurd (omega (arith, l))
-  rises first next zero zero (s ∷ ss) d e a h l = omega arith
-  rises first next (suc i) zero (s ∷ ss) d e a h l = absurd (omega (arith, h))
-  rises first next zero (suc j) (s ∷ ss) d e a h l = omega (arith, at_least (s.number + 1) next j ss e a.1 (omega (arith, l)))
-  rises first next (suc i) (suc j) (s ∷ ss) d e a h l = rises (s.number + 1) next i j ss d e a.1 (omega (arith, h)) (omega (arith, l))
+  abbrev rows : List (Slot S) → List (ℕ × S)
+  rows ss = list.map (λ s. (s.number, s.span)) ss
 
   -- a number that no slot has finds nothing
-  pub absent : (q : ℕ) (ss : List (Slot S)) → ((k : ℕ) (d : Slot S) → k < length ss → (get_or ss k d).number ≡ q → ⊥) → map.find nat_cmp q (entries_of ss) ≡ None
+  absent : (q : ℕ) (ss : List (Slot S)) → ((k : ℕ) (d : Slot S) → k < length ss → (get_or ss k d).number ≡ q → ⊥) → map.find nat_cmp q (rows ss) ≡ None
   absent q [] h = refl
   absent q (s ∷ ss) h =
-      find-other q s.number s.span (entries_of ss) (λ e. h zero s (omega arith) (sym e))
+      ap (λ b. cond b (Some s.span) (map.find nat_cmp q (rows ss))) (told_apart q s.number (λ e. h zero s (omega arith) (sym e)))
       ∙ absent q ss (λ k d l. h (suc k) d (omega (arith, l)))
 
-  absent_below : (q first next : ℕ) (ss : List (Slot S)) → IsAscending first ss next → q < first → map.find nat_cmp q (entries_of ss) ≡ None
-  absent_below q first next ss a h = absent q ss (λ k d l e. absurd (omega (arith, h, e, at_least first next k ss d a l)))
+  -- a number that one slot has finds its span
+  found : (i : ℕ) (ss : List (Slot S)) (d : Slot S) → i < length ss
+      → ((k : ℕ) → k < length ss → (get_or ss k d).number ≡ (get_or ss i d).number → k ≡ i)
+      → map.find nat_cmp (get_or ss i d).number (rows ss) ≡ Some (get_or ss i d).span
+  found i [] d l one = absurd (omega (arith, l))
+  found zero (s ∷ ss) d l one = ap (λ b. cond b (Some s.span) (map.find nat_cmp s.number (rows ss))) (not_told_apart s.number)
+  found (suc i) (s ∷ ss) d l one =
+      let n = (get_or ss i d).number in
+      ap (λ b. cond b (Some s.span) (map.find nat_cmp n (rows ss))) (told_apart n s.number (λ e. absurd (omega (arith, one zero (omega arith) (sym e)))))
+      ∙ found i ss d (omega (arith, l)) (λ k m e. omega (arith, one (suc k) (omega (arith, m)) e))
 
-  pub absent_above : (q first next : ℕ) (ss : List (Slot S)) → IsAscending first ss next → next ≤ q → map.find nat_cmp q (entries_of ss) ≡ None
-  absent_above q first next ss a h = absent q ss (λ k d l e. absurd (omega (arith, h, e, below_next first next k ss d a l)))
+  get-rows : (ss : List (Slot S)) (q : ℕ) → map.get (spans_of ss) q ≡ map.find nat_cmp q (rows ss)
+  get-rows ss q = map.get-from_entries nat_cmp_total (rows ss) q
 
-  -- the number of a slot finds its span
-  pub found : (first next i : ℕ) (ss : List (Slot S)) (d : Slot S) → IsAscending first ss next → i < length ss
-      → map.find nat_cmp (get_or ss i d).number (entries_of ss) ≡ (get_or ss i d).span
-  found first next i [] d a l = absurd (omega (arith, l))
-  found first next zero (s ∷ ss) d a l = find-same s.number s.span (entries_of ss) (absent_below s.number (s.number + 1) next ss a.1 (omega arith))
-  found first next (suc i) (s ∷ ss) d a l =
-      find-other (get_or ss i d).number s.number s.span (entries_of ss) (λ e. absurd (omega (arith, e, at_least (s.number + 1) next i ss d a.1 (omega (arith, l)))))
-      ∙ found (s.number + 1) next i ss d a.1 (omega (arith, l))
+  -- the span of a number that has a slot
+  pub get-at : (ss : List (Slot S)) (m : map.FinMap nat_cmp ℕ) → IsIndex ss m → (q k : ℕ) → map.get m q ≡ Some k → (d : Slot S) → map.get (spans_of ss) q ≡ Some (get_or ss k d).span
+  get-at ss m x q k e d =
+      let at = x.only q k e in
+      get-rows ss q ∙ ap (λ n. map.find nat_cmp n (rows ss)) (sym (at.1 d))
+      ∙ found k ss d at.0 (λ j l f. some-injective j k (sym (x.has j l d) ∙ ap (map.get m) f ∙ x.has k at.0 d))
 
-  -- writing another span into a slot
-  pub set-ascends : (first next i : ℕ) (ss : List (Slot S)) (d w : Slot S) → i < length ss → w.number ≡ (get_or ss i d).number → IsAscending first ss next → IsAscending first (slice_set ss i w) next
-  set-ascends first next i [] d w l e a = absurd (omega (arith, l))
-  set-ascends first next zero (s ∷ ss) d w l e a = rw e a
-  set-ascends first next (suc i) (s ∷ ss) d w l e a = (a.0, set-ascends (s.number + 1) next i ss d w (omega (arith, l)) e a.1)
-
-  pub set-count : (i : ℕ) (ss : List (Slot S)) (d w : Slot S) → i < length ss
-      → one (get_or ss i d).span + length (entries_of (slice_set ss i w)) ≡ one w.span + length (entries_of ss)
-  set-count i [] d w l = absurd (omega (arith, l))
-  set-count zero (s ∷ ss) d w l =
-      omega (arith, count-with_entry s.number s.span (entries_of ss), count-with_entry w.number w.span (entries_of ss))
-  set-count (suc i) (s ∷ ss) d w l =
-      omega (arith, count-with_entry s.number s.span (entries_of ss), count-with_entry s.number s.span (entries_of (slice_set ss i w)), set-count i ss d w (omega (arith, l)))
-
-  set-other : (q i : ℕ) (ss : List (Slot S)) (d w : Slot S) → i < length ss → w.number ≡ (get_or ss i d).number → (q ≡ w.number → ⊥)
-      → map.find nat_cmp q (entries_of (slice_set ss i w)) ≡ map.find nat_cmp q (entries_of ss)
-  set-other q i [] d w l e ne = absurd (omega (arith, l))
-  set-other q zero (s ∷ ss) d w l e ne =
-      find-other q w.number w.span (entries_of ss) ne ∙ sym (find-other q s.number s.span (entries_of ss) (λ f. ne (f ∙ sym e)))
-  set-other q (suc i) (s ∷ ss) d w l e ne =
-      find-behind q s.number s.span (entries_of (slice_set ss i w)) (entries_of ss) (set-other q i ss d w (omega (arith, l)) e ne)
-
-  -- a slot with a higher number behind the others
-  pub push-ascends : (first n : ℕ) (o : Option S) (ss : List (Slot S)) → IsAscending first ss n → IsAscending first (ss ++ record { number = n; span = o } ∷ []) (n + 1)
-  push-ascends first n o [] a = (a, omega arith)
-  push-ascends first n o (s ∷ ss) a = (a.0, push-ascends (s.number + 1) n o ss a.1)
-
-  with_entry-append : (n : ℕ) (o : Option S) (es fs : List (ℕ × S)) {gs : List (ℕ × S)} → gs ≡ es ++ fs → with_entry n o gs ≡ with_entry n o es ++ fs
-  with_entry-append n None es fs e = e
-  with_entry-append n (Some x) es fs e = ap (λ l. (n, x) ∷ l) e
-
-  pub push-entries : (n : ℕ) (x : S) (ss : List (Slot S)) → entries_of (ss ++ record { number = n; span = Some x } ∷ []) ≡ entries_of ss ++ (n, x) ∷ []
-  push-entries n x [] = refl
-  push-entries n x (s ∷ ss) = with_entry-append s.number s.span (entries_of ss) ((n, x) ∷ []) (push-entries n x ss)
-
-  -- the slots with a span
-  live-step : (s : Slot S) (o : Option S) → s.span ≡ o → (ss rest : List (Slot S)) → entries_of rest ≡ entries_of ss → entries_of (cond (is_some s.span) (s ∷ rest) rest) ≡ entries_of (s ∷ ss)
-  live-step s None e ss rest h =
-      ap (λ p. entries_of (cond (is_some p) (s ∷ rest) rest)) e ∙ h ∙ sym (ap (λ p. with_entry s.number p (entries_of ss)) e)
-  live-step s (Some x) e ss rest h = ap (λ p. entries_of (cond (is_some p) (s ∷ rest) rest)) e ∙ ap (with_entry s.number s.span) h
-
-  pub live-entries : (ss : List (Slot S)) → entries_of (filter (λ s. is_some s.span) ss) ≡ entries_of ss
-  live-entries [] = refl
-  live-entries (s ∷ ss) = live-step s s.span refl ss (filter (λ t. is_some t.span) ss) (live-entries ss)
-
-  pub live-ascends : (first next : ℕ) (ss : List (Slot S)) → IsAscending first ss next → IsAscending first (filter (λ s. is_some s.span) ss) next
-  live-ascends first next [] a = a
-  live-ascends first next (s ∷ ss) a =
-      let rest = live-ascends (s.number + 1) next ss a.1 in
-      elim (cases_Bool (is_some s.span)) [
-        | inl t ↦ rw t (a.0, rest)
-        | inr f ↦ rw f (lowered first (s.number + 1) next (filter (λ t. is_some t.span) ss) (omega (arith, a.0)) rest)
-      ]
-
-  count-cons : (n : ℕ) (o : Option S) (es : List (ℕ × S)) (k : ℕ) → length es ≤ k → length (with_entry n o es) ≤ suc k
-  count-cons n None es k h = omega (arith, h)
-  count-cons n (Some x) es k h = omega (arith, h)
-
-  pub count_at_most : (ss : List (Slot S)) → length (entries_of ss) ≤ length ss
-  count_at_most [] = omega arith
-  count_at_most (s ∷ ss) = count-cons s.number s.span (entries_of ss) (length ss) (count_at_most ss)
-
-  -- the map of slots
-  pub get-map : (ss : List (Slot S)) (q : ℕ) → map.get (map_of ss) q ≡ map.find nat_cmp q (entries_of ss)
-  get-map ss q = map.get-from_entries nat_cmp_total (entries_of ss) q
-
-  len-with : (n : ℕ) (o : Option S) (es : List (ℕ × S)) → map.find nat_cmp n es ≡ None → map.len (map.from_entries {R = nat_cmp} es) ≡ length es
-      → map.len (map.from_entries {R = nat_cmp} (with_entry n o es)) ≡ length (with_entry n o es)
-  len-with n None es absent e = e
-  len-with n (Some x) es absent e =
-      let m = map.from_entries {R = nat_cmp} es in
-      map.len-insert nat_cmp_total m n x
-      ∙ ap (λ o. cond (is_some o) (map.len m) (map.len m + 1)) (map.get-from_entries nat_cmp_total es n ∙ absent)
-      ∙ ap (λ k. k + 1) e ∙ omega arith
-
-  pub len-map : (first next : ℕ) (ss : List (Slot S)) → IsAscending first ss next → map.len (map_of ss) ≡ length (entries_of ss)
-  len-map first next [] a = map.len-empty nat_cmp S
-  len-map first next (s ∷ ss) a =
-      len-with s.number s.span (entries_of ss) (absent_below s.number (s.number + 1) next ss a.1 (omega arith)) (len-map (s.number + 1) next ss a.1)
+  -- a number without a slot has no span
+  pub get-none : (ss : List (Slot S)) (m : map.FinMap nat_cmp ℕ) → IsIndex ss m → (q : ℕ) → map.get m q ≡ None → map.get (spans_of ss) q ≡ None
+  get-none ss m x q e = get-rows ss q ∙ absent q ss (λ k d l f. some≢none k (sym (x.has k l d) ∙ ap (map.get m) f ∙ e))
 
   same : (m n : map.FinMap nat_cmp S) → ((q : ℕ) → map.get m q ≡ map.get n q) → m ≡ n
   same = map.same_map nat_cmp_total map.nat_cmp-IsAntisymmetric
 
-  pub finds : (next i : ℕ) (ss : List (Slot S)) (d : Slot S) → IsAscending 0 ss next → i < length ss
-      → map.get (map_of ss) (get_or ss i d).number ≡ (get_or ss i d).span
-  finds next i ss d a l = get-map ss (get_or ss i d).number ∙ found 0 next i ss d a l
-
-  set-find : (next q i : ℕ) (ss : List (Slot S)) (d w : Slot S) → IsAscending 0 ss next → i < length ss → w.number ≡ (get_or ss i d).number
-      → map.find nat_cmp q (entries_of (slice_set ss i w)) ≡ cond (eq_by_cmp nat_cmp q w.number) w.span (map.find nat_cmp q (entries_of ss))
-  set-find next q i ss d w a l e =
-      let after = slice_set ss i w in
-      let at-w : map.find nat_cmp w.number (entries_of after) ≡ w.span =
-      subst (λ (s : Slot S). map.find nat_cmp s.number (entries_of after) ≡ s.span) (get_or-set_same ss i w d l)
-      (found 0 next i after d (set-ascends 0 next i ss d w l e a) (lt-length-set ss i w l)) in
-      elim (cases_Bool (eq_by_cmp nat_cmp q w.number)) [
-        | inl t ↦ ap (λ n. map.find nat_cmp n (entries_of after)) (same_by_cmp q w.number t) ∙ at-w ∙ sym (ap (λ b. cond b w.span (map.find nat_cmp q (entries_of ss))) t)
-        | inr f ↦ set-other q i ss d w l e (λ g. true≢false (sym (ap (eq_by_cmp nat_cmp q) (sym g) ∙ not_told_apart q) ∙ f))
-            ∙ sym (ap (λ b. cond b w.span (map.find nat_cmp q (entries_of ss))) f)
-      ]
-
-  pub replaced : (next i : ℕ) (ss : List (Slot S)) (d w : Slot S) (x : S) → IsAscending 0 ss next → i < length ss → w.number ≡ (get_or ss i d).number → w.span ≡ Some x
-      → map_of (slice_set ss i w) ≡ map.insert (map_of ss) w.number x
-  replaced next i ss d w x a l e o = same _ _ (λ q.
-      get-map (slice_set ss i w) q ∙ set-find next q i ss d w a l e
-      ∙ ap (λ p. cond (eq_by_cmp nat_cmp q w.number) p (map.find nat_cmp q (entries_of ss))) o
-      ∙ sym (map.get-insert nat_cmp_total (map_of ss) w.number x q ∙ ap (cond (eq_by_cmp nat_cmp q w.number) (Some x)) (get-map ss q)))
-
-  pub taken : (next i : ℕ) (ss : List (Slot S)) (d w : Slot S) → IsAscending 0 ss next → i < length ss → w.number ≡ (get_or ss i d).number → w.span ≡ None
-      → map_of (slice_set ss i w) ≡ map.remove (map_of ss) w.number
-  taken next i ss d w a l e o = same _ _ (λ q.
-      get-map (slice_set ss i w) q ∙ set-find next q i ss d w a l e
-      ∙ ap (λ p. cond (eq_by_cmp nat_cmp q w.number) p (map.find nat_cmp q (entries_of ss))) o
-      ∙ sym (map.get-remove nat_cmp_total (map_of ss) w.number q ∙ ap (cond (eq_by_cmp nat_cmp q w.number) None) (get-map ss q)))
-
-  pub pushed : (n : ℕ) (x : S) (ss : List (Slot S)) → IsAscending 0 ss n → map_of (ss ++ record { number = n; span = Some x } ∷ []) ≡ map.insert (map_of ss) n x
-  pushed n x ss a =
-      ap (map.from_entries {R = nat_cmp}) (push-entries n x ss)
-      ∙ map.from_entries_push nat_cmp_total map.nat_cmp-IsAntisymmetric (entries_of ss) n x (absent_above n 0 n ss a (omega arith))
-
-  without : (b : Bool) (o : Option S) → (b ≡ true → o ≡ None) → cond b None o ≡ o
-  without true o h = sym (h refl)
-  without false o h = refl
-
-  -- removing a number that finds nothing
-  pub removed-absent : (m : map.FinMap nat_cmp S) (n : ℕ) → map.get m n ≡ None → map.remove m n ≡ m
-  removed-absent m n absent = same _ _ (λ q.
-      map.get-remove nat_cmp_total m n q ∙ without (eq_by_cmp nat_cmp q n) (map.get m q) (λ t. ap (map.get m) (same_by_cmp q n t) ∙ absent))
-
-  pub absent-map : (q : ℕ) (ss : List (Slot S)) → ((k : ℕ) (d : Slot S) → k < length ss → (get_or ss k d).number ≡ q → ⊥) → map.get (map_of ss) q ≡ None
-  absent-map q ss h = get-map ss q ∙ absent q ss h
-
-  -- the numbers before the last one, and it, are below a higher one
-  pub absent-last : (q next : ℕ) (ss : List (Slot S)) (e : Slot S) → IsAscending 0 ss next → 0 < length ss → (get_or ss (length ss - 1) e).number < q → map.get (map_of ss) q ≡ None
-  absent-last q next ss e a n h = absent-map q ss (λ k d l f. absurd (omega (arith, f, h, rises 0 next k (length ss - 1) ss d e a (omega (arith, l)) (omega (arith, n)))))
-
-  -- a binary search ends at the number, or no slot has it
-  pub searched : (q : ℕ) (ss : List (Slot S)) (r : Result ℕ ℕ) → IsSearchInRange r (length ss) → IsBinarySearchResult (λ s. nat_cmp s.number q) ss r → IsIndexOf ss q (result_ok r)
-  searched q ss (Ok i) in_range equal = (in_range, λ d. ranked _ q _ (sym (equal d)))
-  searched q ss (Err i) in_range parted = λ next a.
-      let rise : IsNonDecreasingBy (λ s. ordering_index (nat_cmp s.number q)) ss = λ i j d h l. higher _ _ q (rises 0 next i j ss d d a h l) in
-      absent-map q ss (λ k d l e. elim (cases_lt k i) [
-        | inl h ↦ absurd (omega (arith, e, ranked _ q _ (sym ((parted rise).0 k d (omega arith) h))))
-        | inr h ↦ absurd (omega (arith, e, ranked _ q _ (sym ((parted rise).1 k d h l))))
-      ])
-
-  -- the span of a slot, and the map with another one
-  pub has-span : (q i : ℕ) (ss : List (Slot S)) (s : Slot S) → IsIndexOf ss q (Some i) → s ≡ get_or ss i s → Finds ss q s.span
-  has-span q i ss s at e = λ next a.
-      ap (map.get (map_of ss)) (sym (at.1 s)) ∙ finds next i ss s a at.0 ∙ ap (λ t. t.span) (sym e)
-
-  pub keeps-set : (q i : ℕ) (ss : List (Slot S)) (s w : Slot S) → IsIndexOf ss q (Some i) → s ≡ get_or ss i s → w.number ≡ s.number → is_some w.span ≡ is_some s.span → KeepsSlots ss (slice_set ss i w)
-  keeps-set q i ss s w at e n o = (
-    λ next a. set-ascends 0 next i ss s w at.0 (n ∙ ap (λ t. t.number) e) a,
-    let same-one : one (get_or ss i s).span ≡ one w.span = ap (λ t. one t.span) (sym e) ∙ ap (λ b. cond b 1 0) (sym o) in
-        omega (arith, same-one, set-count i ss s w at.0),
-  )
-
-  pub replaces-set : (q i : ℕ) (ss : List (Slot S)) (s w : Slot S) (x : S) → IsIndexOf ss q (Some i) → s ≡ get_or ss i s → w.number ≡ s.number → w.span ≡ Some x → Replaces ss q x (slice_set ss i w)
-  replaces-set q i ss s w x at e n o = λ next a.
-      let here : w.number ≡ (get_or ss i s).number = n ∙ ap (λ t. t.number) e in
-      replaced next i ss s w x a at.0 here o ∙ ap (λ k. map.insert (map_of ss) k x) (here ∙ at.1 s)
-
-  pub takes-set : (q i : ℕ) (ss : List (Slot S)) (s w : Slot S) → IsIndexOf ss q (Some i) → s ≡ get_or ss i s → w.number ≡ s.number → w.span ≡ None → (next : ℕ) → IsAscending 0 ss next
-      → map_of (slice_set ss i w) ≡ map.remove (map_of ss) q
-  takes-set q i ss s w at e n o next a =
-      let here : w.number ≡ (get_or ss i s).number = n ∙ ap (λ t. t.number) e in
-      taken next i ss s w a at.0 here o ∙ ap (map.remove (map_of ss)) (here ∙ at.1 s)
-
-  -- the slots before the last one
-  raised : (first n next : ℕ) (ss : List (Slot S)) → n ≤ next → IsAscending first ss n → IsAscending first ss next
-  raised first n next [] l a = omega (arith, l, a)
-  raised first n next (s ∷ ss) l a = (a.0, raised (s.number + 1) n next ss l a.1)
-
-  front-below : (first next : ℕ) (ss : List (Slot S)) (s : Slot S) → IsAscending first (ss ++ s ∷ []) next → IsAscending first ss s.number
-  front-below first next [] s a = a.0
-  front-below first next (t ∷ ts) s a = (a.0, front-below (t.number + 1) next ts s a.1)
-
-  last-below : (first next : ℕ) (ss : List (Slot S)) (s : Slot S) → IsAscending first (ss ++ s ∷ []) next → s.number ≤ next
-  last-below first next [] s a = omega (arith, a.1)
-  last-below first next (t ∷ ts) s a = last-below (t.number + 1) next ts s a.1
-
-  last-entries : (ss : List (Slot S)) (s : Slot S) → entries_of (ss ++ s ∷ []) ≡ entries_of ss ++ with_entry s.number s.span []
-  last-entries [] s = refl
-  last-entries (t ∷ ts) s = with_entry-append t.number t.span (entries_of ts) (with_entry s.number s.span []) (last-entries ts s)
-
-  inserted-removed : (b : Bool) (x : S) (o : Option S) → cond b None (cond b (Some x) o) ≡ cond b None o
-  inserted-removed true x o = refl
-  inserted-removed false x o = refl
-
-  remove-insert : (m : map.FinMap nat_cmp S) (n : ℕ) (x : S) → map.get m n ≡ None → map.remove (map.insert m n x) n ≡ m
-  remove-insert m n x absent = same _ _ (λ q.
-      map.get-remove nat_cmp_total (map.insert m n x) n q
-      ∙ ap (cond (eq_by_cmp nat_cmp q n) None) (map.get-insert nat_cmp_total m n x q)
-      ∙ inserted-removed (eq_by_cmp nat_cmp q n) x (map.get m q)
-      ∙ without (eq_by_cmp nat_cmp q n) (map.get m q) (λ t. ap (map.get m) (same_by_cmp q n t) ∙ absent))
-
-  last-removed : (n : ℕ) (o : Option S) (ss : List (Slot S)) → IsAscending 0 ss n
-      → map.remove (map.from_entries {R = nat_cmp} (entries_of ss ++ with_entry n o [])) n ≡ map_of ss
-  last-removed n None ss a =
-      ap (λ es. map.remove (map.from_entries {R = nat_cmp} es) n) (append-nil (entries_of ss))
-      ∙ removed-absent (map_of ss) n (get-map ss n ∙ absent_above n 0 n ss a (omega arith))
-  last-removed n (Some x) ss a =
-      ap (λ m. map.remove m n) (map.from_entries_push nat_cmp_total map.nat_cmp-IsAntisymmetric (entries_of ss) n x (absent_above n 0 n ss a (omega arith)))
-      ∙ remove-insert (map_of ss) n x (get-map ss n ∙ absent_above n 0 n ss a (omega arith))
-
-  -- taking out the span with a number: there is none
-  pub none-out : (q : ℕ) (ss : List (Slot S)) → Finds ss q None → TakesOut ss q None ss
-  none-out q ss absent = record {
-    ascends = λ next a. a;
-    count = omega arith;
-    value = absent;
-    removed = λ next a. sym (removed-absent (map_of ss) q (absent next a));
-  }
-
-  -- by writing `None`
-  pub sets-out : (q i : ℕ) (ss : List (Slot S)) (s w : Slot S) → IsIndexOf ss q (Some i) → s ≡ get_or ss i s → w.number ≡ s.number → w.span ≡ None → TakesOut ss q s.span (slice_set ss i w)
-  sets-out q i ss s w at e n o = record {
-    ascends = λ next a. set-ascends 0 next i ss s w at.0 (n ∙ ap (λ t. t.number) e) a;
-    count =
-        let before : one (get_or ss i s).span ≡ one s.span = ap (λ t. one t.span) (sym e) in
-        let after : one w.span ≡ 0 = ap one o in
-        omega (arith, before, after, set-count i ss s w at.0);
-    value = has-span q i ss s at e;
-    removed = takes-set q i ss s w at e n o;
-  }
-
-  pub last-slot : (front : List (Slot S)) (s d : Slot S) (i : ℕ) → i + 1 ≡ length (front ++ s ∷ []) → get_or (front ++ s ∷ []) i d ≡ s
-  last-slot [] s d zero l = refl
-  last-slot [] s d (suc i) l = absurd (omega (arith, l))
-  last-slot (t ∷ ts) s d zero l = absurd (omega (arith, l, length-append ts (s ∷ [])))
-  last-slot (t ∷ ts) s d (suc i) l = last-slot ts s d i (omega (arith, l))
-
-  -- by dropping the last slot
-  pub pops-out : (q i : ℕ) (ss front : List (Slot S)) (s : Slot S) → IsIndexOf ss q (Some i) → i + 1 ≡ length ss → ss ≡ front ++ s ∷ [] → TakesOut ss q s.span front
-  pops-out q i ss front s at l f =
-      let e : s ≡ get_or ss i s = sym (ap (λ ts. get_or ts i s) f ∙ last-slot front s s i (l ∙ ap length f)) in
-      let number : s.number ≡ q = ap (λ t. t.number) e ∙ at.1 s in
+  -- one more slot, under a new number
+  pub push-index : (ss : List (Slot S)) (m : map.FinMap nat_cmp ℕ) → IsIndex ss m → (w : Slot S) → map.get m w.number ≡ None → IsIndex (ss ++ w ∷ []) (map.insert m w.number (length ss))
+  push-index ss m x w new =
+      let n = w.number in
+      let z = length ss in
       record {
-        ascends = λ next a.
-            let b = subst (λ l. IsAscending 0 l next) f a in
-            raised 0 s.number next front (last-below 0 next front s b) (front-below 0 next front s b);
-        count = ap (λ l. length (entries_of l)) f ∙ ap length (last-entries front s)
-            ∙ length-append (entries_of front) (with_entry s.number s.span [])
-            ∙ omega (arith, count-with_entry s.number s.span []);
-        value = has-span q i ss s at e;
-        removed = λ next a.
-            let b = front-below 0 next front s (subst (λ l. IsAscending 0 l next) f a) in
-            sym (ap (λ k. map.remove (map_of ss) k) (sym number)
-            ∙ ap (λ l. map.remove (map_of l) s.number) f
-            ∙ ap (λ es. map.remove (map.from_entries {R = nat_cmp} es) s.number) (last-entries front s)
-            ∙ last-removed s.number s.span front b);
+        has = λ k l d. elim (cases_lt k z) [
+          | inl h ↦
+              let e = get_or_append_left ss (w ∷ []) d k h in
+              let ne : (get_or ss k d).number ≡ n → ⊥ = λ f. some≢none k (sym (x.has k h d) ∙ ap (map.get m) f ∙ new) in
+              ap (λ s. map.get (map.insert m n z) s.number) e ∙ map.get-insert nat_cmp_total m n z (get_or ss k d).number
+              ∙ ap (λ b. cond b (Some z) (map.get m (get_or ss k d).number)) (told_apart (get_or ss k d).number n ne) ∙ x.has k h d
+          | inr h ↦
+              let at : z ≡ k = omega (arith, h, l, length-append ss (w ∷ [])) in
+              let e : get_or (ss ++ w ∷ []) k d ≡ w = ap (λ j. get_or (ss ++ w ∷ []) j d) (sym at) ∙ get_or-append_seam ss w [] d in
+              ap (λ s. map.get (map.insert m n z) s.number) e ∙ map.get-insert nat_cmp_total m n z n
+              ∙ ap (λ b. cond b (Some z) (map.get m n)) (not_told_apart n) ∙ ap Some at
+        ];
+        only = λ q k e.
+            let f = sym (map.get-insert nat_cmp_total m n z q) ∙ e in
+            elim (cases_Bool (eq_by_cmp nat_cmp q n)) [
+              | inl t ↦
+                  let at : z ≡ k = some-injective z k (sym (ap (λ b. cond b (Some z) (map.get m q)) t) ∙ f) in (
+                    omega (arith, at, length-append ss (w ∷ [])),
+                    λ d. ap (λ j. (get_or (ss ++ w ∷ []) j d).number) (sym at) ∙ ap (λ s. s.number) (get_or-append_seam ss w [] d) ∙ sym (same_by_cmp q n t),
+                  )
+              | inr t ↦
+                  let at = x.only q k (sym (ap (λ b. cond b (Some z) (map.get m q)) t) ∙ f) in (
+                    omega (arith, at.0, length-append ss (w ∷ [])),
+                    λ d. ap (λ s. s.number) (get_or_append_left ss (w ∷ []) d k at.0) ∙ at.1 d,
+                  )
+            ];
       }
 
-  -- each span has a number below the next one
-  pub fresh : (next : ℕ) (ss : List (Slot S)) → IsAscending 0 ss next → map.get (map_of ss) next ≡ None
-  fresh next ss a = get-map ss next ∙ absent_above next 0 next ss a (omega arith)
+  pub push-spans : (ss : List (Slot S)) (m : map.FinMap nat_cmp ℕ) → IsIndex ss m → (w : Slot S) → map.get m w.number ≡ None → spans_of (ss ++ w ∷ []) ≡ map.insert (spans_of ss) w.number w.span
+  push-spans ss m x w new =
+      ap (map.from_entries {R = nat_cmp}) (map-append (λ (s : Slot S). (s.number, s.span)) ss (w ∷ []))
+      ∙ map.from_entries_push nat_cmp_total map.nat_cmp-IsAntisymmetric (rows ss) w.number w.span
+      (sym (get-rows ss w.number) ∙ get-none ss m x w.number new)
 
-  pub numbered : (next : ℕ) (ss : List (Slot S)) → IsAscending 0 ss next → IsNumbered (record { spans = map_of ss; next_number = next })
-  numbered next ss a = λ q some. elim (cases_lt q next) [
+  rebuilt : (w t : Slot S) (x : S) → w.number ≡ t.number → w.span ≡ x → w ≡ record t { span = x }
+  rebuilt w t x n o = ap (λ m. record { span = w.span; number = m }) n ∙ ap (λ y. record t { span = y }) o
+
+  -- another span in a slot
+  pub same-index : (ss ts : List (Slot S)) (m : map.FinMap nat_cmp ℕ) → IsIndex ss m → KeepsNumbers ss ts → IsIndex ts m
+  same-index ss ts m x keeps = record {
+    has = λ k l d.
+        let h : k < length ss = omega (arith, l, keeps.count) in
+        ap (map.get m) (keeps.same k d h) ∙ x.has k h d;
+    only = λ q k e.
+        let at = x.only q k e in
+        (omega (arith, at.0, keeps.count), λ d. keeps.same k d at.0 ∙ at.1 d);
+  }
+
+  pub replace-spans : (ss ts : List (Slot S)) (m : map.FinMap nat_cmp ℕ) → IsIndex ss m → KeepsNumbers ss ts → (q k : ℕ) → map.get m q ≡ Some k → (x : S) (d : Slot S) → Replaces ss (Some k) x ts
+      → spans_of ts ≡ map.insert (spans_of ss) q x
+  replace-spans ss ts m at keeps q k e x d r = same _ _ (λ p.
+      let here = at.only q k e in
+      let w : Slot S = record { span = x; number = (get_or ss k d).number } in
+      let set : ts ≡ slice_set ss k w = r d in
+      sym (map.get-insert nat_cmp_total (spans_of ss) q x p
+      ∙ elim (cases_option (map.get m p)) [
+        | inl none ↦
+            let ne : p ≡ q → ⊥ = λ f. some≢none k (sym e ∙ ap (map.get m) (sym f) ∙ none) in
+            ap (λ b. cond b (Some x) (map.get (spans_of ss) p)) (told_apart p q ne)
+            ∙ get-none ss m at p none ∙ sym (get-none ts m (same-index ss ts m at keeps) p none)
+        | inr some ↦
+            let j = some.0 in
+            let there = get-at ts m (same-index ss ts m at keeps) p j some.1 d in
+            elim (cases_Bool (eq_by_cmp nat_cmp p q)) [
+              | inl t ↦
+                  let at-k : j ≡ k = some-injective j k (sym some.1 ∙ ap (map.get m) (same_by_cmp p q t) ∙ e) in
+                  ap (λ b. cond b (Some x) (map.get (spans_of ss) p)) t
+                  ∙ sym (there ∙ ap (λ i. Some (get_or ts i d).span) at-k ∙ ap (λ l. Some (get_or l k d).span) set
+                  ∙ ap (λ s. Some s.span) (get_or-set_same ss k w d here.0))
+              | inr t ↦
+                  let ne : j ≡ k → ⊥ = λ f. true≢false (sym (not_told_apart p) ∙ ap (eq_by_cmp nat_cmp p) (sym ((at.only p j some.1).1 d) ∙ ap (λ i. (get_or ss i d).number) f ∙ here.1 d) ∙ t) in
+                  ap (λ b. cond b (Some x) (map.get (spans_of ss) p)) t
+                  ∙ get-at ss m at p j some.1 d
+                  ∙ sym (there ∙ ap (λ l. Some (get_or l j d).span) set ∙ ap (λ s. Some s.span) (get_or-set_other ss k j w d ne))
+            ]
+      ]))
+
+  pub keeps-set : (i : ℕ) (ss : List (Slot S)) (s w : Slot S) → i < length ss → s ≡ get_or ss i s → w.number ≡ s.number → KeepsNumbers ss (slice_set ss i w)
+  keeps-set i ss s w l e n = record {
+    count = length-set ss i w;
+    same = λ k d h. elim (nat_cases k i) [
+      | inl f ↦
+          ap (λ j. (get_or (slice_set ss i w) j d).number) f ∙ ap (λ t. t.number) (get_or-set_same ss i w d l) ∙ n
+          ∙ ap (λ t. t.number) (e ∙ get_or_default ss i s d l) ∙ ap (λ j. (get_or ss j d).number) (sym f)
+      | inr f ↦ ap (λ t. t.number) (get_or-set_other ss i k w d f)
+    ];
+  }
+
+  pub replaces-set : (i : ℕ) (ss : List (Slot S)) (s w : Slot S) (x : S) → i < length ss → s ≡ get_or ss i s → w.number ≡ s.number → w.span ≡ x → Replaces ss (Some i) x (slice_set ss i w)
+  replaces-set i ss s w x l e n o = λ d.
+      ap (slice_set ss i) (rebuilt w (get_or ss i d) x (n ∙ ap (λ t. t.number) (e ∙ get_or_default ss i s d l)) o)
+
+-- reads of a map after a change
+module _ {X : Type 0} where
+  inserted-same : (m : map.FinMap nat_cmp X) (n : ℕ) (v : X) → map.get (map.insert m n v) n ≡ Some v
+  inserted-same m n v = map.get-insert nat_cmp_total m n v n ∙ ap (λ b. cond b (Some v) (map.get m n)) (not_told_apart n)
+
+  inserted-other : (m : map.FinMap nat_cmp X) (n : ℕ) (v : X) (r : ℕ) → (r ≡ n → ⊥) → map.get (map.insert m n v) r ≡ map.get m r
+  inserted-other m n v r ne = map.get-insert nat_cmp_total m n v r ∙ ap (λ b. cond b (Some v) (map.get m r)) (told_apart r n ne)
+
+  removed-same : (m : map.FinMap nat_cmp X) (n : ℕ) → map.get (map.remove m n) n ≡ None
+  removed-same m n = map.get-remove nat_cmp_total m n n ∙ ap (λ b. cond b None (map.get m n)) (not_told_apart n)
+
+  removed-other : (m : map.FinMap nat_cmp X) (n r : ℕ) → (r ≡ n → ⊥) → map.get (map.remove m n) r ≡ map.get m r
+  removed-other m n r ne = map.get-remove nat_cmp_total m n r ∙ ap (λ b. cond b None (map.get m r)) (told_apart r n ne)
+
+  -- removing a number that finds nothing
+  pub removed-absent : (m : map.FinMap nat_cmp X) (n : ℕ) → map.get m n ≡ None → map.remove m n ≡ m
+  removed-absent m n absent = map.same_map nat_cmp_total map.nat_cmp-IsAntisymmetric _ _ (λ r.
+      elim (nat_cases r n) [
+        | inl e ↦ ap (map.get (map.remove m n)) e ∙ removed-same m n ∙ sym (ap (map.get m) e ∙ absent)
+        | inr f ↦ removed-other m n r f
+      ])
+
+-- an index after the slot of a number and the last one, of another number, took each other's place
+abbrev swapped_map : map.FinMap nat_cmp ℕ → ℕ → ℕ → ℕ → ℕ → map.FinMap nat_cmp ℕ
+swapped_map m q j n last = map.insert (map.insert m q last) n j
+
+-- without the number
+unswapped : (m : map.FinMap nat_cmp ℕ) (q j n last : ℕ) → (q ≡ n → ⊥) → map.remove (swapped_map m q j n last) q ≡ map.insert (map.remove m q) n j
+unswapped m q j n last ne = map.same_map nat_cmp_total map.nat_cmp-IsAntisymmetric _ _ (λ r.
+    elim (nat_cases r q) [
+      | inl e ↦
+          ap (map.get (map.remove (swapped_map m q j n last) q)) e ∙ removed-same (swapped_map m q j n last) q
+          ∙ sym (ap (map.get (map.insert (map.remove m q) n j)) e ∙ inserted-other (map.remove m q) n j q ne ∙ removed-same m q)
+      | inr f ↦
+          removed-other (swapped_map m q j n last) q r f
+          ∙ elim (nat_cases r n) [
+            | inl e ↦
+                ap (map.get (swapped_map m q j n last)) e ∙ inserted-same (map.insert m q last) n j
+                ∙ sym (ap (map.get (map.insert (map.remove m q) n j)) e ∙ inserted-same (map.remove m q) n j)
+            | inr h ↦
+                inserted-other (map.insert m q last) n j r h ∙ inserted-other m q last r f
+                ∙ sym (inserted-other (map.remove m q) n j r h ∙ removed-other m q r f)
+          ]
+    ])
+
+module _ {S : Type 0} where
+  -- the number of a slot in an index
+  number-of : (ss : List (Slot S)) (m : map.FinMap nat_cmp ℕ) → IsIndex ss m → (q k : ℕ) → map.get m q ≡ Some k → (d : Slot S) → (get_or ss k d).number ≡ q
+  number-of ss m x q k e d = (x.only q k e).1 d
+
+  -- dropping the last slot
+  pub last-index : (front : List (Slot S)) (t : Slot S) (m : map.FinMap nat_cmp ℕ) → IsIndex (front ++ t ∷ []) m → (q : ℕ) → map.get m q ≡ Some (length front) → IsIndex front (map.remove m q)
+  last-index front t m x q e =
+      let z = length front in
+      let ss = front ++ t ∷ [] in
+      let longer : length ss ≡ suc z = omega (arith, length-append front (t ∷ [])) in
+      record {
+        has = λ k l d.
+            let same-slot = get_or_append_left front (t ∷ []) d k l in
+            let n = (get_or front k d).number in
+            let there : map.get m n ≡ Some k = ap (λ s. map.get m s.number) (sym same-slot) ∙ x.has k (omega (arith, l, longer)) d in
+            removed-other m q n (λ f. absurd (omega (arith, l, some-injective k z (sym there ∙ ap (map.get m) f ∙ e)))) ∙ there;
+        only = λ r k f.
+            elim (nat_cases r q) [
+              | inl g ↦ absurd (some≢none k (sym f ∙ ap (map.get (map.remove m q)) g ∙ removed-same m q))
+              | inr g ↦
+                  let there = sym (removed-other m q r g) ∙ f in
+                  let at = x.only r k there in
+                  let below : k < z = elim (nat_cases k z) [
+                    | inl h ↦ absurd (g (sym (at.1 t) ∙ ap (λ i. (get_or ss i t).number) h ∙ number-of ss m x q z e t))
+                    | inr h ↦ elim (cases_lt k z) [
+                      | inl l ↦ l
+                      | inr l ↦ absurd (h (omega (arith, l, at.0, longer)))
+                    ]
+                  ] in
+                  (below, λ d. ap (λ s. s.number) (sym (get_or_append_left front (t ∷ []) d k below)) ∙ at.1 d)
+            ];
+      }
+
+  pub last-spans : (front : List (Slot S)) (t : Slot S) (m : map.FinMap nat_cmp ℕ) → IsIndex (front ++ t ∷ []) m → (q : ℕ) → map.get m q ≡ Some (length front) → spans_of front ≡ map.remove (spans_of (front ++ t ∷ [])) q
+  last-spans front t m x q e = same _ _ (λ r.
+      let ss = front ++ t ∷ [] in
+      let y = last-index front t m x q e in
+      elim (nat_cases r q) [
+        | inl g ↦
+            ap (map.get (spans_of front)) g ∙ get-none front (map.remove m q) y q (removed-same m q)
+            ∙ sym (ap (map.get (map.remove (spans_of ss) q)) g ∙ removed-same (spans_of ss) q)
+        | inr g ↦
+            elim (cases_option (map.get m r)) [
+              | inl none ↦ get-none front (map.remove m q) y r (removed-other m q r g ∙ none) ∙ sym (removed-other (spans_of ss) q r g ∙ get-none ss m x r none)
+              | inr some ↦
+                  let k = some.0 in
+                  let here = removed-other m q r g ∙ some.1 in
+                  get-at front (map.remove m q) y r k here t
+                  ∙ ap (λ s. Some s.span) (sym (get_or_append_left front (t ∷ []) t k (y.only r k here).0))
+                  ∙ sym (removed-other (spans_of ss) q r g ∙ get-at ss m x r k some.1 t)
+            ]
+      ])
+
+  -- the slot of a number and the last one in each other's place
+  module _ (ss ts : List (Slot S)) (m : map.FinMap nat_cmp ℕ) (x : IsIndex ss m) (q j : ℕ) (e : map.get m q ≡ Some j) (d : Slot S)
+      (last : ℕ) (l : j < last) (z : length ss ≡ suc last) (count : length ts ≡ length ss) (swapped : SwappedAt ss ts j last) where
+    abbrev n : ℕ
+    n = (get_or ss last d).number
+
+    of-last : map.get m n ≡ Some last
+    of-last = x.has last (omega (arith, z)) d
+
+    pub apart : q ≡ n → ⊥
+    apart f = absurd (omega (arith, l, some-injective j last (sym e ∙ ap (map.get m) f ∙ of-last)))
+
+    abbrev swapped_index : map.FinMap nat_cmp ℕ
+    swapped_index = swapped_map m q j n last
+
+    at-n : map.get swapped_index n ≡ Some j
+    at-n = inserted-same (map.insert m q last) n j
+
+    pub at-q : map.get swapped_index q ≡ Some last
+    at-q = inserted-other (map.insert m q last) n j q apart ∙ inserted-same m q last
+
+    at-other : (r : ℕ) → (r ≡ n → ⊥) → (r ≡ q → ⊥) → map.get swapped_index r ≡ map.get m r
+    at-other r f g = inserted-other (map.insert m q last) n j r f ∙ inserted-other m q last r g
+
+    number-j : (a : Slot S) → (get_or ts j a).number ≡ n
+    number-j a = ap (λ s. s.number) (swapped.0 a ∙ get_or_default ss last a d (omega (arith, z)))
+
+    number-last : (a : Slot S) → (get_or ts last a).number ≡ q
+    number-last a = ap (λ s. s.number) (swapped.1 a) ∙ number-of ss m x q j e a
+
+    pub swap-index : IsIndex ts swapped_index
+    swap-index = record {
+      has = λ k h a.
+          elim (nat_cases k j) [
+            | inl f ↦ ap (λ i. map.get swapped_index (get_or ts i a).number) f ∙ ap (map.get swapped_index) (number-j a) ∙ at-n ∙ ap Some (sym f)
+            | inr f ↦
+                elim (nat_cases k last) [
+                  | inl g ↦ ap (λ i. map.get swapped_index (get_or ts i a).number) g ∙ ap (map.get swapped_index) (number-last a) ∙ at-q ∙ ap Some (sym g)
+                  | inr g ↦
+                      let r = (get_or ss k a).number in
+                      let there = x.has k (omega (arith, h, count)) a in
+                      ap (λ s. map.get swapped_index s.number) (swapped.2 k a f g)
+                      ∙ at-other r (λ i. g (some-injective k last (sym there ∙ ap (map.get m) i ∙ of-last))) (λ i. f (some-injective k j (sym there ∙ ap (map.get m) i ∙ e)))
+                      ∙ there
+                ]
+          ];
+      only = λ r k h.
+          elim (nat_cases r n) [
+            | inl f ↦
+                let at : j ≡ k = some-injective j k (sym at-n ∙ ap (map.get swapped_index) (sym f) ∙ h) in
+                (omega (arith, at, l, z, count), λ a. ap (λ i. (get_or ts i a).number) (sym at) ∙ number-j a ∙ sym f)
+            | inr f ↦
+                elim (nat_cases r q) [
+                  | inl g ↦
+                      let at : last ≡ k = some-injective last k (sym at-q ∙ ap (map.get swapped_index) (sym g) ∙ h) in
+                      (omega (arith, at, z, count), λ a. ap (λ i. (get_or ts i a).number) (sym at) ∙ number-last a ∙ sym g)
+                  | inr g ↦
+                      let at = x.only r k (sym (at-other r f g) ∙ h) in (
+                        omega (arith, at.0, count),
+                        λ a. ap (λ s. s.number) (swapped.2 k a (λ i. g (sym (at.1 a) ∙ ap (λ b. (get_or ss b a).number) i ∙ number-of ss m x q j e a))
+                            (λ i. f (sym (at.1 d) ∙ ap (λ b. (get_or ss b d).number) i))) ∙ at.1 a,
+                      )
+                ]
+          ];
+    }
+
+    pub swap-spans : spans_of ts ≡ spans_of ss
+    swap-spans = same _ _ (λ r.
+        elim (nat_cases r n) [
+          | inl f ↦
+              ap (map.get (spans_of ts)) f ∙ get-at ts swapped_index swap-index n j at-n d ∙ ap (λ s. Some s.span) (swapped.0 d)
+              ∙ sym (ap (map.get (spans_of ss)) f ∙ get-at ss m x n last of-last d)
+          | inr f ↦
+              elim (nat_cases r q) [
+                | inl g ↦
+                    ap (map.get (spans_of ts)) g ∙ get-at ts swapped_index swap-index q last at-q d ∙ ap (λ s. Some s.span) (swapped.1 d)
+                    ∙ sym (ap (map.get (spans_of ss)) g ∙ get-at ss m x q j e d)
+                | inr g ↦
+                    elim (cases_option (map.get m r)) [
+                      | inl none ↦ get-none ts swapped_index swap-index r (at-other r f g ∙ none) ∙ sym (get-none ss m x r none)
+                      | inr some ↦
+                          let k = some.0 in
+                          get-at ts swapped_index swap-index r k (at-other r f g ∙ some.1) d
+                          ∙ ap (λ s. Some s.span) (swapped.2 k d (λ i. g (sym (number-of ss m x r k some.1 d) ∙ ap (λ b. (get_or ss b d).number) i ∙ number-of ss m x q j e d))
+                          (λ i. f (sym (number-of ss m x r k some.1 d) ∙ ap (λ b. (get_or ss b d).number) i)))
+                          ∙ sym (get-at ss m x r k some.1 d)
+                    ]
+              ]
+        ])
+
+  -- the first slot
+  first : (ss : List (Slot S)) {j : ℕ} → j < length ss → Slot S
+  first [] l = absurd (omega (arith, l))
+  first (s ∷ ss) l = s
+
+  -- taking out the span with a number, whose slot is dropped last
+  pub record TakenOut (ss : List (Slot S)) (q : ℕ) (rs : List Place) (front : List (Slot S)) (t : Slot S) : Type 0 where
+    pub index : IsIndex front (map_of rs)
+    pub spans : spans_of front ≡ map.remove (spans_of ss) q
+    pub value : map.get (spans_of ss) q ≡ Some t.span
+
+  module _ (ss : List (Slot S)) (ps qs rs : List Place) (next q j : ℕ) (a : IsAscending 0 ps next) (x : IsIndex ss (map_of ps)) (v : TakesOut ps q (Some j) qs)
+      (ts : List (Slot S)) (b : BringsLast ss qs j ts rs) where
+    at : map.get (map_of ps) q ≡ Some j
+    at = v.value next a
+
+    bound : j < length ss
+    bound = (x.only q j at).0
+
+    pub some-left : 0 < length ts
+    some-left = omega (arith, bound, b.count)
+
+    pub taken-ascends : IsAscending 0 rs next
+    taken-ascends = elim (cases_lt (j + 1) (length ss)) [
+      | inl l ↦ (b.moved l (first ss bound)).ascends next (v.ascends next a)
+      | inr l ↦ rw (b.last (λ h. absurd (omega (arith, l, h)))).1 (v.ascends next a)
+    ]
+
+    module _ (front : List (Slot S)) (t : Slot S) (f : ts ≡ front ++ t ∷ []) where
+      longer : length ss ≡ suc (length front)
+      longer = omega (arith, b.count, ap length f, length-append front (t ∷ []))
+
+      is-last : (j + 1 < length ss → ⊥) → TakenOut ss q rs front t
+      is-last l =
+          let is = b.last l in
+          let e : ss ≡ front ++ t ∷ [] = sym is.0 ∙ f in
+          let y : IsIndex (front ++ t ∷ []) (map_of ps) = subst (λ s. IsIndex s (map_of ps)) e x in
+          let z : map.get (map_of ps) q ≡ Some (length front) = at ∙ ap Some (elim (cases_lt (j + 1) (length ss)) [ inl h ↦ absurd (l h) | inr h ↦ omega (arith, h, bound, longer) ]) in
+          let m : map_of rs ≡ map.remove (map_of ps) q = ap map_of is.1 ∙ v.removed next a in
+          record {
+            index = rw m (last-index front t (map_of ps) y q z);
+            spans = last-spans front t (map_of ps) y q z ∙ ap (λ s. map.remove (spans_of s) q) (sym e);
+            value = get-at ss (map_of ps) x q (length front) z t ∙ ap (λ s. Some (get_or s (length front) t).span) e ∙ ap (λ s. Some s.span) (get_or-append_seam front t [] t);
+          }
+
+      before-last : j + 1 < length ss → TakenOut ss q rs front t
+      before-last l =
+          let last = length front in
+          let m = map_of ps in
+          let j-below : j < last = omega (arith, l, longer) in
+          let swapped : SwappedAt ss ts j last = subst (λ k. SwappedAt ss ts j k) (omega (arith, longer)) (b.swapped l) in
+          let n = (get_or ss last t).number in
+          let to = swapped_map m q j n last in
+          let y = swap-index ss ts m x q j at t last j-below longer b.count swapped in
+          let of-n : IsSome (map.get (map_of qs) n) =
+          ap (λ p. is_some (map.get p n)) (v.removed next a)
+          ∙ ap is_some (removed-other m q n (λ e. apart ss ts m x q j at t last j-below longer b.count swapped (sym e)) ∙ x.has last (omega (arith, longer)) t) in
+          let moved = subst (λ k. MovesTo qs (get_or ss k t).number j rs) (omega (arith, longer)) (b.moved l t) in
+          let left : map_of rs ≡ map.remove to q =
+          moved.moved next (v.ascends next a) of-n ∙ ap (λ p. map.insert p n j) (v.removed next a)
+          ∙ sym (unswapped m q j n last (apart ss ts m x q j at t last j-below longer b.count swapped)) in
+          let there : map.get to q ≡ Some last = at-q ss ts m x q j at t last j-below longer b.count swapped in
+          let z : IsIndex (front ++ t ∷ []) to = subst (λ s. IsIndex s to) f y in
+          record {
+            index = rw left (last-index front t to z q there);
+            spans = last-spans front t to z q there ∙ ap (λ s. map.remove (spans_of s) q) (sym f)
+                ∙ ap (λ p. map.remove p q) (swap-spans ss ts m x q j at t last j-below longer b.count swapped);
+            value = get-at ss m x q j at t ∙ ap (λ s. Some s.span) (sym (swapped.1 t)) ∙ ap (λ s. Some (get_or s last t).span) f
+                ∙ ap (λ s. Some s.span) (get_or-append_seam front t [] t);
+          }
+
+      pub taken-out : TakenOut ss q rs front t
+      taken-out = elim (cases_lt (j + 1) (length ss)) [
+        | inl l ↦ before-last l
+        | inr l ↦ is-last (λ h. absurd (omega (arith, l, h)))
+      ]
+
+    -- the last slot as a call returned it
+    pub discarded : (front : List (Slot S)) (o : Option (Slot S)) → ts ≡ front ++ option_to_list o → IsSome o
+        → IsIndex front (map_of rs) × (spans_of front ≡ map.remove (spans_of ss) q) × IsSome (map.get (spans_of ss) q)
+    discarded front None f some = absurd (true≢false (sym some))
+    discarded front (Some t) f some =
+        let out = taken-out front t f in
+        (out.index, out.spans, ap is_some out.value)
+
+  -- taking out a number that has no span
+  pub nothing-out : (ss : List (Slot S)) (ps qs : List Place) (next q : ℕ) → IsAscending 0 ps next → IsIndex ss (map_of ps) → TakesOut ps q None qs
+      → IsIndex ss (map_of qs) × (map.get (spans_of ss) q ≡ None) × (spans_of ss ≡ map.remove (spans_of ss) q)
+  nothing-out ss ps qs next q a x v =
+      let at = v.value next a in
+      let none = get-none ss (map_of ps) x q at in
+      (rw (v.removed next a ∙ removed-absent (map_of ps) q at) x, none, sym (removed-absent (spans_of ss) q none))
+
+  -- each span has a number below the next one
+  pub fresh : (next : ℕ) (ss : List (Slot S)) (ps : List Place) → IsAscending 0 ps next → IsIndex ss (map_of ps) → map.get (spans_of ss) next ≡ None
+  fresh next ss ps a x = get-none ss (map_of ps) x next (places.fresh next ps a)
+
+  pub numbered : (next : ℕ) (ss : List (Slot S)) (ps : List Place) → IsAscending 0 ps next → IsIndex ss (map_of ps) → IsNumbered (record { spans = spans_of ss; next_number = next })
+  numbered next ss ps a x = λ q some. elim (cases_lt q next) [
     | inl h ↦ h
-    | inr h ↦ absurd (true≢false (sym some ∙ ap is_some (get-map ss q ∙ absent_above q 0 next ss a h)))
+    | inr h ↦ absurd (true≢false (sym some ∙ ap is_some (get-none ss (map_of ps) x q (get-map ps q ∙ absent_above q 0 next ps a h))))
   ]
 
-  pub push-count : (n : ℕ) (x : S) (ss : List (Slot S)) → length (entries_of (ss ++ record { number = n; span = Some x } ∷ [])) ≡ length (entries_of ss) + 1
-  push-count n x ss = ap length (push-entries n x ss) ∙ length-append (entries_of ss) ((n, x) ∷ [])
+  -- one more span, under the next number
+  pushed-index : (next : ℕ) (ss : List (Slot S)) (ps : List Place) → IsAscending 0 ps next → IsIndex ss (map_of ps) → (s : S)
+      → IsIndex (ss ++ record { span = s; number = next } ∷ []) (map_of (ps ++ record { number = next; slot = Some (length ss) } ∷ []))
+  pushed-index next ss ps a x s = rw (pushed next (length ss) ps a) (push-index ss (map_of ps) x (record { span = s; number = next }) (places.fresh next ps a))
 
-  pub count_below : (first next : ℕ) (ss : List (Slot S)) → IsAscending first ss next → length (entries_of ss) + first ≤ next
-  count_below first next [] a = omega (arith, a)
-  count_below first next (s ∷ ss) a =
-      omega (arith, a.0, count-cons s.number s.span (entries_of ss) (length (entries_of ss)) (omega arith), count_below (s.number + 1) next ss a.1)
+  pub pushed-spans : (next : ℕ) (ss : List (Slot S)) (ps : List Place) → IsAscending 0 ps next → IsIndex ss (map_of ps) → (s : S)
+      → spans_of (ss ++ record { span = s; number = next } ∷ []) ≡ map.insert (spans_of ss) next s
+  pushed-spans next ss ps a x s = push-spans ss (map_of ps) x (record { span = s; number = next }) (places.fresh next ps a)
+
+  -- as many spans as slots
+  count-rows : (ss : List (Slot S)) → ((i j : ℕ) (d e : Slot S) → i < length ss → j < length ss → (get_or ss i d).number ≡ (get_or ss j e).number → i ≡ j) → map.len (spans_of ss) ≡ length ss
+  count-rows [] one = map.len-empty nat_cmp S
+  count-rows (s ∷ ss) one =
+      let m = spans_of ss in
+      map.len-insert nat_cmp_total m s.number s.span
+      ∙ ap (λ o. cond (is_some o) (map.len m) (map.len m + 1))
+      (get-rows ss s.number ∙ absent s.number ss (λ k d l e. absurd (omega (arith, one 0 (suc k) d d (omega arith) (omega (arith, l)) (sym e)))))
+      ∙ ap (λ k. k + 1) (count-rows ss (λ i j d e l h f. omega (arith, one (suc i) (suc j) d e (omega (arith, l)) (omega (arith, h)) f))) ∙ omega arith
+
+  pub len-spans : (ss : List (Slot S)) (m : map.FinMap nat_cmp ℕ) → IsIndex ss m → map.len (spans_of ss) ≡ length ss
+  len-spans ss m x = count-rows ss (λ i j d e l h f. some-injective i j (sym (x.has i l d) ∙ ap (map.get m) f ∙ x.has j h e))
+
+  pub pushed-both : (next n : ℕ) (ss ts : List (Slot S)) (ps rs : List Place) → IsAscending 0 ps next → IsIndex ss (map_of ps) → (s : S)
+      → ts ≡ ss ++ record { span = s; number = next } ∷ [] → rs ≡ ps ++ record { number = next; slot = Some n } ∷ [] → n ≡ length ss
+      → IsAscending 0 rs (next + 1) × IsIndex ts (map_of rs)
+  pushed-both next n ss ts ps rs a x s e f l =
+      rw (e, f, l) (places.push-ascends 0 next (Some (length ss)) ps a, pushed-index next ss ps a x s)
+
+  -- the span that is lent under a number
+  pub value-of : (ss : List (Slot S)) (m : map.FinMap nat_cmp ℕ) → IsIndex ss m → (q : ℕ) (o : Option ℕ) → map.get m q ≡ o → (out : Option S) → IsSpanOf ss o out → out ≡ map.get (spans_of ss) q
+  value-of ss m x q None e out v = v ∙ sym (get-none ss m x q e)
+  value-of ss m x q (Some k) e out v =
+      let d = first ss (x.only q k e).0 in
+      v d ∙ sym (get-at ss m x q k e d)
+
+  vacuous : (P : Type 0) (lent : Option (MutBor S)) → option_copied_mut lent ≡ None → OnSome lent P
+  vacuous P None e = tt
+  vacuous P (Some x) e = absurd (true≢false (ap is_some e))
+
+  pub replaced-lent : (ss ts : List (Slot S)) (m : map.FinMap nat_cmp ℕ) → IsIndex ss m → (q : ℕ) (o : Option ℕ) → map.get m q ≡ o → (lent : Option (MutBor S)) (y : S) → IsSpanOf ss o (option_copied_mut lent)
+      → KeepsNumbers ss ts → OnSome lent (Replaces ss o y ts) → OnSome lent (spans_of ts ≡ map.insert (spans_of ss) q y)
+  replaced-lent ss ts m x q None e lent y v keeps r = vacuous _ lent v
+  replaced-lent ss ts m x q (Some k) e lent y v keeps r =
+      OnSome-map lent (replace-spans ss ts m x keeps q k e y (first ss (x.only q k e).0)) r
+
+  pub nothing-indexed : IsIndex {S = S} [] (map_of [])
+  nothing-indexed = record {
+    has = λ k l d. absurd (omega (arith, l));
+    only = λ q k e. absurd (some≢none k (sym e ∙ get-map [] q));
+  }

@@ -5,7 +5,7 @@ use Rattle.std.specs.Prelude.{length, slice_index, All, HoldsAt, min, false, byt
 use Rattle.std.specs.declared.rc.Rc.{Rc}
 use Rattle.std.specs.declared.alloc.Global.{Global}
 use Rattle.std.specs.Coded.{Coded, code_by, coded×, coded_ℕ, coded_bool, coded_list, coded_option}
-use Rattle.std.specs.FinMap.{FinMap, code, from_entries, is_sorted}
+use Rattle.std.specs.FinMap.{FinMap, code, from_entries, get, is_sorted}
 use Rattle.std.specs.Cmp.Lexicographic.{slice_cmp}
 use Rattle.std.specs.Ordering.{nat_cmp}
 use Rattle.std.specs.declared.cmp.Ordering.{Ordering}
@@ -21,6 +21,7 @@ use Rattle.otel_context.specs.Spans.{SpansState}
 use Rattle.otel_context.specs.Stack.{Live, StackState}
 use Rattle.otel_context.specs.declared.context.entries.Entry.{Entry}
 use Rattle.otel_context.specs.declared.span.spans.Slot.{Slot}
+use Rattle.otel_context.specs.declared.span.spans.places.Place.{Place}
 
 -- each key with the tree of its value
 abbrev pub pairs : List (Rc Entry Global) → List (List ℕ × Tree)
@@ -127,25 +128,35 @@ stack_code = code_by (Live × (ℕ × ℕ))
     (λ p. record { live = p.0; accepted = p.1.0; stepped = p.1.1 })
     (λ _. refl)
 
--- an entry of that number in front, if there is a span
-abbrev pub with_entry : {S : Type 0} → ℕ → Option S → List (ℕ × S) → List (ℕ × S)
+-- an entry of that number in front, if it has a slot
+abbrev pub with_entry : ℕ → Option ℕ → List (ℕ × ℕ) → List (ℕ × ℕ)
 with_entry number None entries = entries
-with_entry number (Some span) entries = (number, span) ∷ entries
+with_entry number (Some slot) entries = (number, slot) ∷ entries
 
--- the spans in slots, with their numbers
-abbrev pub entries_of : {S : Type 0} → List (Slot S) → List (ℕ × S)
+-- the numbers that have a slot, with it
+abbrev pub entries_of : List Place → List (ℕ × ℕ)
 entries_of [] = []
-entries_of (slot ∷ slots) = with_entry slot.number slot.span (entries_of slots)
+entries_of (place ∷ places) = with_entry place.number place.slot (entries_of places)
 
--- the numbers of slots rise, from the first number to below the next one
-abbrev pub IsAscending : {S : Type 0} → ℕ → List (Slot S) → ℕ → Type 0
+-- the numbers of places rise, from the first number to below the next one
+abbrev pub IsAscending : ℕ → List Place → ℕ → Type 0
 IsAscending first [] next = first ≤ next
-IsAscending first (slot ∷ slots) next =
-    (first ≤ slot.number) × IsAscending (slot.number + 1) slots next
+IsAscending first (place ∷ places) next =
+    (first ≤ place.number) × IsAscending (place.number + 1) places next
+
+-- the slots of numbers as a finite map
+abbrev pub map_of : List Place → FinMap nat_cmp ℕ
+map_of places = from_entries (entries_of places)
 
 -- the spans in slots as a finite map
-abbrev pub map_of : {S : Type 0} → List (Slot S) → FinMap nat_cmp S
-map_of slots = from_entries (entries_of slots)
+abbrev pub spans_of : {S : Type 0} → List (Slot S) → FinMap nat_cmp S
+spans_of slots = from_entries (map (λ s. (s.number, s.span)) slots)
+
+-- the map has each slot under its number, and nothing else
+pub record IsIndex {S : Type 0} (slots : List (Slot S)) (index : FinMap nat_cmp ℕ) : Type 0 where
+  pub has : (k : ℕ) → k < length slots → HoldsAt (λ s. get index s.number ≡ Some k) slots k
+  pub only : (number k : ℕ) → get index number ≡ Some k
+      → (k < length slots) × HoldsAt (λ s. s.number ≡ number) slots k
 
 -- a code of span tables: the one of the pair of the two fields
 abbrev pub spans_code : {S : Type 0} → Coded S → Coded (SpansState S)

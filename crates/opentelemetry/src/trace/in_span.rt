@@ -150,6 +150,7 @@ pub(crate) struct Entered {
 }
 
 // Attaches a copy of the context. Returns its position, or 65535 if the greatest position is live.
+#[inline(always)]
 fn attach_copy(stack: &mut ContextStack, context: &Context) -> Result<u16, AllocError>
     ensures attached { IfOk result (λ position.
         AttachesAt position context.now stack.old stack.new) }
@@ -161,7 +162,7 @@ fn attach_copy(stack: &mut ContextStack, context: &Context) -> Result<u16, Alloc
     }
 }
 
-// Takes the span with the number, for which there is no memory.
+// Takes back a span whose context can't be attached.
 #[cold]
 fn take_back<S: Span>(spans: &mut Spans<S>, number: u64, error: AllocError) -> StartError<S>
     requires found { Holds spans.now number }

@@ -1,13 +1,16 @@
 //! The table of spans, to which contexts refer by number.
-ghost use Rattle.std.specs.Prelude.{◌≡◌, ◌↔◌, IsTrue, IsErr, OnOk, OnErr, IfOk, IfErr, None, Some};
-ghost use Rattle.std.specs.Prelude.{length, option_copied, alloc_error};
+ghost use Rattle.std.specs.Prelude.{◌≡◌, ◌+◌, ◌<◌, ◌↔◌, IsTrue, IsErr, OnOk, OnErr, IfOk, IfErr};
+ghost use Rattle.std.specs.Prelude.{IfSome, None, Some, is_some};
+ghost use Rattle.std.specs.Prelude.{option_copied, alloc_error};
 ghost use Rattle.std.specs.Option.{option_copied_mut};
 ghost use Rattle.std.specs.Borrow.{sem};
-ghost use Rattle.otel_context.specs.SpanSlots.{Finds, IsIndexOf, LendsOwn, LendsSlot, TakesOut};
-ghost use Rattle.otel_context.specs.View.{entries_of};
+ghost use Rattle.std.specs.Vec.{vec_len, vec_capacity};
+ghost use Rattle.otel_context.specs.SpanSlots.{BringsLast, IsSpanOf, LendsOwn, LendsSlot};
 
+mod places;
 mod with_span;
 
+use places::{Place, drop_vacant, move_to, slot_of, vacate};
 use std::alloc::{AllocError, Global};
 use std::error::Error;
 use std::fmt;
@@ -96,23 +99,20 @@ impl<S> SpanRefused<S> {
     }
 }
 
-// A number that was given out, and its span, or `None` once it was taken.
+// A span and its number. In this order, a slot is written in one copy.
 #[derive(Drop)]
 struct Slot<S> {
+    span: S,
     number: u64,
-    span: Option<S>,
 }
 
 impl<S> Slot<S> {
     // Returns a mutable reference to the span.
     fn span_mut(&mut self) -> Option<&mut S>
         ensures* writes_back { sem 𝓛 (LendsOwn S.row self.entry result) }
-        ensures value { option_copied_mut result ≡ self.old.span }
+        ensures value { option_copied_mut result ≡ Some self.old.span }
     {
-        match &mut self.span {
-            Some(span) => Some(span),
-            None => None,
-        }
+        Some(&mut self.span)
     }
 }
 
@@ -124,10 +124,10 @@ impl<S> Slot<S> {
 ///
 /// See `otel_examples::api::service`.
 pub struct Spans<S> {
-    // The numbers rise, and are below `next`.
+    // In any order, without gaps.
     slots: Vec<Slot<S>>,
-    // The number of slots that have a span.
-    live: usize,
+    // Where each span is. The numbers rise, and are below `next`.
+    places: Vec<Place>,
     next: u64,
 }
 
@@ -136,25 +136,25 @@ impl<S: Drop> Drop for Spans<S> {
     fn drop(self) {
         let Spans {
             slots: _,
-            live: _,
+            places: _,
             next: _,
         } = self;
     }
 }
 
 impl<S> Model for Spans<S> {
-    ghost use Rattle.std.specs.Prelude.{◌≡◌, length};
     ghost use Rattle.otel_context.specs.Spans.{SpansState};
-    ghost use Rattle.otel_context.specs.View.{map_of, entries_of, spans_code, IsAscending};
+    ghost use Rattle.otel_context.specs.View.{map_of, spans_of, spans_code, IsAscending};
+    ghost use Rattle.otel_context.specs.View.{IsIndex};
 
     ghost Value = { SpansState S };
 
     ghost coded = { spans_code S.code };
 
-    ghost view = { λ s. record { spans = map_of s.slots.items; next_number = s.next } };
+    ghost view = { λ s. record { spans = spans_of s.slots.items; next_number = s.next } };
 
-    ghost invariant = { λ s. IsAscending 0 s.slots.items s.next
-        × (s.live ≡ length (entries_of s.slots.items)) };
+    ghost invariant = { λ s. IsAscending 0 s.places.items s.next
+        × IsIndex s.slots.items (map_of s.places.items) };
 }
 
 impl<S: Drop> Spans<S> {
@@ -175,7 +175,7 @@ impl<S: Drop> Spans<S> {
     {
         Spans {
             slots: Vec::new(alloc),
-            live: 0,
+            places: Vec::new(alloc),
             next: first,
         }
     }
@@ -183,7 +183,7 @@ impl<S: Drop> Spans<S> {
     /// Inserts a span under the next number. Returns that number. The time doesn't depend on the
     /// size of the table, except for an insert that grows it.
     ///
-    /// `get`, `get_mut` and `take` take at most the time of a binary search. Now and then, a `take`
+    /// The other calls take at most the time of a binary search. Now and then, a `take` or `discard`
     /// goes over the whole table.
     ///
     /// # Errors
@@ -205,14 +205,12 @@ impl<S: Drop> Spans<S> {
         if number == u64::MAX {
             return Err(SpanRefused::numbers_used_up(span));
         }
-        if self.slots.reserve(1).is_err() {
+        if make_room(&mut self.slots, &mut self.places).is_err() {
             return Err(SpanRefused::no_memory(span));
         }
-        self.slots.push_reserved(Slot {
-            number,
-            span: Some(span),
-        });
-        self.live += 1;
+        let slot = Some(self.slots.len());
+        self.slots.push_reserved(Slot { span, number });
+        self.places.push_reserved(Place { number, slot });
         self.next = number + 1;
         Ok(number)
     }
@@ -221,8 +219,8 @@ impl<S: Drop> Spans<S> {
     pub fn get(&self, number: u64) -> Option<&S>
         ensures { option_copied result ≡ get self.now number }
     {
-        let index = index_of(&self.slots, number)?;
-        self.slots[index].span.as_ref()
+        let slot = slot_of(&self.places, number)?;
+        Some(&self.slots[slot].span)
     }
 
     /// Returns a mutable reference to the span with the given number. Every other span is
@@ -231,7 +229,7 @@ impl<S: Drop> Spans<S> {
         ensures* writes_back { sem 𝓛 (LendsSpan S.row self.entry number result) }
         ensures value { option_copied_mut result ≡ get self.old number }
     {
-        span_mut(&mut self.slots, number)
+        span_mut(&mut self.slots, slot_of(&self.places, number))
     }
 
     /// Returns the span with the number of a context, if the context has a number.
@@ -266,54 +264,55 @@ impl<S: Drop> Spans<S> {
         ensures taken { self.new ≡ take self.old number }
     {
         // First, since the span is copied once more if anything is done after it is moved.
-        if self.is_sparse() || self.is_roomy() {
-            self.tidy();
-        }
-        take_out(&mut self.slots, &mut self.live, number)
+        self.tidy();
+        let slot = vacate(&mut self.places, number, self.slots.len())?;
+        bring_last(&mut self.slots, &mut self.places, slot);
+        Some(self.slots.pop()?.span)
     }
 
-    // Returns `true` if most slots have no span.
-    fn is_sparse(&self) -> bool {
-        self.slots.len() / 4 > self.live + 2
+    /// Removes the span with the given number, and drops it. Returns `true` if there was one. The
+    /// number isn't used again.
+    ///
+    /// Faster than `take`, which moves the span to the caller. Shrinks the table as `take` does.
+    #[inline(always)]
+    pub fn discard(&mut self, number: u64) -> bool
+        ensures found { result ≡ is_some (get self.old number) }
+        ensures taken { self.new ≡ take self.old number }
+    {
+        self.tidy();
+        let slot = match vacate(&mut self.places, number, self.slots.len()) {
+            Some(slot) => slot,
+            None => return false,
+        };
+        bring_last(&mut self.slots, &mut self.places, slot);
+        self.slots.pop().is_some()
     }
 
-    // Returns `true` if there is room for many times the slots.
-    fn is_roomy(&self) -> bool {
-        self.slots.capacity() / 8 > self.slots.len() + 8
-    }
-
-    // Drops slots that have no span, and shrinks the table.
-    #[inline(never)]
+    // Shrinks the table if it has room for many times its spans.
+    #[inline(always)]
     fn tidy(&mut self)
         ensures { self.new ≡ self.old }
     {
-        self.drop_taken();
-        self.give_back();
-    }
-
-    // Drops all slots that have no span if they are many more than the others.
-    fn drop_taken(&mut self)
-        ensures { self.new ≡ self.old }
-    {
-        if self.is_sparse() {
-            self.slots.retain(|slot| slot.span.is_some());
+        if self.slots.capacity() / 8 > self.slots.len() + 8 {
+            self.give_back();
         }
     }
 
-    // Shrinks the table if it has room for many times its slots.
+    // Shrinks the table to about twice its spans.
+    #[inline(never)]
     fn give_back(&mut self)
         ensures { self.new ≡ self.old }
     {
-        if self.is_roomy() {
-            self.slots.shrink_to(2 * self.slots.len());
-        }
+        drop_vacant(&mut self.places);
+        self.places.shrink_to(2 * self.places.len());
+        self.slots.shrink_to(2 * self.slots.len());
     }
 
     /// Returns the number of spans in the table.
     pub fn len(&self) -> usize
         ensures { result ≡ len self.now }
     {
-        self.live
+        self.slots.len()
     }
 
     /// Returns `true` if the table has no spans.
@@ -334,44 +333,47 @@ impl<S: Drop> Spans<S> {
     }
 }
 
-// Returns the index of the slot with the number. The last slots mostly have consecutive numbers, so
-// one index is tried before a search.
-fn index_of<S>(slots: &[Slot<S>], number: u64) -> Option<usize>
-    ensures { IsIndexOf slots.now number result }
+// Makes room for one more slot, and its place.
+#[inline(never)]
+fn make_room<S>(slots: &mut Vec<Slot<S>>, places: &mut Vec<Place>) -> Result<(), AllocError>
+    ensures same_slots { slots.new.items ≡ slots.old.items }
+    ensures same_places { places.new.items ≡ places.old.items }
+    ensures slot { OnOk result (vec_len slots.new < vec_capacity slots.new) }
+    ensures place { OnOk result (vec_len places.new < vec_capacity places.new) }
 {
-    let len = slots.len();
-    if len == 0 || slots[len - 1].number < number {
-        return None;
-    }
-    let below = (slots[len - 1].number - number) as usize;
-    if below < len && slots[len - 1 - below].number == number {
-        return Some(len - 1 - below);
-    }
-    slots.binary_search_by_key(&number, |slot| slot.number).ok()
+    slots.reserve(1)?;
+    places.reserve(1)
 }
 
-// Returns a mutable reference to the span with the number.
-fn span_mut<S>(slots: &mut Vec<Slot<S>>, number: u64) -> Option<&mut S>
-    ensures* writes_back { sem 𝓛 (LendsSlot S.row slots.entry number result) }
-    ensures value { Finds slots.old.items number (option_copied_mut result) }
+// Returns a mutable reference to the span of the slot, if there is one.
+fn span_mut<S>(slots: &mut Vec<Slot<S>>, slot: Option<usize>) -> Option<&mut S>
+    requires { IfSome slot (λ i. i < vec_len slots.old) }
+    ensures* writes_back { sem 𝓛 (LendsSlot S.row slots.entry slot result) }
+    ensures value { IsSpanOf slots.old.items slot (option_copied_mut result) }
 {
-    match index_of(slots, number) {
-        Some(index) => slots[index].span_mut(),
+    match slot {
+        Some(slot) => slots[slot].span_mut(),
         None => None,
     }
 }
 
-// Takes out the span with the number: with its slot if that is the last one. `live` counts spans.
+// Moves the slot to the end, and the last one to where it was.
 #[inline(always)]
-fn take_out<S>(slots: &mut Vec<Slot<S>>, live: &mut usize, number: u64) -> Option<S>
-    requires counted { live.old ≡ length (entries_of slots.old.items) }
-    ensures taken { TakesOut slots.old.items number result slots.new.items }
-    ensures counted { live.new ≡ length (entries_of slots.new.items) }
+fn bring_last<S>(slots: &mut Vec<Slot<S>>, places: &mut Vec<Place>, slot: usize)
+    ensures { BringsLast slots.old.items places.old.items slot slots.new.items places.new.items }
 {
-    let index = index_of(slots, number)?;
-    *live -= usize::from(slots[index].span.is_some());
-    if index + 1 == slots.len() {
-        return slots.pop()?.span;
+    if slot < slots.len().saturating_sub(1) {
+        swap_with_last(slots, places, slot);
     }
-    slots[index].span.take()
+}
+
+// Moves the slot to the end, and the last one to where it was.
+#[inline(never)]
+fn swap_with_last<S>(slots: &mut Vec<Slot<S>>, places: &mut Vec<Place>, slot: usize)
+    requires { slot + 1 < vec_len slots.old }
+    ensures { BringsLast slots.old.items places.old.items slot slots.new.items places.new.items }
+{
+    let last = slots.len() - 1;
+    move_to(places, slots[last].number, slot);
+    slots.swap(slot, last);
 }

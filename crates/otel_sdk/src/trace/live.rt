@@ -219,7 +219,7 @@ impl LiveSpans {
         match stack.push(context) {
             Ok(position) => Ok(Entered { number, position }),
             Err(error) => {
-                drop(self.spans.take(number));
+                self.spans.discard(number);
                 Err(SpanCause::Memory(error))
             }
         }

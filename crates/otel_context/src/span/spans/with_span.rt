@@ -6,7 +6,7 @@ ghost use Rattle.otel_context.specs.Shared.{record_of};
 ghost use Rattle.otel_context.specs.Spans.{IsNumbered, insert, used_up, refusal, starting_at};
 ghost use Rattle.otel_context.specs.Spans.{cause_of};
 
-use super::{Slot, SpanCause, SpanRefused, Spans};
+use super::{Place, Slot, SpanCause, SpanRefused, Spans};
 use crate::context::{Context, Shared, of_shared};
 use crate::span::Span;
 use otel_ids::SpanContext;
@@ -38,34 +38,43 @@ impl Context {
         ensures refused { IfErr result (λ refused. refused ≡ refusal spans.old span) }
     {
         let number = spans.next;
-        let made = prepare(alloc, &mut spans.slots, number, self, span.span_context());
+        let context = span.span_context();
+        let made = prepare(
+            alloc,
+            &mut spans.slots,
+            &mut spans.places,
+            number,
+            self,
+            context,
+        );
         let shared = match made {
             Ok(shared) => shared,
             Err(cause) => return Err(SpanRefused { span, cause }),
         };
-        spans.slots.push_reserved(Slot {
-            number,
-            span: Some(span),
-        });
-        spans.live += 1;
+        let slot = Some(spans.slots.len());
+        spans.slots.push_reserved(Slot { span, number });
+        spans.places.push_reserved(Place { number, slot });
         spans.next = number + 1;
         Ok(of_shared(shared))
     }
 }
 
-// Makes room for one more slot. Returns what the clones of a context share whose active span has
-// this span context, and this number.
+// Makes room for one more slot, and its place. Returns what the clones of a context share whose
+// active span has this span context, and this number.
 // Not inlined: everything that can fail is here, so the code that moves the span stays short.
 #[inline(never)]
 fn prepare<S>(
     alloc: Global,
     slots: &mut Vec<Slot<S>>,
+    places: &mut Vec<Place>,
     number: u64,
     context: &Context,
     span_context: &SpanContext,
 ) -> Result<Shared, SpanCause>
-    ensures same { slots.new.items ≡ slots.old.items }
-    ensures room { OnOk result (vec_len slots.new < vec_capacity slots.new) }
+    ensures same_slots { slots.new.items ≡ slots.old.items }
+    ensures same_places { places.new.items ≡ places.old.items }
+    ensures slot { OnOk result (vec_len slots.new < vec_capacity slots.new) }
+    ensures place { OnOk result (vec_len places.new < vec_capacity places.new) }
     ensures unused { OnOk result (number < used_up) }
     ensures made { IfOk result (λ s.
         record_of s ≡ with_span context.now span_context.now number) }
@@ -74,7 +83,7 @@ fn prepare<S>(
     if number == u64::MAX {
         return Err(SpanCause::NumbersUsedUp);
     }
-    if slots.reserve(1).is_err() {
+    if slots.reserve(1).is_err() || places.reserve(1).is_err() {
         return Err(SpanCause::Memory(AllocError));
     }
     let shared = match context.shared_with_span(alloc, span_context, number) {

@@ -1,36 +1,33 @@
-use Rattle.std.proofs.Common.{◌+◌, ◌≤◌, List, [], ◌∷◌, ◌++◌, Some, ap, ◌∙◌, sym, arith, rules}
-use Rattle.otel_context.specs.View.{map_of}
+use Rattle.std.proofs.Common.{◌≡◌, ◌+◌, List, [], ◌∷◌, ◌++◌, length, Some, ap, ◌∙◌, arith}
+use Rattle.otel_context.specs.View.{spans_of}
 use Rattle.otel_context.specs.declared.span.spans.Slot.{Slot}
-use Rattle.otel_context.proofs.SpanSlots.{numbered, fresh, pushed, push-ascends, push-count, count_below}
+use Rattle.otel_context.specs.declared.span.spans.places.Place.{Place}
+use Rattle.otel_context.proofs.SpanSlots.{numbered, fresh, pushed-both, pushed-spans}
 use Rattle.otel_context.proofs.span.spans.Spans.insert.Goals as goal
 
 pub returns-then-number-clause-numbered : goal.returns-then-number-clause-numbered
-returns-then-number-clause-numbered g c = rw (← c.self.view_is) (numbered c.self.inside.next c.self.inside.slots.items c.self.invariant.0)
+returns-then-number-clause-numbered g c = rw (← c.self.view_is) (numbered c.self.inside.next c.self.inside.slots.items c.self.inside.places.items c.self.invariant.0 c.self.invariant.1)
 
 pub returns-then-is_err-clause-numbered : goal.returns-then-is_err-clause-numbered
-returns-then-is_err-clause-numbered g c = rw (← c.self.view_is) (numbered c.self.inside.next c.self.inside.slots.items c.self.invariant.0)
-
-pub overflow_add-self : goal.overflow_add-self
-overflow_add-self g c =
-    let most : c.self.inside.live ≤ c.self.inside.next = omega (arith, c.self.invariant.1, count_below 0 c.self.inside.next c.self.inside.slots.items c.self.invariant.0) in
-    search rules
+returns-then-is_err-clause-numbered g c = rw (← c.self.view_is) (numbered c.self.inside.next c.self.inside.slots.items c.self.inside.places.items c.self.invariant.0 c.self.invariant.1)
 
 pub invariant_of-self-2 : goal.invariant_of-self-2
 invariant_of-self-2 g c =
-    let next = c.self.inside.next in
-    let ss = c.self.inside.slots.items in
-    let e = c.push_reserved.ensures.items ∙ ap (λ (l : List (Slot _)). l ++ record { number = next; span = Some c.args.span } ∷ []) c.reserve.ensures.items in
-    rw e (push-ascends 0 next (Some c.args.span) ss c.self.invariant.0, ap (λ n. n + 1) c.self.invariant.1 ∙ sym (push-count next c.args.span ss))
+    let t = c.self.inside in
+    let e = c.push_reserved.ensures.items ∙ ap (λ (l : List (Slot _)). l ++ record { span = c.args.span; number = t.next } ∷ []) c.make_room.ensures.same_slots in
+    let f = c.push_reserved-2.ensures.items ∙ ap (λ (l : List Place). l ++ record { number = t.next; slot = Some c.len.result } ∷ []) c.make_room.ensures.same_places in
+    let l : c.len.result ≡ length t.slots.items = omega (arith, c.len.ensures, c.make_room.new.slots.ok.0, ap length c.make_room.ensures.same_slots) in
+    pushed-both t.next c.len.result t.slots.items c.push_reserved.new.self.items t.places.items c.push_reserved-2.new.self.items c.self.invariant.0 c.self.invariant.1 c.args.span e f l
 
 pub returns-clause-numbered : goal.returns-clause-numbered
-returns-clause-numbered g c = rw (← c.self.view_is) (numbered c.self.inside.next c.self.inside.slots.items c.self.invariant.0)
+returns-clause-numbered g c = rw (← c.self.view_is) (numbered c.self.inside.next c.self.inside.slots.items c.self.inside.places.items c.self.invariant.0 c.self.invariant.1)
 
 pub returns-clause-fresh : goal.returns-clause-fresh
-returns-clause-fresh g c = rw (← c.self.view_is) (fresh c.self.inside.next c.self.inside.slots.items c.self.invariant.0)
+returns-clause-fresh g c = rw (← c.self.view_is) (fresh c.self.inside.next c.self.inside.slots.items c.self.inside.places.items c.self.invariant.0 c.self.invariant.1)
 
 pub returns-clause-inserted : goal.returns-clause-inserted
 returns-clause-inserted g c =
-    let next = c.self.inside.next in
-    let ss = c.self.inside.slots.items in
-    let e = c.push_reserved.ensures.items ∙ ap (λ (l : List (Slot _)). l ++ record { number = next; span = Some c.args.span } ∷ []) c.reserve.ensures.items in
-    rw (← c.self.view_is) (ap (λ spans. record { spans = spans; next_number = next + 1 }) (ap map_of e ∙ pushed next c.args.span ss c.self.invariant.0))
+    let t = c.self.inside in
+    let e = c.push_reserved.ensures.items ∙ ap (λ (l : List (Slot _)). l ++ record { span = c.args.span; number = t.next } ∷ []) c.make_room.ensures.same_slots in
+    rw (← c.self.view_is) (ap (λ spans. record { spans = spans; next_number = t.next + 1 })
+    (ap spans_of e ∙ pushed-spans t.next t.slots.items t.places.items c.self.invariant.0 c.self.invariant.1 c.args.span))
