@@ -125,8 +125,15 @@ pub fn insert(alloc: Global, spans: &mut Table) -> Result<u64, AllocError> {
 }
 
 #[inline(never)]
-pub fn take<S: Drop>(spans: &mut Spans<S>, number: u64, sum: &mut u64) {
+pub fn take(spans: &mut Table, number: u64, sum: &mut u64) {
     if spans.take(number).is_some() {
+        add(sum, 1);
+    }
+}
+
+#[inline(never)]
+fn discard<S: Drop>(spans: &mut Spans<S>, number: u64, sum: &mut u64) {
+    if spans.discard(number) {
         add(sum, 1);
     }
 }
@@ -160,7 +167,7 @@ fn mark(
         return Err(AllocError);
     };
     drop(stack.detach(guard));
-    take(spans, number, sum);
+    discard(spans, number, sum);
     Ok(())
 }
 
@@ -181,7 +188,7 @@ fn work<T: Tracer>(
     }
 }
 
-/// A span is inserted into the table and a context, and removed again.
+/// A span is inserted into the table and a context, and discarded.
 #[derive(Drop)]
 struct IntoContext {
     alloc: Global,
@@ -194,7 +201,7 @@ impl Operation for IntoContext {
         let number = self.spans.next_number();
         let context = with_span(self.alloc, &self.context, &mut self.spans)?;
         add(sum, usize::from(context.has_active_span()));
-        take(&mut self.spans, number, sum);
+        discard(&mut self.spans, number, sum);
         Ok(())
     }
 }
@@ -225,7 +232,7 @@ impl Operation for Marking {
     }
 }
 
-/// A body runs in a span, and the span is taken.
+/// A body runs in a span, and the span is discarded.
 #[derive(Drop)]
 struct Working<T: Tracer> {
     alloc: Global,
@@ -238,7 +245,7 @@ impl<T: Tracer + Drop> Operation for Working<T> {
     fn once(&mut self, sum: &mut u64) -> Result<(), AllocError> {
         let (active, number) = work(self.alloc, &self.tracer, &mut self.stack, &mut self.spans)?;
         add(sum, usize::from(active));
-        take(&mut self.spans, number, sum);
+        discard(&mut self.spans, number, sum);
         Ok(())
     }
 }

@@ -6,6 +6,7 @@ use otel_examples::recording::RecordingSpan;
 use otel_ids::SpanId;
 use std::alloc::{AllocError, Global};
 use std::process::Abort;
+use std::rc::Rc;
 use std::test::Fail;
 use test_support::{LAST_NUMBER, NUMBERS, filled, name_of, span, span_context};
 
@@ -141,6 +142,35 @@ fn a_thousand_spans_are_taken_in_any_order(rt: HostRuntime) -> Result<(), Fail> 
         assert!(rt; spans.is_empty());
         assert_eq!(rt; inserted(&rt, &mut spans, span(rt.alloc(), 5)), 1000);
         assert_eq!(rt; id_at(&spans, 1000), SpanId::from(5));
+    }
+    Ok(())
+}
+
+/// A discarded span is dropped at once, wherever it is in the table.
+#[test]
+fn a_thousand_spans_are_discarded_in_any_order(rt: HostRuntime) -> Result<(), Fail> {
+    for order in ORDERS {
+        let shared = Rc::new(rt.alloc(), 7)?;
+        let mut spans = Spans::new(rt.alloc());
+        for _ in 0..1000 {
+            let Ok(_) = spans.insert(Rc::clone(&shared)?) else {
+                panic!(&rt; "{order:?}: refused")
+            };
+        }
+        for index in 0..1000 {
+            let number = taken_as(*order, index);
+            assert!(rt; spans.discard(number), "{order:?} {index}");
+            assert!(rt; !spans.discard(number), "{order:?} {index}");
+            assert!(rt; spans.get(number).is_none(), "{order:?} {index}");
+            assert_eq!(rt; spans.len(), (999 - index) as usize, "{order:?} {index}");
+            assert_eq!(rt;
+                Rc::strong_count(&shared),
+                spans.len() + 1,
+                "{order:?} {index}"
+            );
+        }
+        assert!(rt; !spans.discard(LAST_NUMBER));
+        assert_eq!(rt; spans.next_number(), 1000);
     }
     Ok(())
 }

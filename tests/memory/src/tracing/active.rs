@@ -95,6 +95,7 @@ fn looks<R: Print>(alloc: Global, lines: &Lines<'_, R>) -> Result<(), AllocError
     lines.free("Spans::get", &spans.get(0).is_some());
     lines.free("Spans::get_mut", &spans.get_mut(1).is_some());
     lines.free("Spans::take", &spans.take(0).unwrap_or(0));
+    lines.free("Spans::discard", &spans.discard(0));
     lines.free("Spans::len", &spans.len());
     lines.free("Spans::next_number", &spans.next_number());
     Ok(())
