@@ -283,14 +283,6 @@ sets-out q i ss s w at e n o = record {
   removed = takes-set q i ss s w at e n o;
 }
 
--- and dropping places after that
-pub keeps-out : (q : ℕ) (o : Option ℕ) (ss ts us : List Place) → TakesOut ss q o ts → KeepsPlaces ts us → TakesOut ss q o us
-keeps-out q o ss ts us out kept = record {
-  value = out.value;
-  ascends = λ next a. kept.ascends next (out.ascends next a);
-  removed = λ next a. kept.same ∙ out.removed next a;
-}
-
 pub last-slot : (front : List Place) (s d : Place) (i : ℕ) → i + 1 ≡ length (front ++ s ∷ []) → get_or (front ++ s ∷ []) i d ≡ s
 last-slot [] s d zero l = refl
 last-slot [] s d (suc i) l = absurd (omega (arith, l))

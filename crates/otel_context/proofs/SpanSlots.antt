@@ -13,7 +13,7 @@ use Rattle.std.proofs.lemmas.Bool.{cases_Bool, cases_lt, true≢false}
 use Rattle.std.proofs.lemmas.List.{get_or_append_left, get_or_default, get_or-set_other, map-append, length-set}
 use Rattle.otel_context.specs.Spans.{IsNumbered}
 use Rattle.otel_context.specs.View.{map_of, spans_of, IsAscending, IsIndex}
-use Rattle.otel_context.specs.SpanPlaces.{MovesTo, TakesOut}
+use Rattle.otel_context.specs.SpanPlaces.{KeepsPlaces, MovesTo, TakesOut}
 use Rattle.otel_context.specs.SpanSlots.{BringsLast, IsSpanOf, KeepsNumbers, Replaces}
 use Rattle.otel_context.specs.declared.span.spans.Slot.{Slot}
 use Rattle.otel_context.specs.declared.span.spans.places.Place.{Place}
@@ -528,3 +528,7 @@ module _ {S : Type 0} where
     has = λ k l d. absurd (omega (arith, l));
     only = λ q k e. absurd (some≢none k (sym e ∙ get-map [] q));
   }
+
+  -- places that say the same
+  pub kept : (next : ℕ) (ss : List (Slot S)) (ps qs : List Place) → IsAscending 0 ps next → IsIndex ss (map_of ps) → KeepsPlaces ps qs → IsAscending 0 qs next × IsIndex ss (map_of qs)
+  kept next ss ps qs a x keeps = (keeps.ascends next a, rw keeps.same x)

@@ -5,12 +5,13 @@ ghost use Rattle.std.specs.Prelude.{option_copied, alloc_error};
 ghost use Rattle.std.specs.Option.{option_copied_mut};
 ghost use Rattle.std.specs.Borrow.{sem};
 ghost use Rattle.std.specs.Vec.{vec_len, vec_capacity};
+ghost use Rattle.otel_context.specs.SpanPlaces.{KeepsPlaces};
 ghost use Rattle.otel_context.specs.SpanSlots.{BringsLast, IsSpanOf, LendsOwn, LendsSlot};
 
 mod places;
 mod with_span;
 
-use places::{Place, drop_vacant, move_to, slot_of, vacate};
+use places::{Place, drop_vacant, move_to, reserve_place, slot_of, vacate};
 use std::alloc::{AllocError, Global};
 use std::error::Error;
 use std::fmt;
@@ -180,11 +181,10 @@ impl<S: Drop> Spans<S> {
         }
     }
 
-    /// Inserts a span under the next number. Returns that number. The time doesn't depend on the
-    /// size of the table, except for an insert that grows it.
+    /// Inserts a span under the next number. Returns that number.
     ///
-    /// The other calls take at most the time of a binary search. Now and then, a `take` or `discard`
-    /// goes over the whole table.
+    /// Now and then, an insert, a `take` or a `discard` goes over the whole table. Otherwise, the
+    /// other calls take at most the time of a binary search.
     ///
     /// # Errors
     ///
@@ -265,7 +265,7 @@ impl<S: Drop> Spans<S> {
     {
         // First, since the span is copied once more if anything is done after it is moved.
         self.tidy();
-        let slot = vacate(&mut self.places, number, self.slots.len())?;
+        let slot = vacate(&mut self.places, number)?;
         bring_last(&mut self.slots, &mut self.places, slot);
         Some(self.slots.pop()?.span)
     }
@@ -280,7 +280,7 @@ impl<S: Drop> Spans<S> {
         ensures taken { self.new ≡ take self.old number }
     {
         self.tidy();
-        let slot = match vacate(&mut self.places, number, self.slots.len()) {
+        let slot = match vacate(&mut self.places, number) {
             Some(slot) => slot,
             None => return false,
         };
@@ -337,12 +337,12 @@ impl<S: Drop> Spans<S> {
 #[inline(never)]
 fn make_room<S>(slots: &mut Vec<Slot<S>>, places: &mut Vec<Place>) -> Result<(), AllocError>
     ensures same_slots { slots.new.items ≡ slots.old.items }
-    ensures same_places { places.new.items ≡ places.old.items }
+    ensures kept_places { KeepsPlaces places.old.items places.new.items }
     ensures slot { OnOk result (vec_len slots.new < vec_capacity slots.new) }
     ensures place { OnOk result (vec_len places.new < vec_capacity places.new) }
 {
     slots.reserve(1)?;
-    places.reserve(1)
+    reserve_place(places, slots.len())
 }
 
 // Returns a mutable reference to the span of the slot, if there is one.

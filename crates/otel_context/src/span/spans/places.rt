@@ -1,5 +1,9 @@
 //! Where the spans of a table are.
+ghost use Rattle.std.specs.Prelude.{◌<◌, OnOk};
+ghost use Rattle.std.specs.Vec.{vec_len, vec_capacity};
 ghost use Rattle.otel_context.specs.SpanPlaces.{Finds, IsIndexOf, KeepsPlaces, MovesTo, TakesOut};
+
+use std::alloc::AllocError;
 
 // A number that was given out, and the index of its slot, or `None` once its span was taken.
 #[derive(Drop)]
@@ -25,21 +29,29 @@ pub(super) fn move_to(places: &mut Vec<Place>, number: u64, slot: usize)
     }
 }
 
-// Takes out the number, and returns the index of its slot. Drops its place if that is the last one,
-// and all vacant places once fifteen of sixteen are. `live` is the number of spans.
+// Makes room for one more place. If fifteen of sixteen are vacant, that is theirs. `live` is the
+// number of spans.
 #[inline(always)]
-pub(super) fn vacate(places: &mut Vec<Place>, number: u64, live: usize) -> Option<usize>
+pub(super) fn reserve_place(places: &mut Vec<Place>, live: usize) -> Result<(), AllocError>
+    ensures kept { KeepsPlaces places.old.items places.new.items }
+    ensures room { OnOk result (vec_len places.new < vec_capacity places.new) }
+{
+    if places.len() == places.capacity() && places.len() / 16 >= live {
+        drop_vacant(places);
+    }
+    places.reserve(1)
+}
+
+// Takes out the number, and returns the index of its slot. Drops its place if that is the last one.
+#[inline(always)]
+pub(super) fn vacate(places: &mut Vec<Place>, number: u64) -> Option<usize>
     ensures { TakesOut places.old.items number result places.new.items }
 {
     let index = index_of(places, number)?;
     if index + 1 == places.len() {
         return places.pop()?.slot;
     }
-    let slot = places[index].slot.take();
-    if places.len().saturating_sub(32) / 16 > live {
-        drop_vacant(places);
-    }
-    slot
+    places[index].slot.take()
 }
 
 // Drops the places of spans that were taken.

@@ -3,10 +3,12 @@ ghost use Rattle.std.specs.Prelude.{◌≡◌, ◌<◌, IfOk, IfErr, IsErr, OnOk
 ghost use Rattle.std.specs.Vec.{vec_len, vec_capacity};
 ghost use Rattle.otel_context.specs.Context.{with_span};
 ghost use Rattle.otel_context.specs.Shared.{record_of};
+ghost use Rattle.otel_context.specs.SpanPlaces.{KeepsPlaces};
 ghost use Rattle.otel_context.specs.Spans.{IsNumbered, insert, used_up, refusal, starting_at};
 ghost use Rattle.otel_context.specs.Spans.{cause_of};
 
-use super::{Place, Slot, SpanCause, SpanRefused, Spans};
+use super::places::{Place, reserve_place};
+use super::{Slot, SpanCause, SpanRefused, Spans};
 use crate::context::{Context, Shared, of_shared};
 use crate::span::Span;
 use otel_ids::SpanContext;
@@ -72,7 +74,7 @@ fn prepare<S>(
     span_context: &SpanContext,
 ) -> Result<Shared, SpanCause>
     ensures same_slots { slots.new.items ≡ slots.old.items }
-    ensures same_places { places.new.items ≡ places.old.items }
+    ensures kept_places { KeepsPlaces places.old.items places.new.items }
     ensures slot { OnOk result (vec_len slots.new < vec_capacity slots.new) }
     ensures place { OnOk result (vec_len places.new < vec_capacity places.new) }
     ensures unused { OnOk result (number < used_up) }
@@ -83,7 +85,7 @@ fn prepare<S>(
     if number == u64::MAX {
         return Err(SpanCause::NumbersUsedUp);
     }
-    if slots.reserve(1).is_err() || places.reserve(1).is_err() {
+    if slots.reserve(1).is_err() || reserve_place(places, slots.len()).is_err() {
         return Err(SpanCause::Memory(AllocError));
     }
     let shared = match context.shared_with_span(alloc, span_context, number) {

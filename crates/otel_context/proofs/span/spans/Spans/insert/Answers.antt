@@ -1,8 +1,7 @@
-use Rattle.std.proofs.Common.{◌≡◌, ◌+◌, List, [], ◌∷◌, ◌++◌, length, Some, ap, ◌∙◌, arith}
+use Rattle.std.proofs.Common.{◌≡◌, ◌+◌, List, [], ◌∷◌, ◌++◌, length, ap, ◌∙◌, arith}
 use Rattle.otel_context.specs.View.{spans_of}
 use Rattle.otel_context.specs.declared.span.spans.Slot.{Slot}
-use Rattle.otel_context.specs.declared.span.spans.places.Place.{Place}
-use Rattle.otel_context.proofs.SpanSlots.{numbered, fresh, pushed-both, pushed-spans}
+use Rattle.otel_context.proofs.SpanSlots.{numbered, fresh, kept, pushed-both, pushed-spans}
 use Rattle.otel_context.proofs.span.spans.Spans.insert.Goals as goal
 
 pub returns-then-number-clause-numbered : goal.returns-then-number-clause-numbered
@@ -14,10 +13,11 @@ returns-then-is_err-clause-numbered g c = rw (← c.self.view_is) (numbered c.se
 pub invariant_of-self-2 : goal.invariant_of-self-2
 invariant_of-self-2 g c =
     let t = c.self.inside in
+    let qs = c.make_room.new.places.items in
     let e = c.push_reserved.ensures.items ∙ ap (λ (l : List (Slot _)). l ++ record { span = c.args.span; number = t.next } ∷ []) c.make_room.ensures.same_slots in
-    let f = c.push_reserved-2.ensures.items ∙ ap (λ (l : List Place). l ++ record { number = t.next; slot = Some c.len.result } ∷ []) c.make_room.ensures.same_places in
     let l : c.len.result ≡ length t.slots.items = omega (arith, c.len.ensures, c.make_room.new.slots.ok.0, ap length c.make_room.ensures.same_slots) in
-    pushed-both t.next c.len.result t.slots.items c.push_reserved.new.self.items t.places.items c.push_reserved-2.new.self.items c.self.invariant.0 c.self.invariant.1 c.args.span e f l
+    let k = kept t.next t.slots.items t.places.items qs c.self.invariant.0 c.self.invariant.1 c.make_room.ensures.kept_places in
+    pushed-both t.next c.len.result t.slots.items c.push_reserved.new.self.items qs c.push_reserved-2.new.self.items k.0 k.1 c.args.span e c.push_reserved-2.ensures.items l
 
 pub returns-clause-numbered : goal.returns-clause-numbered
 returns-clause-numbered g c = rw (← c.self.view_is) (numbered c.self.inside.next c.self.inside.slots.items c.self.inside.places.items c.self.invariant.0 c.self.invariant.1)
