@@ -58,9 +58,13 @@ by_key key e = text_cmp (sort_key e.value) key
 abbrev pub IsRising : List (Rc Entry Global) → Type 0
 IsRising entries = T (is_sorted text_cmp (rows entries))
 
+-- the entry's slot is the one of its key
+abbrev pub IsInSlot : Entry → Type 0
+IsInSlot e = e.slot ≡ slot_number e.key
+
 -- each entry's slot is the one of its key
 abbrev pub AreInSlots : List (Rc Entry Global) → Type 0
-AreInSlots = All (λ e. e.value.slot ≡ slot_number e.value.key)
+AreInSlots = All (λ e. IsInSlot e.value)
 
 -- the last s of the first n slots is at this index, or at 254 or above if this is 254, or nowhere
 -- if this is 255

@@ -4,11 +4,11 @@ ghost use Rattle.otel_base.specs.View.{tree};
 ghost use Rattle.otel_context.specs.Context.{empty_context, get, with_value, with_baggage};
 ghost use Rattle.otel_context.specs.Context.{with_cleared_baggage, is_telemetry_suppressed};
 ghost use Rattle.otel_context.specs.Context.{with_telemetry_suppressed};
-ghost use Rattle.otel_context.specs.View.{without_span};
+ghost use Rattle.otel_context.specs.View.{IsInSlot, without_span};
 
-use super::entries::Entries;
+use super::entries::{Entries, Entry};
 use crate::baggage::Baggage;
-use otel_base::{AnyValue, Key};
+use otel_base::AnyValue;
 use std::alloc::{AllocError, Global};
 use std::marker::Model;
 use std::rc::Rc;
@@ -63,18 +63,29 @@ impl Contents {
         self.entries.get(key)
     }
 
-    /// Returns contents with the entry set, replacing any entry named `key`.
-    pub fn with_value(
-        &self,
-        alloc: Global,
-        key: Key,
-        value: AnyValue,
-    ) -> Result<Rc<Contents>, AllocError>
-        ensures { IfOk result (λ c. c.value ≡ with_value self.now key (tree value)) }
+    /// Returns contents with only this entry.
+    // Not inlined, so that a context that has entries doesn't pay for empty contents.
+    #[inline(never)]
+    pub fn of_entry(alloc: Global, entry: Rc<Entry>) -> Result<Rc<Contents>, AllocError>
+        requires slot { IsInSlot entry.value }
+        ensures { IfOk result (λ c. c.value
+            ≡ with_value empty_context entry.value.key (tree entry.value.value)) }
     {
+        Contents::new(alloc).with_entry(alloc, entry)
+    }
+
+    /// Returns contents with the entry set, replacing any entry with its name.
+    pub fn with_entry(&self, alloc: Global, entry: Rc<Entry>) -> Result<Rc<Contents>, AllocError>
+        requires slot { IsInSlot entry.value }
+        ensures { IfOk result (λ c. c.value
+            ≡ with_value self.now entry.value.key (tree entry.value.value)) }
+    {
+        let items = self.entries.with(alloc, entry)?;
+        let baggage = self.baggage.clone()?;
         let contents = Contents {
-            entries: self.entries.with(alloc, key, value)?,
-            baggage: self.baggage.clone()?,
+            // Last, since a large value is moved again by each `?`.
+            entries: Entries::from(items),
+            baggage,
             suppressed: self.suppressed,
         };
         Ok(Rc::new(alloc, contents)?)

@@ -5,7 +5,7 @@ ghost use Rattle.std.specs.FinMap as map;
 ghost use Rattle.std.specs.List.Sorted.{IsSearchInRange, IsBinarySearchResult};
 ghost use Rattle.otel_base.specs.View.{tree};
 ghost use Rattle.otel_context.specs.View.{by_key, IsRising, entries_seen, AreInSlots, AreLasts};
-ghost use Rattle.otel_context.specs.View.{IsOtherAt, text_cmp, sort_key, slot_number};
+ghost use Rattle.otel_context.specs.View.{IsInSlot, IsOtherAt, text_cmp, sort_key, slot_number};
 
 use otel_base::{AnyValue, Key};
 use std::alloc::{AllocError, Global};
@@ -23,21 +23,53 @@ const EMPTY: u8 = u8::MAX;
 /// Stands for the index of a slot's last entry if that is this or higher.
 const FAR: u8 = EMPTY - 1;
 
+/// A name and its value, which maps share.
 #[derive(Drop)]
-struct Entry {
+pub struct Entry {
     // The slot of the key. Kept because a map that shares the entry asks for it again.
     slot: usize,
     key: Key,
     value: AnyValue,
 }
 
-/// Entries, and where to find those of a slot.
+impl Entry {
+    /// Returns the entry with this name and value.
+    pub fn new(key: Key, value: AnyValue) -> Entry
+        ensures slot { IsInSlot result }
+        ensures key { result.key ≡ key }
+        ensures value { result.value ≡ value }
+    {
+        let slot = slot_of(key.as_str());
+        Entry { slot, key, value }
+    }
+}
+
+/// Entries, and where to find the ones of a slot.
 #[derive(Drop)]
 struct Table {
     // In ascending order of their slots, and in a slot of the bytes of their keys.
     items: Vec<Rc<Entry>>,
     // For each slot the index of its last entry, `FAR` or `EMPTY`.
     lasts: [u8; SLOTS],
+}
+
+/// The entries of a map that isn't made yet. Making it can't fail.
+#[derive(Drop)]
+pub struct Items {
+    items: Vec<Rc<Entry>>,
+}
+
+impl Model for Items {
+    ghost use Rattle.otel_context.specs.Context.{EntryMap};
+    ghost use Rattle.otel_context.specs.View.{AreInSlots, IsRising, entries_code, entries_seen};
+
+    ghost Value = { EntryMap };
+
+    ghost coded = { entries_code };
+
+    ghost view = { λ i. entries_seen i.items.items };
+
+    ghost invariant = { λ i. IsRising i.items.items × AreInSlots i.items.items };
 }
 
 /// A map from names to values, with distinct names.
@@ -101,21 +133,30 @@ impl Entries {
         self.table.items.is_empty()
     }
 
-    /// Returns a map with the entry set, replacing any entry named `key`.
+    /// Returns what a map with the entry set is made from, replacing any entry with its name.
     ///
     /// # Errors
     ///
-    /// `AllocError` if out of memory.
-    pub fn with(&self, alloc: Global, key: Key, value: AnyValue) -> Result<Entries, AllocError>
-        ensures { IfOk result (λ es. es ≡ map.insert self.now key (tree value)) }
+    /// `AllocError` if out of memory. The entry is dropped.
+    pub fn with(&self, alloc: Global, entry: Rc<Entry>) -> Result<Items, AllocError>
+        requires slot { IsInSlot entry.value }
+        ensures { IfOk result (λ items. items
+            ≡ map.insert self.now entry.value.key (tree entry.value.value)) }
     {
-        let slot = slot_of(key.as_str());
-        let entry = Rc::new(alloc, Entry { slot, key, value })?;
         let items = with_entry(alloc, &self.table.items, entry)?;
+        Ok(Items { items })
+    }
+}
+
+impl From<Items> for Entries {
+    ghost from_gives = { λ items entries. entries ≡ items };
+
+    fn from(items: Items) -> Entries {
+        let Items { items } = items;
         let lasts = lasts_of(&items);
-        Ok(Entries {
+        Entries {
             table: Table { items, lasts },
-        })
+        }
     }
 }
 
@@ -134,8 +175,8 @@ impl Clone for Entries {
 
 impl Table {
     /// Returns the value named `key`, which isn't the name of the entry that `get` compared.
-    // Not inlined, so that `get`, which rarely calls it, needs fewer registers.
-    #[inline(never)]
+    // Cold, so that `get`, which rarely calls it, needs fewer registers and jumps.
+    #[cold]
     fn get_older(&self, key: &str) -> Option<&AnyValue>
         requires rising { IsRising self.now.items.items }
         requires in_slots { AreInSlots self.now.items.items }
@@ -188,7 +229,7 @@ fn with_entry(
 ) -> Result<Vec<Rc<Entry>>, AllocError>
     requires rising { IsRising items.now }
     requires in_slots { AreInSlots items.now }
-    requires slot { entry.value.slot ≡ slot_number entry.value.key }
+    requires slot { IsInSlot entry.value }
     ensures rising { IfOk result (λ es. IsRising es.items) }
     ensures in_slots { IfOk result (λ es. AreInSlots es.items) }
     ensures inserted { IfOk result (λ es. entries_seen es.items

@@ -18,6 +18,27 @@ pub struct ActiveSpan {
     contents: Option<Rc<Contents>>,
 }
 
+impl ActiveSpan {
+    /// Returns the same active span with these other parts.
+    // Not inlined, so that a context without a span doesn't pay for the copy.
+    #[inline(never)]
+    fn with_contents(
+        &self,
+        alloc: Global,
+        contents: Option<Rc<Contents>>,
+    ) -> Result<Shared, AllocError>
+        ensures { IfOk result (λ s. record_of s
+            ≡ record (contents_of contents) { span = Some (span_part self.now) }) }
+    {
+        let span = ActiveSpan {
+            context: self.context.clone()?,
+            number: self.number,
+            contents,
+        };
+        Ok(Shared::Span(Rc::new(alloc, span)?))
+    }
+}
+
 /// What the clones of a context share. A context with an active span takes one allocation more than
 /// its other parts.
 #[derive(Drop)]
@@ -36,10 +57,13 @@ impl Shared {
         ensures { contents_of (option_map (λ c. c.now) result)
             ≡ record (record_of self.now) { span = None } }
     {
+        // First, since a look-up then takes fewer instructions than a `match` of all three.
+        if let Shared::Contents(contents) = self {
+            return Some(contents);
+        }
         match self {
-            Shared::Nothing => None,
-            Shared::Contents(contents) => Some(contents),
             Shared::Span(span) => span.as_ref().contents.as_ref(),
+            _ => None,
         }
     }
 
@@ -54,6 +78,7 @@ impl Shared {
     }
 
     /// Returns the same active span with these other parts. Doesn't allocate if no span is active.
+    #[inline(always)]
     pub fn with_contents(
         &self,
         alloc: Global,
@@ -64,14 +89,7 @@ impl Shared {
         ensures free { (record_of self.now).span ≡ None → IsOk result }
     {
         match (self, contents) {
-            (Shared::Span(span), contents) => {
-                let span = ActiveSpan {
-                    context: span.as_ref().context.clone()?,
-                    number: span.as_ref().number,
-                    contents,
-                };
-                Ok(Shared::Span(Rc::new(alloc, span)?))
-            }
+            (Shared::Span(span), contents) => span.with_contents(alloc, contents),
             (_, Some(contents)) => Ok(Shared::Contents(contents)),
             (_, None) => Ok(Shared::Nothing),
         }

@@ -1,5 +1,5 @@
 use Rattle.std.proofs.Common.{◌≡◌, true, is_some, sym, ap, ◌∙◌, arith}
-use Rattle.otel_context.proofs.SpanSlots.{nothing-out, taken-ascends, some-left, discarded}
+use Rattle.otel_context.proofs.SpanSlotsTaken.{nothing-out, taken-ascends, some-left, discarded}
 use Rattle.otel_context.proofs.span.spans.Spans.discard.Goals as goal
 
 pub invariant_of-self : goal.invariant_of-self

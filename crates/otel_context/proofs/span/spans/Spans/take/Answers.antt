@@ -1,5 +1,5 @@
 use Rattle.std.proofs.Common.{sym, ap, ◌∙◌}
-use Rattle.otel_context.proofs.SpanSlots.{nothing-out, taken-ascends, taken-out, TakenOut}
+use Rattle.otel_context.proofs.SpanSlotsTaken.{nothing-out, taken-ascends, taken-out, TakenOut}
 use Rattle.otel_context.proofs.span.spans.Spans.take.Goals as goal
 
 pub invariant_of-self : goal.invariant_of-self
