@@ -10,7 +10,7 @@ use Rattle.opentelemetry.specs.Event.{LinkRecord}
 use Rattle.opentelemetry.specs.SpanBuilder.{BuilderRecord}
 use Rattle.otel_sdk.specs.Sampler.{Asked, Answer}
 use Rattle.otel_sdk_span.specs.Span.{SpanState, after_end, recording, says_nothing, unrecorded, with_attribute, with_event}
-use Rattle.otel_sdk_span.specs.Span.{with_kept_link, with_link, within}
+use Rattle.otel_sdk_span.specs.Span.{with_kept_link, with_link, keep_within}
 use Rattle.otel_sdk_span.specs.SpanData.{SpanRecord}
 use Rattle.otel_sdk_span.specs.declared.limits.SpanLimits.{SpanLimits}
 use Rattle.otel_sdk.specs.Journal.{ids_of}
@@ -56,7 +56,7 @@ fold-same : {X : Type 0} (f : SpanRecord → X → SpanRecord) → ((d : SpanRec
 fold-same f h [] d = same-ids d
 fold-same f h (x ∷ xs) d = then-ids d (f d x) _ (h d x) (fold-same f h xs (f d x))
 
-within-same : (limits : SpanLimits) (d : SpanRecord) → SameIds d (within limits d)
+within-same : (limits : SpanLimits) (d : SpanRecord) → SameIds d (keep_within limits d)
 within-same limits d =
     let empty : SpanRecord = record d { attributes = []; events = []; links = [] } in
     let a : SpanRecord = fold (with_attribute limits) empty d.attributes in
@@ -172,7 +172,7 @@ module _ (answer : Asked → Answer) (random : Bool) (may_trace may_span : Resul
       let d : SpanRecord = given_data scope builder p own sampled r.0 in
       subst (λ (s : SpanState). IsUnder p s) (sym r.2) (record {
         trace = in-trace may_trace p own t;
-        child = ((within-same limits d).own, child-same p d (within limits d) (within-same limits d) (data-child may_trace scope builder p own sampled r.0 t));
+        child = ((within-same limits d).own, child-same p d (keep_within limits d) (within-same limits d) (data-child may_trace scope builder p own sampled r.0 t));
       })
 
   decided-under : (b : Bool) (p : Option SpanContextRecord) (own : SpanContextRecord) (sampled : List Attribute) → IsTraceId may_trace p own.trace_id

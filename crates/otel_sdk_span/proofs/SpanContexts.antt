@@ -29,7 +29,7 @@ module _ (limits : SpanLimits) where
   of_links d (l ∷ ls) =
       of_links (spec.with_link limits d l) ls ∙ of_link d l (spec.says_nothing l)
 
-  pub of_within : (d : SpanRecord) → (spec.within limits d).span_context ≡ d.span_context
+  pub of_within : (d : SpanRecord) → (spec.keep_within limits d).span_context ≡ d.span_context
   of_within d =
       let empty = record d { attributes = []; events = []; links = [] } in
       let attributes = fold (spec.with_attribute limits) empty d.attributes in

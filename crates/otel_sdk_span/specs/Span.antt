@@ -66,8 +66,8 @@ with_status d status = record d {
 
 -- The data within the limits: its attributes are set in turn, then its events and then its links
 -- are added in turn, as by later calls.
-abbrev pub within : SpanLimits → SpanRecord → SpanRecord
-within limits d =
+abbrev pub keep_within : SpanLimits → SpanRecord → SpanRecord
+keep_within limits d =
     let empty = record d { attributes = []; events = []; links = [] } in
     let with_attributes = fold (with_attribute limits) empty d.attributes in
     let with_events = fold (with_event limits) with_attributes d.events in
@@ -86,7 +86,7 @@ pub record SpanState : Type 0 where
 abbrev pub started : SpanLimits → SpanRecord → SpanState
 started limits d = record {
   context = d.span_context;
-  recorded = Some (within limits d);
+  recorded = Some (keep_within limits d);
   limits = limits;
   has_ended = false;
 }

@@ -1,6 +1,6 @@
 -- The limits on the data of a span.
-use Rattle.std.specs.Prelude.{◌≡◌, ℕ, ◌+◌, List, [], map, nat_lt, refl}
-use Rattle.std.specs.Prelude.{None, if◌then◌else◌}
+use Rattle.std.specs.Prelude.{◌≡◌, List, [], map, refl}
+use Rattle.std.specs.Prelude.{None}
 use Rattle.otel_base.specs.KeyValue.{Attribute}
 use Rattle.opentelemetry.specs.Event.{EventRecord, LinkRecord}
 use Rattle.otel_sdk_base.specs.Attributes.{cut, set_all, dropped, up_by}

@@ -241,25 +241,25 @@ impl SpanData {
         Ok(())
     }
 
-    /// Returns the data within the limits: its attributes are set in turn, and then its events and
+    /// Keeps the data within the limits: its attributes are set in turn, and then its events and
     /// links are added in turn.
     ///
     /// # Errors
     ///
-    /// `AllocError` if out of memory. The data is dropped.
-    pub(crate) fn within(
-        mut self,
+    /// `AllocError` if out of memory. Attributes, events and links may be lost.
+    // In place, since a returned record is copied.
+    pub(crate) fn keep_within(
+        &mut self,
         alloc: Global,
         limits: SpanLimits,
-    ) -> Result<SpanData, AllocError>
-        ensures { IfOk result (λ recorded. recorded ≡ spec.within limits self) }
+    ) -> Result<(), AllocError>
+        ensures { OnOk result (self.new ≡ spec.keep_within limits self.old) }
     {
         let attributes = mem::replace(&mut self.attributes, Vec::new(alloc));
         let events = mem::replace(&mut self.events.events, Vec::new(alloc));
         let links = mem::replace(&mut self.links.links, Vec::new(alloc));
         self.set_attributes(alloc, limits, attributes)?;
         self.add_events(alloc, limits, events)?;
-        self.add_links(alloc, limits, links)?;
-        Ok(self)
+        self.add_links(alloc, limits, links)
     }
 }

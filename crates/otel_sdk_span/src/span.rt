@@ -14,7 +14,8 @@ use std::marker::Model;
 // The content of a span: its recorded data, or only its span context.
 #[derive(Debug, Drop)]
 enum Kept {
-    Recorded(SpanData),
+    // Boxed, since a span is moved several times before it is exported.
+    Recorded(Box<SpanData>),
     Context(SpanContext),
 }
 
@@ -71,11 +72,15 @@ impl SdkSpan {
     /// # Errors
     ///
     /// `AllocError` if out of memory. The data is dropped.
+    // Inlined, since a call copies the data.
+    #[inline(always)]
     pub fn new(alloc: Global, given: SpanData, limits: SpanLimits) -> Result<SdkSpan, AllocError>
         ensures { IfOk result (λ span. span ≡ spec.started limits given) }
     {
+        let mut recorded = Box::new(alloc, given)?;
+        recorded.keep_within(alloc, limits)?;
         Ok(SdkSpan {
-            kept: Kept::Recorded(given.within(alloc, limits)?),
+            kept: Kept::Recorded(recorded),
             limits,
             has_ended: false,
         })
@@ -104,7 +109,7 @@ impl SdkSpan {
         ensures { option_copied result ≡ self.now.recorded }
     {
         match &self.kept {
-            Kept::Recorded(recorded) => Some(recorded),
+            Kept::Recorded(recorded) => Some(recorded.as_ref()),
             Kept::Context(_) => None,
         }
     }
@@ -119,7 +124,7 @@ impl SdkSpan {
             has_ended: _,
         } = self;
         match kept {
-            Kept::Recorded(recorded) => Some(recorded),
+            Kept::Recorded(recorded) => Some(Box::into_inner(recorded)),
             Kept::Context(_) => None,
         }
     }

@@ -25,7 +25,6 @@ pub enum Effect {
 /// It records until it ends, until [`RecordingSpan::stop`], or until the first attribute after
 /// [`RecordingSpan::stop_at_attribute`]. It can be made to fail as if out of memory: see
 /// [`RecordingSpan::fail_after`].
-#[derive(Drop)]
 pub struct RecordingSpan {
     context: SpanContext,
     name: StringValue,
@@ -36,6 +35,23 @@ pub struct RecordingSpan {
     stops_at_attribute: bool,
     // The number of effects that it can still keep. No contract sees it.
     room: u64,
+}
+
+// Inlined, since a table that drops a span would copy it to call this.
+impl Drop for RecordingSpan {
+    #[inline(always)]
+    fn drop(self) {
+        let RecordingSpan {
+            context: _,
+            name: _,
+            effects: _,
+            status: _,
+            ended: _,
+            recording: _,
+            stops_at_attribute: _,
+            room: _,
+        } = self;
+    }
 }
 
 impl Model for RecordingSpan {

@@ -186,6 +186,8 @@ fn listed_links(alloc: Global, given: Option<Vec<Link>>) -> Vec<Link>
 /// # Errors
 ///
 /// `AllocError` if out of memory. All arguments are dropped.
+// Inlined, since a call copies the data.
+#[inline(always)]
 pub(crate) fn given_data(
     alloc: Global,
     scope: Rc<InstrumentationScope>,
