@@ -8,9 +8,11 @@ mod attacks;
 mod baggages;
 mod contexts;
 mod headers;
+mod held;
 mod https;
 mod ids;
 mod injections;
+mod lines;
 mod lives;
 mod name_member;
 mod operation;
@@ -48,6 +50,8 @@ fn play(task: &Task<'_>, rt: HostRuntime) -> Result<Option<u64>, AllocError> {
         "run" => runs::play(task, alloc),
         "sdk" => sdk::play(task, alloc, rt),
         "otlp" => requests::play(task, alloc, rt),
+        "held" => held::play(task, alloc, rt),
+        "line" => lines::play(task, alloc, rt),
         "live" => lives::play(task, alloc, rt),
         "http" => https::play(task, alloc),
         "picture" => pictures::play(task, alloc, rt),
