@@ -14,7 +14,7 @@ pub fn play(task: &Task<'_>, alloc: Global, rt: HostRuntime) -> Result<Option<u6
     let is_of_spans = match task.name {
         "held_span_context" => true,
         "held_value_context" => false,
-        _ => return spans(task, alloc, tracer(alloc, rt, Sampler::AlwaysOn)?),
+        _ => return hold_spans(task, alloc, tracer(alloc, rt, Sampler::AlwaysOn)?),
     };
     repeat(
         Contexts {
@@ -26,7 +26,7 @@ pub fn play(task: &Task<'_>, alloc: Global, rt: HostRuntime) -> Result<Option<u6
     )
 }
 
-fn spans(
+fn hold_spans(
     task: &Task<'_>,
     alloc: Global,
     tracer: SdkTracer<Pipeline>,
