@@ -2,7 +2,10 @@ pub mod Found
 pub mod Ids
 pub mod LeftOut
 pub mod Lists
-pub mod Members
+pub mod InOrder
+pub mod Tokens
+pub mod MessagesInOrder
+pub mod Places
 pub mod Nesting
 pub mod OneAttribute
 pub mod GroupMembers
@@ -40,6 +43,7 @@ pub mod RecordNesting
 pub mod RisingEntries
 pub mod ReadBackTrees
 pub mod LogMembers
+pub mod LogTokens
 pub mod ReadBackGiven
 pub mod ReadBackEntries
 pub mod Responses

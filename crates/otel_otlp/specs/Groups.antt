@@ -1,7 +1,10 @@
 -- Items grouped by scope, and scopes under a resource, for batches of spans and of log records
 -- [opentelemetry/proto/trace/v1/trace.proto, logs/v1/logs.proto].
-use Rattle.std.specs.Prelude.{List, [], ◌∷◌, ◌++◌, map, ℕ, Bool, codes, if◌then◌else◌, filter}
+use Rattle.std.specs.Prelude.{◌≡◌, List, [], ◌∷◌, ◌++◌, map, ℕ, Bool, codes, if◌then◌else◌, filter}
+use Rattle.std.specs.Cmp.Lexicographic.{slice_cmp}
 use Rattle.std.specs.List.{list_any}
+use Rattle.std.specs.Ordering.{nat_cmp}
+use Rattle.std.specs.declared.cmp.Ordering.TheVariants.{Less, Greater}
 use Rattle.otel_base.specs.InstrumentationScope as scope
 use Rattle.otel_base.specs.InstrumentationScope.{Scope}
 use Rattle.otel_sdk_base.specs.Resource.{Parts}
@@ -65,3 +68,13 @@ module _ {R : Type 0} (form : BatchForm R) where
   -- a batch of items of one resource, as one object (the protocol's `TracesData` and `LogsData`)
   abbrev pub batch_value : Parts → List R → Data
   batch_value of items = object_of (list_member form.resources (resource_value of items ∷ []))
+
+  -- where the names of a group's lists are in the order of names: that of a scope's items comes
+  -- before the other names of its group or after them, and that of the scopes comes last
+  pub record HasPlaces (items_come_first : Bool) : Type 0 where
+    pub items_url : slice_cmp nat_cmp form.items (codes "schemaUrl")
+        ≡ (if items_come_first then Less else Greater)
+    pub items_scope : slice_cmp nat_cmp form.items (codes "scope")
+        ≡ (if items_come_first then Less else Greater)
+    pub scopes_url : slice_cmp nat_cmp form.scopes (codes "schemaUrl") ≡ Greater
+    pub scopes_resource : slice_cmp nat_cmp form.scopes (codes "resource") ≡ Greater

@@ -12,7 +12,7 @@ pub mod Backoff
 pub mod Trees
 pub mod Logs
 pub mod Traces
-pub mod View
+pub mod Tokens
 pub mod Written
 pub mod Sorted
 pub mod SortedView

@@ -1,165 +1,178 @@
 //! The messages that traces and logs share: attributes, resources, instrumentation scopes.
-ghost use Rattle.std.specs.Prelude.{◌≡◌, IfOk, map};
-ghost use Rattle.serde_json.specs.View.{view};
+ghost use Rattle.std.specs.Prelude.{◌≡◌, [], ◌∷◌, IfOk, OnOk, codes, map};
+ghost use Rattle.json.specs.Token.{key, string, begin_object, end_object, begin_array, end_array};
 ghost use Rattle.otel_base.specs.View.{attribute_of, value_of, array_of};
 ghost use Rattle.otel_otlp.specs.Common as spec;
-ghost use Rattle.otel_otlp.specs.View.{Adds};
+ghost use Rattle.otel_otlp.specs.Tokens.{Appended, WritesValue, WritesMembers, WritesItems};
 
-use crate::object::{Members, put_list, put_list_unless_empty, put_text, put_text_if_given};
-use itoa::Buffer;
+use crate::object::{begin_list, put_integer, put_text, put_text_if_given};
+use json::Writer;
 use opentelemetry::{Array, InstrumentationScope, KeyValue, StringValue, Value};
 use otel_sdk_base::resource::Resource;
-use serde_json::{Map, Value as Json, put};
 use std::alloc::{AllocError, Global};
 
-/// Returns the value of a boolean.
-pub(crate) fn boolean_value(alloc: Global, value: bool) -> Result<Json, AllocError>
-    ensures { IfOk result (λ v. view v ≡ spec.boolean_value value) }
+/// Writes the value of a boolean.
+pub(crate) fn boolean_value(out: &mut Writer, value: bool) -> Result<(), AllocError>
+    ensures { WritesValue result out.old out.new (spec.boolean_value value) }
 {
-    let mut members = Map::new(alloc);
-    put(&mut members, alloc, "boolValue", Json::from(value))?;
-    Ok(Json::from(members))
+    out.begin_object()?;
+    out.key("boolValue")?;
+    out.boolean(value)?;
+    out.end_object()
 }
 
-/// Returns the value of an integer, as the text of its digits.
-pub(crate) fn integer_value(alloc: Global, value: i64) -> Result<Json, AllocError>
-    ensures { IfOk result (λ v. view v ≡ spec.integer_value value) }
+/// Writes the value of an integer, as the text of its digits.
+pub(crate) fn integer_value(out: &mut Writer, value: i64) -> Result<(), AllocError>
+    ensures { WritesValue result out.old out.new (spec.integer_value value) }
 {
-    let mut members = Map::new(alloc);
-    let mut digits = Buffer::new();
-    put_text(&mut members, alloc, "intValue", digits.format(value))?;
-    Ok(Json::from(members))
+    out.begin_object()?;
+    put_integer(out, "intValue", value)?;
+    out.end_object()
 }
 
-/// Returns the value of a text.
-pub(crate) fn text_value(alloc: Global, value: &str) -> Result<Json, AllocError>
-    ensures { IfOk result (λ v. view v ≡ spec.text_value value.now) }
+/// Writes the value of a text.
+pub(crate) fn text_value(out: &mut Writer, value: &str) -> Result<(), AllocError>
+    ensures { WritesValue result out.old out.new (spec.text_value value.now) }
 {
-    let mut members = Map::new(alloc);
-    put_text(&mut members, alloc, "stringValue", value)?;
-    Ok(Json::from(members))
+    out.begin_object()?;
+    put_text(out, "stringValue", value)?;
+    out.end_object()
 }
 
-/// Returns the value of a list of values.
-pub(crate) fn list_value(alloc: Global, values: Vec<Json>) -> Result<Json, AllocError>
-    ensures { IfOk result (λ v. view v ≡ spec.list_value (map view values.items)) }
+/// Begins the value of a list or of a map, which has its items under the name.
+pub(crate) fn begin_values(out: &mut Writer, name: &str) -> Result<(), AllocError>
+    ensures { OnOk result (Appended out.old out.new
+        (begin_object ∷ key name.now ∷ begin_object ∷ key (codes "values") ∷ begin_array ∷ [])) }
 {
-    let mut list = Map::new(alloc);
-    put_list(&mut list, alloc, "values", values)?;
-    let mut members = Map::new(alloc);
-    put(&mut members, alloc, "arrayValue", Json::from(list))?;
-    Ok(Json::from(members))
+    out.begin_object()?;
+    out.key(name)?;
+    out.begin_object()?;
+    begin_list(out, "values")
 }
 
-/// Returns the value of each boolean.
-fn boolean_values(alloc: Global, items: &[bool]) -> Result<Vec<Json>, AllocError>
-    ensures { IfOk result (λ v. map view v.items ≡ map spec.boolean_value items.now) }
+/// Ends the value of a list or of a map.
+pub(crate) fn end_values(out: &mut Writer) -> Result<(), AllocError>
+    ensures { OnOk result (Appended out.old out.new
+        (end_array ∷ end_object ∷ end_object ∷ [])) }
 {
-    let mut values = Vec::with_capacity(alloc, items.len())?;
+    out.end_array()?;
+    out.end_object()?;
+    out.end_object()
+}
+
+/// Writes the value of each boolean.
+fn boolean_values(out: &mut Writer, items: &[bool]) -> Result<(), AllocError>
+    ensures { WritesItems result out.old out.new (map spec.boolean_value items.now) }
+{
     for item in items {
-        values.push(boolean_value(alloc, *item)?)?;
+        boolean_value(out, *item)?;
     }
-    Ok(values)
+    Ok(())
 }
 
-/// Returns the value of each integer.
-fn integer_values(alloc: Global, items: &[i64]) -> Result<Vec<Json>, AllocError>
-    ensures { IfOk result (λ v. map view v.items ≡ map spec.integer_value items.now) }
+/// Writes the value of each integer.
+fn integer_values(out: &mut Writer, items: &[i64]) -> Result<(), AllocError>
+    ensures { WritesItems result out.old out.new (map spec.integer_value items.now) }
 {
-    let mut values = Vec::with_capacity(alloc, items.len())?;
     for item in items {
-        values.push(integer_value(alloc, *item)?)?;
+        integer_value(out, *item)?;
     }
-    Ok(values)
+    Ok(())
 }
 
-/// Returns the value of each text.
-fn text_values(alloc: Global, items: &[StringValue]) -> Result<Vec<Json>, AllocError>
-    ensures { IfOk result (λ v. map view v.items ≡ map spec.text_value items.now) }
+/// Writes the value of each text.
+fn text_values(out: &mut Writer, items: &[StringValue]) -> Result<(), AllocError>
+    ensures { WritesItems result out.old out.new (map spec.text_value items.now) }
 {
-    let mut values = Vec::with_capacity(alloc, items.len())?;
     for item in items {
-        values.push(text_value(alloc, item.as_str())?)?;
+        text_value(out, item.as_str())?;
     }
-    Ok(values)
+    Ok(())
 }
 
-/// Returns the value of each item of the array.
-fn array_values(alloc: Global, array: &Array) -> Result<Vec<Json>, AllocError>
-    ensures { IfOk result (λ v. map view v.items ≡ spec.array_values (array_of array.now)) }
+/// Writes the value of each item of the array.
+fn array_values(out: &mut Writer, array: &Array) -> Result<(), AllocError>
+    ensures { WritesItems result out.old out.new (spec.array_values (array_of array.now)) }
 {
     match array {
-        Array::Bool(items) => boolean_values(alloc, items.as_slice()),
-        Array::I64(items) => integer_values(alloc, items.as_slice()),
-        Array::String(items) => text_values(alloc, items.as_slice()),
+        Array::Bool(items) => boolean_values(out, items.as_slice()),
+        Array::I64(items) => integer_values(out, items.as_slice()),
+        Array::String(items) => text_values(out, items.as_slice()),
     }
 }
 
-/// Returns the value of an attribute (the protocol's `AnyValue`).
-fn any_value(alloc: Global, value: &Value) -> Result<Json, AllocError>
-    ensures { IfOk result (λ v. view v ≡ spec.any_value (value_of value.now)) }
+/// Writes the value of an array.
+fn array_value(out: &mut Writer, array: &Array) -> Result<(), AllocError>
+    ensures { WritesValue result out.old out.new
+        (spec.list_value (spec.array_values (array_of array.now))) }
+{
+    begin_values(out, "arrayValue")?;
+    array_values(out, array)?;
+    end_values(out)
+}
+
+/// Writes the value of an attribute (the protocol's `AnyValue`).
+fn any_value(out: &mut Writer, value: &Value) -> Result<(), AllocError>
+    ensures { WritesValue result out.old out.new (spec.any_value (value_of value.now)) }
 {
     match value {
-        Value::Bool(value) => boolean_value(alloc, *value),
-        Value::I64(value) => integer_value(alloc, *value),
-        Value::String(value) => text_value(alloc, value.as_str()),
-        Value::Array(array) => {
-            let values = array_values(alloc, array)?;
-            list_value(alloc, values)
-        }
+        Value::Bool(value) => boolean_value(out, *value),
+        Value::I64(value) => integer_value(out, *value),
+        Value::String(value) => text_value(out, value.as_str()),
+        Value::Array(array) => array_value(out, array),
     }
 }
 
-/// Returns a key with its value (the protocol's `KeyValue`).
-pub(crate) fn pair(alloc: Global, key: &str, value: Json) -> Result<Json, AllocError>
-    ensures { IfOk result (λ v. view v ≡ spec.pair key.now (view value)) }
+/// Begins a key with its value (the protocol's `KeyValue`), which ends with the object.
+pub(crate) fn begin_pair(out: &mut Writer, name: &str) -> Result<(), AllocError>
+    ensures { OnOk result (Appended out.old out.new
+        (begin_object ∷ key (codes "key") ∷ string name.now ∷ key (codes "value") ∷ [])) }
 {
-    let mut members = Map::new(alloc);
-    put_text(&mut members, alloc, "key", key)?;
-    put(&mut members, alloc, "value", value)?;
-    Ok(Json::from(members))
+    out.begin_object()?;
+    put_text(out, "key", name)?;
+    out.key("value")
 }
 
-/// Returns an attribute.
-fn key_value(alloc: Global, attribute: &KeyValue) -> Result<Json, AllocError>
-    ensures { IfOk result (λ v. view v ≡ spec.key_value (attribute_of attribute.now)) }
+/// Writes an attribute.
+fn key_value(out: &mut Writer, attribute: &KeyValue) -> Result<(), AllocError>
+    ensures { WritesValue result out.old out.new (spec.key_value (attribute_of attribute.now)) }
 {
-    let value = any_value(alloc, &attribute.value)?;
-    pair(alloc, attribute.key.as_str(), value)
+    begin_pair(out, attribute.key.as_str())?;
+    any_value(out, &attribute.value)?;
+    out.end_object()
 }
 
-/// Returns the value of each attribute.
-fn key_values(alloc: Global, attributes: &[KeyValue]) -> Result<Vec<Json>, AllocError>
-    ensures { IfOk result (λ v.
-        map view v.items ≡ map spec.key_value (map attribute_of attributes.now)) }
+/// Writes each attribute.
+fn key_values(out: &mut Writer, attributes: &[KeyValue]) -> Result<(), AllocError>
+    ensures { WritesItems result out.old out.new
+        (map spec.key_value (map attribute_of attributes.now)) }
 {
-    let mut values = Vec::with_capacity(alloc, attributes.len())?;
     for attribute in attributes {
-        values.push(key_value(alloc, attribute)?)?;
+        key_value(out, attribute)?;
     }
-    Ok(values)
+    Ok(())
 }
 
-/// Puts the attributes, unless there are none.
-pub(crate) fn put_attributes(
-    members: &mut Members,
-    alloc: Global,
-    attributes: &[KeyValue],
-) -> Result<(), AllocError>
-    ensures { Adds result members.old members.new
+/// Writes the member with the attributes, unless there are none.
+pub(crate) fn put_attributes(out: &mut Writer, attributes: &[KeyValue]) -> Result<(), AllocError>
+    ensures { WritesMembers result out.old out.new
         (spec.attributes_member (map attribute_of attributes.now)) }
 {
-    let values = key_values(alloc, attributes)?;
-    put_list_unless_empty(members, alloc, "attributes", values)
+    if attributes.is_empty() {
+        return Ok(());
+    }
+    begin_list(out, "attributes")?;
+    key_values(out, attributes)?;
+    out.end_array()
 }
 
-/// Returns a resource (the protocol's `Resource`).
-pub(crate) fn resource(alloc: Global, resource: &Resource) -> Result<Json, AllocError>
-    ensures { IfOk result (λ v. view v ≡ spec.resource resource.now) }
+/// Writes a resource (the protocol's `Resource`).
+pub(crate) fn resource(out: &mut Writer, resource: &Resource) -> Result<(), AllocError>
+    ensures { WritesValue result out.old out.new (spec.resource resource.now) }
 {
-    let mut members = Map::new(alloc);
-    put_attributes(&mut members, alloc, resource.attributes().as_slice())?;
-    Ok(Json::from(members))
+    out.begin_object()?;
+    put_attributes(out, resource.attributes().as_slice())?;
+    out.end_object()
 }
 
 /// Returns the scope's attributes with each key once: its last value at its first place.
@@ -177,17 +190,18 @@ fn unique(alloc: Global, scope: &InstrumentationScope) -> Result<Resource, Alloc
     )
 }
 
-/// Returns an instrumentation scope (the protocol's `InstrumentationScope`).
+/// Writes an instrumentation scope (the protocol's `InstrumentationScope`).
 pub(crate) fn instrumentation_scope(
+    out: &mut Writer,
     alloc: Global,
     scope: &InstrumentationScope,
-) -> Result<Json, AllocError>
-    ensures { IfOk result (λ v. view v ≡ spec.instrumentation_scope scope.now) }
+) -> Result<(), AllocError>
+    ensures { WritesValue result out.old out.new (spec.instrumentation_scope scope.now) }
 {
-    let mut members = Map::new(alloc);
-    put_text(&mut members, alloc, "name", scope.name())?;
-    put_text_if_given(&mut members, alloc, "version", scope.version())?;
     let given = unique(alloc, scope)?;
-    put_attributes(&mut members, alloc, given.attributes().as_slice())?;
-    Ok(Json::from(members))
+    out.begin_object()?;
+    put_attributes(out, given.attributes().as_slice())?;
+    put_text(out, "name", scope.name())?;
+    put_text_if_given(out, "version", scope.version())?;
+    out.end_object()
 }

@@ -26,5 +26,5 @@ pub use crate::read::{
 };
 pub use append_file::{AppendCalls, AppendFile};
 pub use exporter::{OtlpJsonExporter, OtlpJsonLogExporter, OtlpJsonSpanExporter};
-pub use logs::{logs_data, logs_text};
-pub use traces::{traces_data, traces_text};
+pub use logs::logs_text;
+pub use traces::traces_text;

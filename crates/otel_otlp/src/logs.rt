@@ -1,110 +1,80 @@
-//! The OTLP messages for log records.
-ghost use Rattle.std.specs.Prelude.{◌≡◌, ◌++◌, IfOk, OnOk, codes, map, option_map, string_bytes};
+//! The OTLP messages for log records. Members are written in the order of their names.
+ghost use Rattle.std.specs.Prelude.{◌≡◌, ◌++◌, ◌==◌, IfOk, codes, length, map, not};
+ghost use Rattle.std.specs.Prelude.{option_and_then, option_map, string_bytes};
 ghost use Rattle.std.specs.List.{list_any};
-ghost use Rattle.serde_json.specs.View.{view};
 ghost use Rattle.otel_base.specs.Severity.{number};
 ghost use Rattle.otel_base.specs.View.{tree, pairs_view};
 ghost use Rattle.otel_sdk_base.specs.Attributes.{up_by};
 ghost use Rattle.otel_otlp.specs.Json.{IsTextOf, number_if_given, text_if_given};
+ghost use Rattle.otel_otlp.specs.Json.{list_unless_empty, trace_id_text, span_id_text};
 ghost use Rattle.otel_otlp.specs.Logs as spec;
+ghost use Rattle.otel_otlp.specs.Tokens.{WritesValue, WritesMembers, WritesItems};
 ghost use Rattle.otel_otlp.specs.Trees.{cut_parts_of_attributes};
-ghost use Rattle.otel_otlp.specs.View.{Adds};
 
-use crate::common::{pair, text_value};
-use crate::groups::{Grouped, ListNames, batch_text, batch_value};
+use crate::common::{begin_pair, text_value};
+use crate::groups::{Grouped, ListNames, batch_text};
 use crate::object::{
-    Members, put_decimal_if_given, put_list_unless_empty, put_number, put_number_if_given,
-    put_number_unless_zero, put_span_id, put_text, put_trace_id,
+    begin_list, put_decimal_if_given, put_number, put_number_if_given, put_number_unless_zero,
+    put_span_id, put_text, put_trace_id,
 };
 use crate::trees::{MAX_LEVELS, add_cut_parts, tree_value};
+use json::Writer;
 use opentelemetry::logs::{AnyValue, Severity};
 use opentelemetry::trace::TraceFlags;
 use opentelemetry::{InstrumentationScope, Key, StringValue};
 use otel_sdk_base::resource::Resource;
 use otel_sdk_logs::{LogData, SdkLogRecord, TraceContext};
-use serde_json::{Map, Value, put};
 use std::alloc::{AllocError, Global};
 
-/// Puts the times at which the event happened and was observed.
-fn put_times(members: &mut Members, alloc: Global, log: &SdkLogRecord) -> Result<(), AllocError>
-    ensures { Adds result members.old members.new (spec.times log.now) }
-{
-    put_decimal_if_given(members, alloc, "timeUnixNano", log.timestamp)?;
-    put_decimal_if_given(
-        members,
-        alloc,
-        "observedTimeUnixNano",
-        log.observed_timestamp,
-    )
-}
-
-/// Puts a text, if it is given.
-fn put_name(
-    members: &mut Members,
-    alloc: Global,
-    name: &str,
-    text: &Option<StringValue>,
-) -> Result<(), AllocError>
-    ensures { Adds result members.old members.new (text_if_given name.now text.now) }
+/// Writes a member with a text, if it is given.
+fn put_name(out: &mut Writer, name: &str, text: &Option<StringValue>) -> Result<(), AllocError>
+    ensures { WritesMembers result out.old out.new (text_if_given name.now text.now) }
 {
     match text {
-        Some(text) => put_text(members, alloc, name, text.as_str()),
+        Some(text) => put_text(out, name, text.as_str()),
         None => Ok(()),
     }
 }
 
-/// Puts the number of the severity, if it is given (the protocol's `SeverityNumber`).
-fn put_severity(
-    members: &mut Members,
-    alloc: Global,
-    severity: Option<Severity>,
-) -> Result<(), AllocError>
-    ensures { Adds result members.old members.new
+/// Writes the member with the number of the severity, if it is given (the protocol's
+/// `SeverityNumber`).
+fn put_severity(out: &mut Writer, severity: Option<Severity>) -> Result<(), AllocError>
+    ensures { WritesMembers result out.old out.new
         (number_if_given (codes "severityNumber") (option_map number severity)) }
 {
     match severity {
         Some(severity) => {
             let number = u32::from(severity.number());
-            put_number(members, alloc, "severityNumber", number)
+            put_number(out, "severityNumber", number)
         }
         None => Ok(()),
     }
 }
 
-/// Puts the body, if there is one.
-fn put_body(members: &mut Members, alloc: Global, body: &Option<AnyValue>) -> Result<(), AllocError>
-    ensures { Adds result members.old members.new (spec.body_member (option_map tree body.now)) }
+/// Writes the member with the body, if there is one.
+fn put_body(out: &mut Writer, alloc: Global, body: &Option<AnyValue>) -> Result<(), AllocError>
+    ensures { WritesMembers result out.old out.new (spec.body_member (option_map tree body.now)) }
 {
     match body {
         Some(body) => {
-            let value = tree_value(alloc, body, MAX_LEVELS)?;
-            put(members, alloc, "body", value)
+            out.key("body")?;
+            tree_value(out, alloc, body, MAX_LEVELS)
         }
         None => Ok(()),
     }
 }
 
-/// Puts the severity, the event name and the body.
-fn put_content(members: &mut Members, alloc: Global, log: &SdkLogRecord) -> Result<(), AllocError>
-    ensures { Adds result members.old members.new (spec.content log.now) }
+/// Writes each attribute.
+fn pairs(out: &mut Writer, alloc: Global, attributes: &[(Key, AnyValue)]) -> Result<(), AllocError>
+    ensures { WritesItems result out.old out.new
+        (map spec.attribute (pairs_view attributes.now)) }
 {
-    put_severity(members, alloc, log.severity_number)?;
-    put_name(members, alloc, "severityText", &log.severity_text)?;
-    put_name(members, alloc, "eventName", &log.event_name)?;
-    put_body(members, alloc, &log.body)
-}
-
-/// Returns the value of each attribute.
-fn pairs(alloc: Global, attributes: &[(Key, AnyValue)]) -> Result<Vec<Value>, AllocError>
-    ensures { IfOk result (λ v. map view v.items
-        ≡ map spec.attribute (pairs_view attributes.now)) }
-{
-    let mut values = Vec::with_capacity(alloc, attributes.len())?;
     for attribute in attributes {
-        let value = tree_value(alloc, &attribute.1, MAX_LEVELS)?;
-        values.push(pair(alloc, attribute.0.as_str(), value)?)?;
+        begin_pair(out, attribute.0.as_str())?;
+        tree_value(out, alloc, &attribute.1, MAX_LEVELS)?;
+        out.end_object()?;
     }
-    Ok(values)
+    Ok(())
 }
 
 /// Returns whether the attribute has the key of a target.
@@ -121,15 +91,14 @@ fn has_target(attributes: &[(Key, AnyValue)]) -> bool
     attributes.iter().any(|attribute| is_target(attribute))
 }
 
-/// Adds the target, unless one of the attributes has its key.
+/// Writes the target as an attribute, unless one of the attributes has its key.
 fn add_target(
-    values: &mut Vec<Value>,
-    alloc: Global,
+    out: &mut Writer,
     held: &[(Key, AnyValue)],
     target: &Option<StringValue>,
 ) -> Result<(), AllocError>
-    ensures { OnOk result (map view values.new.items ≡ map view values.old.items
-        ++ map spec.attribute (spec.target_attribute (pairs_view held.now) target.now)) }
+    ensures { WritesItems result out.old out.new
+        (map spec.attribute (spec.target_attribute (pairs_view held.now) target.now)) }
 {
     let Some(target) = target else {
         return Ok(());
@@ -137,20 +106,31 @@ fn add_target(
     if has_target(held) {
         return Ok(());
     }
-    let value = text_value(alloc, target.as_str())?;
-    values.push(pair(alloc, "log.target", value)?)?;
-    Ok(())
+    begin_pair(out, "log.target")?;
+    text_value(out, target.as_str())?;
+    out.end_object()
 }
 
-/// Returns the value of each of the record's attributes, with the target last.
-fn attributes(alloc: Global, log: &SdkLogRecord) -> Result<Vec<Value>, AllocError>
-    ensures { IfOk result (λ v. map view v.items
-        ≡ map spec.attribute (spec.attributes log.now)) }
+/// Returns whether the record has an attribute or a target.
+fn has_attributes(log: &SdkLogRecord) -> bool
+    ensures { result ≡ not (length (spec.attributes log.now) == 0) }
 {
+    !log.attributes.is_empty() || log.target.is_some()
+}
+
+/// Writes the member with the record's attributes, with the target last, unless there are none.
+fn put_attributes(out: &mut Writer, alloc: Global, log: &SdkLogRecord) -> Result<(), AllocError>
+    ensures { WritesMembers result out.old out.new
+        (list_unless_empty (codes "attributes") (map spec.attribute (spec.attributes log.now))) }
+{
+    if !has_attributes(log) {
+        return Ok(());
+    }
     let held = log.attributes.as_slice();
-    let mut values = pairs(alloc, held)?;
-    add_target(&mut values, alloc, held, &log.target)?;
-    Ok(values)
+    begin_list(out, "attributes")?;
+    pairs(out, alloc, held)?;
+    add_target(out, held, &log.target)?;
+    out.end_array()
 }
 
 /// Returns the count plus the number of parts of the attributes that are cut.
@@ -176,44 +156,69 @@ fn dropped(log: &SdkLogRecord) -> u32
     }
 }
 
-/// Puts the attributes, and the number of attributes that were dropped and parts that are cut.
-fn put_details(members: &mut Members, alloc: Global, log: &SdkLogRecord) -> Result<(), AllocError>
-    ensures { Adds result members.old members.new (spec.details log.now) }
+/// Writes the member with the trace flags, if there are any.
+fn put_flags(out: &mut Writer, context: &Option<TraceContext>) -> Result<(), AllocError>
+    ensures { WritesMembers result out.old out.new (number_if_given (codes "flags")
+        (option_and_then (λ c. c.trace_flags) context.now)) }
 {
-    let values = attributes(alloc, log)?;
-    put_list_unless_empty(members, alloc, "attributes", values)?;
-    put_number_unless_zero(members, alloc, "droppedAttributesCount", dropped(log))
+    match context {
+        Some(context) => {
+            let flags = context
+                .trace_flags
+                .map(|flags: TraceFlags| u32::from(flags.to_u8()));
+            put_number_if_given(out, "flags", flags)
+        }
+        None => Ok(()),
+    }
 }
 
-/// Puts the span that was active, if there was one.
-fn put_trace(
-    members: &mut Members,
+/// Writes the member with the id of the span that was active, if there was one.
+fn put_span(
+    out: &mut Writer,
     alloc: Global,
     context: &Option<TraceContext>,
 ) -> Result<(), AllocError>
-    ensures { Adds result members.old members.new (spec.trace_members context.now) }
+    ensures { WritesMembers result out.old out.new (text_if_given (codes "spanId")
+        (option_map (λ c. span_id_text c.span_id) context.now)) }
 {
-    let Some(context) = context else {
-        return Ok(());
-    };
-    put_trace_id(members, alloc, "traceId", context.trace_id)?;
-    put_span_id(members, alloc, "spanId", context.span_id)?;
-    let flags = context
-        .trace_flags
-        .map(|flags: TraceFlags| u32::from(flags.to_u8()));
-    put_number_if_given(members, alloc, "flags", flags)
+    match context {
+        Some(context) => put_span_id(out, alloc, "spanId", context.span_id),
+        None => Ok(()),
+    }
 }
 
-/// Returns a log record (the protocol's `LogRecord`).
-fn log_record(alloc: Global, log: &SdkLogRecord) -> Result<Value, AllocError>
-    ensures { IfOk result (λ v. view v ≡ spec.log_record log.now) }
+/// Writes the member with the id of the trace that was active, if there was one.
+fn put_trace(
+    out: &mut Writer,
+    alloc: Global,
+    context: &Option<TraceContext>,
+) -> Result<(), AllocError>
+    ensures { WritesMembers result out.old out.new (text_if_given (codes "traceId")
+        (option_map (λ c. trace_id_text c.trace_id) context.now)) }
 {
-    let mut members = Map::new(alloc);
-    put_times(&mut members, alloc, log)?;
-    put_content(&mut members, alloc, log)?;
-    put_details(&mut members, alloc, log)?;
-    put_trace(&mut members, alloc, &log.trace_context)?;
-    Ok(Value::from(members))
+    match context {
+        Some(context) => put_trace_id(out, alloc, "traceId", context.trace_id),
+        None => Ok(()),
+    }
+}
+
+/// Writes a log record (the protocol's `LogRecord`).
+fn log_record(out: &mut Writer, alloc: Global, log: &SdkLogRecord) -> Result<(), AllocError>
+    ensures { WritesValue result out.old out.new (spec.log_record log.now) }
+{
+    out.begin_object()?;
+    put_attributes(out, alloc, log)?;
+    put_body(out, alloc, &log.body)?;
+    put_number_unless_zero(out, "droppedAttributesCount", dropped(log))?;
+    put_name(out, "eventName", &log.event_name)?;
+    put_flags(out, &log.trace_context)?;
+    put_decimal_if_given(out, "observedTimeUnixNano", log.observed_timestamp)?;
+    put_severity(out, log.severity_number)?;
+    put_name(out, "severityText", &log.severity_text)?;
+    put_span(out, alloc, &log.trace_context)?;
+    put_decimal_if_given(out, "timeUnixNano", log.timestamp)?;
+    put_trace(out, alloc, &log.trace_context)?;
+    out.end_object()
 }
 
 impl Grouped for LogData {
@@ -225,8 +230,8 @@ impl Grouped for LogData {
         &self.instrumentation_scope
     }
 
-    fn value(&self, alloc: Global) -> Result<Value, AllocError> {
-        log_record(alloc, &self.record)
+    fn write(&self, out: &mut Writer, alloc: Global) -> Result<(), AllocError> {
+        log_record(out, alloc, &self.record)
     }
 
     fn list_names() -> ListNames {
@@ -234,28 +239,19 @@ impl Grouped for LogData {
             resources: "resourceLogs",
             scopes: "scopeLogs",
             items: "logRecords",
+            items_come_first: true,
         }
     }
 }
 
-/// Returns a batch of log records of one resource (the protocol's `LogsData`).
+/// Returns a batch of log records of one resource as one JSON object, without a line break (the
+/// protocol's `LogsData`).
 ///
 /// The scopes are in the order in which they first appear, each with its records in order. A
 /// record's target is its last attribute, `log.target`, unless the record already has that key.
 /// In its body and attributes, each list or map inside 32 others is the text `..`, and adds 1 to
-/// the record's `droppedAttributesCount`, saturating at `u32::MAX`.
-///
-/// # Errors
-///
-/// `AllocError` if out of memory.
-pub fn logs_data(alloc: Global, resource: &Resource, batch: &[LogData]) -> Result<Value, AllocError>
-    ensures { IfOk result (λ v. view v ≡ spec.logs_data resource.now batch.now) }
-{
-    batch_value(alloc, resource, batch)
-}
-
-/// Returns a batch of log records of one resource as one JSON object, without a line break (the
-/// protocol's `LogsData`): the text of [`logs_data`].
+/// the record's `droppedAttributesCount`, saturating at `u32::MAX`. The members of an object are in
+/// the order of their names.
 ///
 /// # Errors
 ///

@@ -1,39 +1,39 @@
-//! The OTLP messages for traces.
-ghost use Rattle.std.specs.Prelude.{◌≡◌, IfOk, map, string_bytes};
-ghost use Rattle.serde_json.specs.View.{view};
+//! The OTLP messages for traces. Members are written in the order of their names.
+ghost use Rattle.std.specs.Prelude.{◌≡◌, ◌++◌, IfOk, codes, map, string_bytes};
 ghost use Rattle.opentelemetry.specs.View.{event_of, link_of};
+ghost use Rattle.otel_ids.specs.TraceState.{header};
+ghost use Rattle.otel_otlp.specs.Json.{IsTextOf, text_member, number_member, text_unless_empty};
+ghost use Rattle.otel_otlp.specs.Json.{trace_id_text, span_id_text};
+ghost use Rattle.otel_otlp.specs.Tokens.{WritesValue, WritesMembers, WritesItems};
 ghost use Rattle.otel_otlp.specs.Traces as spec;
-ghost use Rattle.otel_otlp.specs.Json.{IsTextOf};
-ghost use Rattle.otel_otlp.specs.View.{Adds};
 
 use crate::common::put_attributes;
-use crate::groups::{Grouped, ListNames, batch_text, batch_value};
+use crate::groups::{Grouped, ListNames, batch_text};
 use crate::object::{
-    Members, put_decimal, put_list_unless_empty, put_number, put_number_unless_zero, put_span_id,
-    put_text, put_text_unless_empty, put_trace_id,
+    begin_list, put_decimal, put_number, put_number_unless_zero, put_span_id, put_text,
+    put_text_unless_empty, put_trace_id,
 };
+use json::Writer;
 use opentelemetry::InstrumentationScope;
 use opentelemetry::trace::{Event, Link, SpanContext, SpanId, SpanKind, Status};
 use otel_sdk_base::resource::Resource;
 use otel_sdk_span::SpanData;
-use serde_json::{Map, Value, put};
 use std::alloc::{AllocError, Global};
 
-/// Returns an event (the protocol's `Span.Event`).
-fn event(alloc: Global, event: &Event) -> Result<Value, AllocError>
-    ensures { IfOk result (λ v. view v ≡ spec.event (event_of event.now)) }
+/// Writes an event (the protocol's `Span.Event`).
+fn event(out: &mut Writer, event: &Event) -> Result<(), AllocError>
+    ensures { WritesValue result out.old out.new (spec.event (event_of event.now)) }
 {
-    let mut members = Map::new(alloc);
-    put_decimal(&mut members, alloc, "timeUnixNano", event.timestamp)?;
-    put_text(&mut members, alloc, "name", event.name.as_str())?;
-    put_attributes(&mut members, alloc, event.attributes.as_slice())?;
+    out.begin_object()?;
+    put_attributes(out, event.attributes.as_slice())?;
     put_number_unless_zero(
-        &mut members,
-        alloc,
+        out,
         "droppedAttributesCount",
         event.dropped_attributes_count,
     )?;
-    Ok(Value::from(members))
+    put_text(out, "name", event.name.as_str())?;
+    put_decimal(out, "timeUnixNano", event.timestamp)?;
+    out.end_object()
 }
 
 /// Returns the flags of a span or a link.
@@ -43,75 +43,63 @@ fn flags(context: &SpanContext, is_remote: bool) -> u32
     u32::from(context.trace_flags().to_u8()) + if is_remote { 768 } else { 256 }
 }
 
-/// Puts the trace id, the span id and the trace state.
-fn put_context(
-    members: &mut Members,
-    alloc: Global,
-    context: &SpanContext,
-) -> Result<(), AllocError>
-    ensures { Adds result members.old members.new (spec.context_members context.now) }
+/// Writes the members with the trace id and the trace state.
+fn put_trace(out: &mut Writer, alloc: Global, context: &SpanContext) -> Result<(), AllocError>
+    ensures { WritesMembers result out.old out.new
+        (text_member (codes "traceId") (trace_id_text context.now.trace_id)
+        ++ text_unless_empty (codes "traceState") (header context.now.trace_state)) }
 {
-    put_trace_id(members, alloc, "traceId", context.trace_id())?;
-    put_span_id(members, alloc, "spanId", context.span_id())?;
+    put_trace_id(out, alloc, "traceId", context.trace_id())?;
     let state = context.trace_state().header(alloc)?;
-    put_text_unless_empty(members, alloc, "traceState", state.as_str())
+    put_text_unless_empty(out, "traceState", state.as_str())
 }
 
-/// Returns a link (the protocol's `Span.Link`).
-fn link(alloc: Global, link: &Link) -> Result<Value, AllocError>
-    ensures { IfOk result (λ v. view v ≡ spec.link (link_of link.now)) }
+/// Writes a link (the protocol's `Span.Link`).
+fn link(out: &mut Writer, alloc: Global, link: &Link) -> Result<(), AllocError>
+    ensures { WritesValue result out.old out.new (spec.link (link_of link.now)) }
 {
     let context = &link.span_context;
-    let mut members = Map::new(alloc);
-    put_context(&mut members, alloc, context)?;
-    put_number(
-        &mut members,
-        alloc,
-        "flags",
-        flags(context, context.is_remote()),
-    )?;
-    put_attributes(&mut members, alloc, link.attributes.as_slice())?;
-    put_number_unless_zero(
-        &mut members,
-        alloc,
-        "droppedAttributesCount",
-        link.dropped_attributes_count,
-    )?;
-    Ok(Value::from(members))
+    out.begin_object()?;
+    put_attributes(out, link.attributes.as_slice())?;
+    put_number_unless_zero(out, "droppedAttributesCount", link.dropped_attributes_count)?;
+    put_number(out, "flags", flags(context, context.is_remote()))?;
+    put_span_id(out, alloc, "spanId", context.span_id())?;
+    put_trace(out, alloc, context)?;
+    out.end_object()
 }
 
-/// Returns the status of a failure with this description.
-fn failure(alloc: Global, description: &str) -> Result<Value, AllocError>
-    ensures { IfOk result (λ v. view v ≡ spec.failure description.now) }
+/// Writes the status of a failure with this description.
+fn failure(out: &mut Writer, description: &str) -> Result<(), AllocError>
+    ensures { WritesValue result out.old out.new (spec.failure description.now) }
 {
-    let mut members = Map::new(alloc);
-    put_number(&mut members, alloc, "code", 2)?;
-    put_text_unless_empty(&mut members, alloc, "message", description)?;
-    Ok(Value::from(members))
+    out.begin_object()?;
+    put_number(out, "code", 2)?;
+    put_text_unless_empty(out, "message", description)?;
+    out.end_object()
 }
 
-/// Returns the status of a success.
-fn success(alloc: Global) -> Result<Value, AllocError>
-    ensures { IfOk result (λ v. view v ≡ spec.success) }
+/// Writes the status of a success.
+fn success(out: &mut Writer) -> Result<(), AllocError>
+    ensures { WritesValue result out.old out.new spec.success }
 {
-    let mut members = Map::new(alloc);
-    put_number(&mut members, alloc, "code", 1)?;
-    Ok(Value::from(members))
+    out.begin_object()?;
+    put_number(out, "code", 1)?;
+    out.end_object()
 }
 
-/// Puts the status (the protocol's `Status`), unless it is unset.
-fn put_status(members: &mut Members, alloc: Global, status: &Status) -> Result<(), AllocError>
-    ensures { Adds result members.old members.new (spec.status_member status.now) }
+/// Writes the member with the status (the protocol's `Status`), unless it is unset.
+fn put_status(out: &mut Writer, status: &Status) -> Result<(), AllocError>
+    ensures { WritesMembers result out.old out.new (spec.status_member status.now) }
 {
     match status {
         Status::Unset => Ok(()),
         Status::Ok => {
-            let value = success(alloc)?;
-            put(members, alloc, "status", value)
+            out.key("status")?;
+            success(out)
         }
         Status::Error { description } => {
-            let value = failure(alloc, description.as_str())?;
-            put(members, alloc, "status", value)
+            out.key("status")?;
+            failure(out, description.as_str())
         }
     }
 }
@@ -129,125 +117,100 @@ fn kind_number(kind: SpanKind) -> u32
     }
 }
 
-/// Puts the span id of the parent, unless the span is a root.
-fn put_parent(members: &mut Members, alloc: Global, id: SpanId) -> Result<(), AllocError>
-    ensures { Adds result members.old members.new (spec.parent_member id) }
+/// Writes the member with the kind.
+fn put_kind(out: &mut Writer, kind: SpanKind) -> Result<(), AllocError>
+    ensures { WritesMembers result out.old out.new
+        (number_member (codes "kind") (spec.kind_number kind)) }
+{
+    put_number(out, "kind", kind_number(kind))
+}
+
+/// Writes the member with the span id of the parent, unless the span is a root.
+fn put_parent(out: &mut Writer, alloc: Global, id: SpanId) -> Result<(), AllocError>
+    ensures { WritesMembers result out.old out.new (spec.parent_member id) }
 {
     if id == SpanId::INVALID {
         return Ok(());
     }
-    put_span_id(members, alloc, "parentSpanId", id)
+    put_span_id(out, alloc, "parentSpanId", id)
 }
 
-/// Puts the identity of the span: its context, its parent and its flags.
-fn put_identity(members: &mut Members, alloc: Global, span: &SpanData) -> Result<(), AllocError>
-    ensures { Adds result members.old members.new (spec.identity span.now) }
+/// Writes each event.
+fn events(out: &mut Writer, items: &[Event]) -> Result<(), AllocError>
+    ensures { WritesItems result out.old out.new (map spec.event (map event_of items.now)) }
 {
-    let context = &span.span_context;
-    put_context(members, alloc, context)?;
-    put_parent(members, alloc, span.parent_span_id)?;
-    put_number(
-        members,
-        alloc,
-        "flags",
-        flags(context, span.parent_span_is_remote),
-    )
-}
-
-/// Puts the span's name, kind, times and status.
-fn put_work(members: &mut Members, alloc: Global, span: &SpanData) -> Result<(), AllocError>
-    ensures { Adds result members.old members.new (spec.work span.now) }
-{
-    put_text(members, alloc, "name", span.name.as_str())?;
-    put_number(members, alloc, "kind", kind_number(span.span_kind))?;
-    put_decimal(members, alloc, "startTimeUnixNano", span.start_time)?;
-    put_decimal(members, alloc, "endTimeUnixNano", span.end_time)?;
-    put_status(members, alloc, &span.status)
-}
-
-/// Returns the value of each event.
-fn events(alloc: Global, items: &[Event]) -> Result<Vec<Value>, AllocError>
-    ensures { IfOk result (λ v. map view v.items ≡ map spec.event (map event_of items.now)) }
-{
-    let mut values = Vec::with_capacity(alloc, items.len())?;
     for item in items {
-        values.push(event(alloc, item)?)?;
+        event(out, item)?;
     }
-    Ok(values)
+    Ok(())
 }
 
-/// Returns the value of each link.
-fn links(alloc: Global, items: &[Link]) -> Result<Vec<Value>, AllocError>
-    ensures { IfOk result (λ v. map view v.items ≡ map spec.link (map link_of items.now)) }
+/// Writes each link.
+fn links(out: &mut Writer, alloc: Global, items: &[Link]) -> Result<(), AllocError>
+    ensures { WritesItems result out.old out.new (map spec.link (map link_of items.now)) }
 {
-    let mut values = Vec::with_capacity(alloc, items.len())?;
     for item in items {
-        values.push(link(alloc, item)?)?;
+        link(out, alloc, item)?;
     }
-    Ok(values)
+    Ok(())
 }
 
-/// Puts the events, unless there are none.
-fn put_events(members: &mut Members, alloc: Global, items: &[Event]) -> Result<(), AllocError>
-    ensures { Adds result members.old members.new
+/// Writes the member with the events, unless there are none.
+fn put_events(out: &mut Writer, items: &[Event]) -> Result<(), AllocError>
+    ensures { WritesMembers result out.old out.new
         (spec.events_member (map event_of items.now)) }
 {
-    let values = events(alloc, items)?;
-    put_list_unless_empty(members, alloc, "events", values)
+    if items.is_empty() {
+        return Ok(());
+    }
+    begin_list(out, "events")?;
+    events(out, items)?;
+    out.end_array()
 }
 
-/// Puts the links, unless there are none.
-fn put_links(members: &mut Members, alloc: Global, items: &[Link]) -> Result<(), AllocError>
-    ensures { Adds result members.old members.new
+/// Writes the member with the links, unless there are none.
+fn put_links(out: &mut Writer, alloc: Global, items: &[Link]) -> Result<(), AllocError>
+    ensures { WritesMembers result out.old out.new
         (spec.links_member (map link_of items.now)) }
 {
-    let values = links(alloc, items)?;
-    put_list_unless_empty(members, alloc, "links", values)
+    if items.is_empty() {
+        return Ok(());
+    }
+    begin_list(out, "links")?;
+    links(out, alloc, items)?;
+    out.end_array()
 }
 
-/// Puts the span's attributes, events and links.
-fn put_records(members: &mut Members, alloc: Global, span: &SpanData) -> Result<(), AllocError>
-    ensures { Adds result members.old members.new (spec.records span.now) }
+/// Writes the members with the numbers of attributes, events and links that were dropped because of
+/// limits.
+fn put_losses(out: &mut Writer, span: &SpanData) -> Result<(), AllocError>
+    ensures { WritesMembers result out.old out.new (spec.losses span.now) }
 {
-    put_attributes(members, alloc, span.attributes.as_slice())?;
-    put_events(members, alloc, span.events.events.as_slice())?;
-    put_links(members, alloc, span.links.links.as_slice())
+    put_number_unless_zero(out, "droppedAttributesCount", span.dropped_attributes_count)?;
+    put_number_unless_zero(out, "droppedEventsCount", span.events.dropped_count)?;
+    put_number_unless_zero(out, "droppedLinksCount", span.links.dropped_count)
 }
 
-/// Puts the numbers of attributes, events and links that were dropped because of limits.
-fn put_losses(members: &mut Members, alloc: Global, span: &SpanData) -> Result<(), AllocError>
-    ensures { Adds result members.old members.new (spec.losses span.now) }
+/// Writes a span (the protocol's `Span`).
+fn span(out: &mut Writer, alloc: Global, span: &SpanData) -> Result<(), AllocError>
+    ensures { WritesValue result out.old out.new (spec.span span.now) }
 {
-    put_number_unless_zero(
-        members,
-        alloc,
-        "droppedAttributesCount",
-        span.dropped_attributes_count,
-    )?;
-    put_number_unless_zero(
-        members,
-        alloc,
-        "droppedEventsCount",
-        span.events.dropped_count,
-    )?;
-    put_number_unless_zero(
-        members,
-        alloc,
-        "droppedLinksCount",
-        span.links.dropped_count,
-    )
-}
-
-/// Returns a span (the protocol's `Span`).
-fn span(alloc: Global, span: &SpanData) -> Result<Value, AllocError>
-    ensures { IfOk result (λ v. view v ≡ spec.span span.now) }
-{
-    let mut members = Map::new(alloc);
-    put_identity(&mut members, alloc, span)?;
-    put_work(&mut members, alloc, span)?;
-    put_records(&mut members, alloc, span)?;
-    put_losses(&mut members, alloc, span)?;
-    Ok(Value::from(members))
+    let context = &span.span_context;
+    out.begin_object()?;
+    put_attributes(out, span.attributes.as_slice())?;
+    put_losses(out, span)?;
+    put_decimal(out, "endTimeUnixNano", span.end_time)?;
+    put_events(out, span.events.events.as_slice())?;
+    put_number(out, "flags", flags(context, span.parent_span_is_remote))?;
+    put_kind(out, span.span_kind)?;
+    put_links(out, alloc, span.links.links.as_slice())?;
+    put_text(out, "name", span.name.as_str())?;
+    put_parent(out, alloc, span.parent_span_id)?;
+    put_span_id(out, alloc, "spanId", context.span_id())?;
+    put_decimal(out, "startTimeUnixNano", span.start_time)?;
+    put_status(out, &span.status)?;
+    put_trace(out, alloc, context)?;
+    out.end_object()
 }
 
 impl Grouped for SpanData {
@@ -259,8 +222,8 @@ impl Grouped for SpanData {
         &self.instrumentation_scope
     }
 
-    fn value(&self, alloc: Global) -> Result<Value, AllocError> {
-        span(alloc, self)
+    fn write(&self, out: &mut Writer, alloc: Global) -> Result<(), AllocError> {
+        span(out, alloc, self)
     }
 
     fn list_names() -> ListNames {
@@ -268,29 +231,16 @@ impl Grouped for SpanData {
             resources: "resourceSpans",
             scopes: "scopeSpans",
             items: "spans",
+            items_come_first: false,
         }
     }
 }
 
-/// Returns a batch of spans of one resource (the protocol's `TracesData`).
-///
-/// The scopes are in the order in which they first appear, each with its spans in order.
-///
-/// # Errors
-///
-/// `AllocError` if out of memory.
-pub fn traces_data(
-    alloc: Global,
-    resource: &Resource,
-    batch: &[SpanData],
-) -> Result<Value, AllocError>
-    ensures { IfOk result (λ v. view v ≡ spec.traces_data resource.now batch.now) }
-{
-    batch_value(alloc, resource, batch)
-}
-
 /// Returns a batch of spans of one resource as one JSON object, without a line break (the
 /// protocol's `TracesData`).
+///
+/// The scopes are in the order in which they first appear, each with its spans in order. The
+/// members of an object are in the order of their names.
 ///
 /// # Errors
 ///

@@ -4,6 +4,7 @@ ghost use Rattle.std.specs.Prelude.{string_bytes, ℕ, Option, [], codes};
 ghost use Rattle.serde_json.specs.View.{view};
 ghost use Rattle.otel_ids.specs.TraceState.{Pair};
 ghost use Rattle.otel_otlp.specs.HttpResponse.{IsCount};
+ghost use Rattle.otel_otlp.specs.Json.{IsTextOf};
 ghost use Rattle.otel_otlp.specs.ReadMembers as spec;
 ghost use Rattle.otel_otlp.specs.ReadMembers.{IsRefused};
 ghost use Rattle.otel_otlp.specs.ReadErrors.{NamesPlace};
@@ -13,7 +14,7 @@ use hex::FromHex;
 use opentelemetry::StringValue;
 use opentelemetry::trace::{SpanId, TraceId, TraceState, TraceStateError};
 use serde_json::Value;
-use std::alloc::Global;
+use std::alloc::{AllocError, Global};
 
 /// Returns the member, unless it is absent or null.
 pub(crate) fn member<'v>(object: &'v Value, name: &str) -> Option<&'v Value>
@@ -23,6 +24,13 @@ pub(crate) fn member<'v>(object: &'v Value, name: &str) -> Option<&'v Value>
         Some(value) => if value.is_null() { None } else { Some(value) },
         None => None,
     }
+}
+
+/// Returns the text of the value.
+pub(crate) fn to_text(alloc: Global, value: &Value) -> Result<String, AllocError>
+    ensures { IfOk result (λ s. IsTextOf (string_bytes s) (view value.now)) }
+{
+    value.to_string(alloc)
 }
 
 /// Checks that the value is an object.

@@ -9,9 +9,8 @@ ghost use Rattle.otel_otlp.specs.ReadMembers.{IsRefused, AreIn};
 ghost use Rattle.otel_otlp.specs.ReadErrors.{NamesPlace};
 ghost use Rattle.otel_otlp.specs.ReadTrees as spec;
 
-use crate::object::to_text;
 use crate::read::error::{Fault, unexpected};
-use crate::read::members::{check_object, items, member, text};
+use crate::read::members::{check_object, items, member, text, to_text};
 use crate::read::messages::Message;
 use crate::read::values::has;
 use crate::trees::MAX_LEVELS;

@@ -12,9 +12,8 @@ ghost use Rattle.otel_otlp.specs.ReadMembers as members;
 ghost use Rattle.otel_otlp.specs.ReadMembers.{IsRefused};
 ghost use Rattle.otel_otlp.specs.ReadValues as spec;
 
-use crate::object::to_text;
 use crate::read::error::{Fault, unexpected};
-use crate::read::members::{check_object, integer_of, member, text};
+use crate::read::members::{check_object, integer_of, member, text, to_text};
 use crate::read::messages::{Message, read_list};
 use opentelemetry::{Array, Key, KeyValue, StringValue, Value};
 use serde_json::Value as Json;

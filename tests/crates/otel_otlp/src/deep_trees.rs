@@ -1,11 +1,8 @@
 //! Log records whose values nest deeper than an exporter writes.
-use crate::batches::scope;
-use crate::records::under;
+use crate::records::text_of;
 use opentelemetry::Key;
 use opentelemetry::logs::{AnyValue, LogRecord};
-use otel_otlp::logs_data;
 use otel_sdk::logs::SdkLogRecord;
-use otel_sdk::resource::Resource;
 use std::alloc::{AllocError, Global};
 use std::test::Fail;
 
@@ -55,14 +52,6 @@ fn lists(alloc: Global, levels: usize, inner: &str) -> Result<String, AllocError
 fn maps(alloc: Global, levels: usize, inner: &str) -> Result<String, AllocError> {
     let open = "{\"kvlistValue\":{\"values\":[{\"key\":\"k\",\"value\":";
     within(alloc, levels, open, inner, "}]}}")
-}
-
-// The text of the record, in a batch without a resource.
-fn text_of(alloc: Global, record: SdkLogRecord) -> Result<String, Fail> {
-    let batch = [under(record, scope(alloc, "s")?)];
-    let value = logs_data(alloc, &Resource::builder_empty(alloc).build(), &batch)?;
-    let path = "/resourceLogs/0/scopeLogs/0/logRecords/0";
-    Ok(value.pointer(path).ok_or("no record")?.to_string(alloc)?)
 }
 
 // The text of a record with only this body.

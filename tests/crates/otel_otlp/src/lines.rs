@@ -2,9 +2,10 @@
 use crate::batches::{attribute, cart, root, scope, three};
 use opentelemetry::trace::{Link, SpanContext, SpanId, Status, TraceFlags, TraceId, TraceState};
 use opentelemetry::{Array, InstrumentationScope, StringValue, Value};
-use otel_otlp::traces_data;
+use otel_otlp::traces_text;
 use otel_sdk::resource::Resource;
 use otel_sdk::trace::SpanData;
+use serde_json::Value as Json;
 use std::alloc::Global;
 use std::rc::Rc;
 use std::test::Fail;
@@ -44,7 +45,7 @@ const THREE: [&'static str; 28] = [
 // The text of the batch of one span, without a resource.
 fn text_of(alloc: Global, span: SpanData) -> Result<String, Fail> {
     let resource = Resource::builder_empty(alloc).build();
-    Ok(traces_data(alloc, &resource, &[span])?.to_string(alloc)?)
+    Ok(traces_text(alloc, &resource, &[span])?)
 }
 
 // A root in the scope `s`.
@@ -63,7 +64,7 @@ fn with_value(alloc: Global, value: Value) -> Result<String, Fail> {
 fn three_spans_in_two_scopes(rt: HostRuntime) -> Result<(), Fail> {
     let alloc = rt.alloc();
     let batch = three(alloc)?;
-    let text = traces_data(alloc, &cart(alloc)?, batch.as_slice())?.to_string(alloc)?;
+    let text = traces_text(alloc, &cart(alloc)?, batch.as_slice())?;
     let mut wanted = String::new(alloc);
     for piece in THREE {
         wanted.push_str(piece)?;
@@ -258,7 +259,8 @@ fn scopes_stand_as_they_first_appear(rt: HostRuntime) -> Result<(), Fail> {
     let resource = Resource::builder_empty(alloc)
         .with_schema_url(StringValue::from("u"))
         .build();
-    let value = traces_data(alloc, &resource, &batch)?;
+    let text = traces_text(alloc, &resource, &batch)?;
+    let value = Json::from_str(alloc, text.as_str())?;
     let at = |path: &str| value.pointer(path).and_then(|found| found.as_str());
     assert_eq!(rt; at("/resourceSpans/0/schemaUrl"), Some("u"));
     assert_eq!(rt; at("/resourceSpans/0/scopeSpans/0/scope/name"), Some("x"));

@@ -1,10 +1,10 @@
 //! The values of batches of log records, as texts.
 use crate::batches::scope;
-use crate::records::{cart_service, no_price, observed, under};
+use crate::records::{cart_service, no_price, observed, text_of, under};
 use opentelemetry::logs::{AnyValue, LogRecord, Severity};
 use opentelemetry::trace::{SpanId, TraceId};
 use opentelemetry::{Key, StringValue};
-use otel_otlp::{logs_data, logs_text};
+use otel_otlp::logs_text;
 use otel_sdk::logs::{LogData, SdkLogRecord};
 use otel_sdk::resource::Resource;
 use std::alloc::Global;
@@ -23,15 +23,6 @@ const NO_PRICE: [&'static str; 10] = [
     "000000000003\",\"timeUnixNano\":\"1760000000038000000\",\"traceId\":\"4bf92f3577b3",
     "4da6a3ce929d0e0e4736\"}],\"scope\":{\"name\":\"cart\"}}]}]}",
 ];
-
-// The text of a batch with one record, under the scope `s` and without a resource.
-fn text_of(alloc: Global, record: SdkLogRecord) -> Result<String, Fail> {
-    let batch = [under(record, scope(alloc, "s")?)];
-    let resource = Resource::builder_empty(alloc).build();
-    let value = logs_data(alloc, &resource, &batch)?;
-    let path = "/resourceLogs/0/scopeLogs/0/logRecords/0";
-    Ok(value.pointer(path).ok_or("no record")?.to_string(alloc)?)
-}
 
 // The text of a record with only this body.
 fn with_body(alloc: Global, body: AnyValue) -> Result<String, Fail> {

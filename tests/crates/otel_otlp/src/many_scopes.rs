@@ -1,7 +1,7 @@
 //! Batches of many scopes, which are grouped in linear time.
 use crate::batches::root;
 use opentelemetry::{InstrumentationScope, StringValue};
-use otel_otlp::traces_data;
+use otel_otlp::traces_text;
 use otel_sdk::resource::Resource;
 use serde_json::Value;
 use std::rc::Rc;
@@ -17,7 +17,8 @@ fn many_scopes_with_two_spans_each(rt: HostRuntime) -> Result<(), Fail> {
         batch.push(root(alloc, number + 1, Rc::new(alloc, scope)?)?)?;
     }
     let none = Resource::builder_empty(alloc).build();
-    let data = traces_data(alloc, &none, batch.as_slice())?;
+    let text = traces_text(alloc, &none, batch.as_slice())?;
+    let data = Value::from_str(alloc, text.as_str())?;
     let at = "/resourceSpans/0/scopeSpans";
     let groups = data.pointer(at).and_then(Value::as_array).ok_or("groups")?;
     assert_eq!(rt; groups.len(), 2_048);

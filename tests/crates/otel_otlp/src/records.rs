@@ -1,11 +1,14 @@
 //! Batches of log records.
+use crate::batches::scope;
 use opentelemetry::logs::{AnyValue, LogRecord, Severity};
 use opentelemetry::trace::{SpanId, TraceFlags, TraceId};
 use opentelemetry::{InstrumentationScope, Key, KeyValue, StringValue, Value};
+use otel_otlp::logs_text;
 use otel_sdk::logs::{LogData, SdkLogRecord};
 use otel_sdk::resource::Resource;
 use std::alloc::{AllocError, Global};
 use std::rc::Rc;
+use std::test::Fail;
 
 /// The record under the scope.
 pub fn under(record: SdkLogRecord, scope: Rc<InstrumentationScope>) -> LogData {
@@ -50,4 +53,21 @@ pub fn no_price(alloc: Global) -> Result<SdkLogRecord, AllocError> {
         Some(TraceFlags::new(3)),
     );
     Ok(record)
+}
+
+/// A batch with one record, under the scope `s` and without a resource: before the record.
+const BEFORE: &'static str = "{\"resourceLogs\":[{\"resource\":{},\"scopeLogs\":[{\"logRecords\":[";
+
+/// The same after the record.
+const AFTER: &'static str = "],\"scope\":{\"name\":\"s\"}}]}]}";
+
+/// The text of the record in a batch without a resource, under the scope `s`.
+pub fn text_of(alloc: Global, record: SdkLogRecord) -> Result<String, Fail> {
+    let batch = [under(record, scope(alloc, "s")?)];
+    let text = logs_text(alloc, &Resource::builder_empty(alloc).build(), &batch)?;
+    let record = text
+        .as_str()
+        .strip_prefix(BEFORE)
+        .and_then(|rest| rest.strip_suffix(AFTER));
+    Ok(String::from_str(alloc, record.ok_or("no record")?)?)
 }

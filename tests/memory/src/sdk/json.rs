@@ -5,7 +5,7 @@ use opentelemetry::trace::{
     Event, Link, SpanContext, SpanId, Status, TraceFlags, TraceId, TraceState,
 };
 use opentelemetry::{Array, Key, KeyValue, StringValue, Value};
-use otel_otlp::{OtlpJsonSpanExporter, read_resource_spans, read_traces, traces_data, traces_text};
+use otel_otlp::{OtlpJsonSpanExporter, read_resource_spans, read_traces, traces_text};
 use otel_sdk::error::{OTelSdkError, OTelSdkResult};
 use otel_sdk::resource::Resource;
 use otel_sdk::trace::{Exporter, SpanData};
@@ -21,9 +21,6 @@ pub fn play<R: Print>(alloc: Global, lines: &Lines<'_, R>) {
     }
     if lines.begin("json-exporter-refusals") {
         lines.end(refusals(alloc, lines));
-    }
-    if lines.begin("json-traces-data") {
-        lines.end(data(alloc, lines));
     }
     if lines.begin("json-traces-text") {
         lines.end(text(alloc, lines));
@@ -124,14 +121,6 @@ fn refusals<R: Print>(alloc: Global, lines: &Lines<'_, R>) -> Result<(), AllocEr
         &told(exporter.force_flush()),
     );
     lines.free("OtlpJsonExporter::shutdown", &told(exporter.shutdown()));
-    Ok(())
-}
-
-fn data<R: Print>(alloc: Global, lines: &Lines<'_, R>) -> Result<(), AllocError> {
-    let resource = resource(alloc)?;
-    let batch = [full(alloc)?];
-    let data = traces_data(alloc, &resource, &batch);
-    lines.answer_of(data.map(|value| value.is_object()));
     Ok(())
 }
 

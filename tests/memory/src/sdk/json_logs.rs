@@ -4,7 +4,7 @@ use crate::sdk::json::{closed, resource, told};
 use opentelemetry::logs::{AnyValue, LogRecord, Severity};
 use opentelemetry::trace::{SpanId, TraceFlags, TraceId};
 use opentelemetry::{InstrumentationScope, Key, StringValue};
-use otel_otlp::{OtlpJsonLogExporter, logs_data, logs_text, read_logs, read_resource_logs};
+use otel_otlp::{OtlpJsonLogExporter, logs_text, read_logs, read_resource_logs};
 use otel_sdk::logs::{LogData, SdkLogRecord};
 use otel_sdk::trace::Exporter;
 use std::alloc::{AllocError, Global};
@@ -20,9 +20,6 @@ pub fn play<R: Print>(alloc: Global, lines: &Lines<'_, R>) {
     }
     if lines.begin("json-log-exporter-refusals") {
         lines.end(refusals(alloc, lines));
-    }
-    if lines.begin("json-logs-data") {
-        lines.end(data(alloc, lines));
     }
     if lines.begin("json-logs-text") {
         lines.end(text(alloc, lines));
@@ -87,14 +84,6 @@ fn refusals<R: Print>(alloc: Global, lines: &Lines<'_, R>) -> Result<(), AllocEr
         &told(exporter.force_flush()),
     );
     lines.free("OtlpJsonExporter::shutdown", &told(exporter.shutdown()));
-    Ok(())
-}
-
-fn data<R: Print>(alloc: Global, lines: &Lines<'_, R>) -> Result<(), AllocError> {
-    let resource = resource(alloc)?;
-    let batch = [full(alloc)?];
-    let data = logs_data(alloc, &resource, &batch);
-    lines.answer_of(data.map(|value| value.is_object()));
     Ok(())
 }
 

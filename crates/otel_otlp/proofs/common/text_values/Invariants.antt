@@ -1,7 +1,7 @@
-use Rattle.std.proofs.Common.{◌≡◌, map, take}
-use Rattle.serde_json.specs.View.{view}
+use Rattle.std.proofs.Common.{map, take}
 use Rattle.otel_otlp.specs.Common.{text_value}
+use Rattle.otel_otlp.specs.Tokens.{HasItems}
 use Rattle.otel_otlp.proofs.common.text_values.Given as goal
 
 abbrev pub invariant-loop-item : goal.invariant-loop-item
-invariant-loop-item l = map view l.values.items ≡ map text_value (take l.item-index l.items)
+invariant-loop-item l = HasItems l.initial.out l.out (map text_value (take l.item-index l.items))

@@ -5,4 +5,5 @@ use Rattle.otel_otlp.proofs.groups.sort.Given as goal
 
 abbrev pub invariant-loop-item : goal.invariant-loop-item
 invariant-loop-item g l =
-    groups_view l.groups.entries ≡ sort g.R.Grouped.form.scope_of g.R.Grouped.form.value_of (take l.item-index l.batch)
+    let form = g.R.Grouped.form in
+    groups_view form.value_of l.groups.entries ≡ sort form.scope_of form.value_of (take l.item-index l.batch)

@@ -1,25 +1,23 @@
-use Rattle.std.proofs.Common.{◌≡◌, ap, ◌∙◌, ◌++◌, subst}
-use Rattle.otel_sdk_logs.specs.LogRecord.{LogState}
-use Rattle.serde_json.specs.Data.{object}
-use Rattle.serde_json.specs.View.{members_view}
-use Rattle.otel_otlp.specs.Json.{put_all}
-use Rattle.otel_otlp.specs.Logs.{times, content, details, trace_members}
-use Rattle.otel_otlp.proofs.Members.{put_more}
+use Rattle.std.proofs.Common.{ℕ, subst}
+use Rattle.otel_otlp.specs.Tokens.{HasMembers}
+use Rattle.otel_otlp.proofs.LogTokens.{happened, observed, severity, severity_text, event_name, body, lost, trace_id, span_id, flags, same_members, whole_log}
+use Rattle.otel_otlp.proofs.Tokens.{token, last_token, and_members, and_no_more}
 use Rattle.otel_otlp.proofs.logs.log_record.Goals as goal
 
 pub returns : goal.returns
 returns c =
-    let l = c.args.log.now in
-    let m0 = members_view c.new-members.result.entries in
-    let m1 = members_view c.put_times.new.members.entries in
-    let m2 = members_view c.put_content.new.members.entries in
-    let m3 = members_view c.put_details.new.members.entries in
-    let m4 = members_view c.put_trace.new.members.entries in
-    let last : m4 ≡ put_all m3 (trace_members l.trace_context) =
-    subst (λ (s : LogState). m4 ≡ put_all m3 (trace_members s.trace_context)) c.log.view_is c.in_ok-put_trace.ensures in
-    c.from.ensures
-    ∙ ap object (put_more m0 m3 m4 (times l ++ content l ++ details l) (trace_members l.trace_context)
-    (put_more m0 m2 m3 (times l ++ content l) (details l)
-    (put_more m0 m1 m2 (times l) (content l) c.in_ok-put_times.ensures c.in_ok-put_content.ensures)
-    c.in_ok-put_details.ensures) last)
-    ∙ ap (λ es. object (put_all (members_view es) (times l ++ content l ++ details l ++ trace_members l.trace_context))) c.new-members.ensures.empty
+    let same = c.log.view_is in
+    last_token c.end_object.result c.end_object.ensures (λ ends.
+    whole_log c.args.log.now (token c.in_ok-begin_object.was c.begin_object.ensures)
+    (and_members c.in_ok-put_attributes.ensures
+    (and_members (same_members body same c.in_ok-put_body.ensures)
+    (and_members (subst (λ (n : ℕ). HasMembers c.put_body.new.out c.put_number_unless_zero.new.out (lost n)) c.dropped.ensures c.in_ok-put_number_unless_zero.ensures)
+    (and_members (same_members event_name same c.in_ok-put_name.ensures)
+    (and_members (same_members flags same c.in_ok-put_flags.ensures)
+    (and_members (same_members observed same c.in_ok-put_decimal_if_given.ensures)
+    (and_members (same_members severity same c.in_ok-put_severity.ensures)
+    (and_members (same_members severity_text same c.in_ok-put_name-2.ensures)
+    (and_members (same_members span_id same c.in_ok-put_span.ensures)
+    (and_members (same_members happened same c.in_ok-put_decimal_if_given-2.ensures)
+    (and_no_more (same_members trace_id same c.in_ok-put_trace.ensures))))))))))))
+    ends)

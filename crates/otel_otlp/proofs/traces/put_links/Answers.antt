@@ -1,9 +1,14 @@
-use Rattle.std.proofs.Common.{codes, subst}
-use Rattle.otel_otlp.specs.Json.{list_unless_empty}
-use Rattle.otel_otlp.specs.View.{Adds}
+use Rattle.std.proofs.Common.{map, arith}
+use Rattle.std.proofs.lemmas.Grind.{common_steps}
+use Rattle.std.proofs.lemmas.List.{length-map}
+use Rattle.opentelemetry.specs.View.{link_of}
+use Rattle.otel_otlp.specs.Traces.{link}
+use Rattle.otel_otlp.proofs.Tokens.{last_token, some_list}
 use Rattle.otel_otlp.proofs.traces.put_links.Goals as goal
 
 pub returns : goal.returns
 returns c =
-    subst (λ ds. Adds c.put_list_unless_empty.result c.args.members.now c.put_list_unless_empty.new.members
-    (list_unless_empty (codes "links") ds)) c.in_ok-values.ensures c.put_list_unless_empty.ensures
+    let xs = c.args.items.now in
+    last_token c.end_array.result c.end_array.ensures
+    (some_list (λ none. absurd (grind (arith, common_steps, none, length-map (map link_of xs) link, length-map xs link_of, c.if-is_empty.false, c.is_empty.ensures)))
+    c.in_ok-begin_list.ensures c.in_ok-links.ensures)
