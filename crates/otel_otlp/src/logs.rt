@@ -173,31 +173,23 @@ fn put_flags(out: &mut Writer, context: &Option<TraceContext>) -> Result<(), All
 }
 
 /// Writes the member with the id of the span that was active, if there was one.
-fn put_span(
-    out: &mut Writer,
-    alloc: Global,
-    context: &Option<TraceContext>,
-) -> Result<(), AllocError>
+fn put_span(out: &mut Writer, context: &Option<TraceContext>) -> Result<(), AllocError>
     ensures { WritesMembers result out.old out.new (text_if_given (codes "spanId")
         (option_map (λ c. span_id_text c.span_id) context.now)) }
 {
     match context {
-        Some(context) => put_span_id(out, alloc, "spanId", context.span_id),
+        Some(context) => put_span_id(out, "spanId", context.span_id),
         None => Ok(()),
     }
 }
 
 /// Writes the member with the id of the trace that was active, if there was one.
-fn put_trace(
-    out: &mut Writer,
-    alloc: Global,
-    context: &Option<TraceContext>,
-) -> Result<(), AllocError>
+fn put_trace(out: &mut Writer, context: &Option<TraceContext>) -> Result<(), AllocError>
     ensures { WritesMembers result out.old out.new (text_if_given (codes "traceId")
         (option_map (λ c. trace_id_text c.trace_id) context.now)) }
 {
     match context {
-        Some(context) => put_trace_id(out, alloc, "traceId", context.trace_id),
+        Some(context) => put_trace_id(out, "traceId", context.trace_id),
         None => Ok(()),
     }
 }
@@ -215,9 +207,9 @@ fn log_record(out: &mut Writer, alloc: Global, log: &SdkLogRecord) -> Result<(),
     put_decimal_if_given(out, "observedTimeUnixNano", log.observed_timestamp)?;
     put_severity(out, log.severity_number)?;
     put_name(out, "severityText", &log.severity_text)?;
-    put_span(out, alloc, &log.trace_context)?;
+    put_span(out, &log.trace_context)?;
     put_decimal_if_given(out, "timeUnixNano", log.timestamp)?;
-    put_trace(out, alloc, &log.trace_context)?;
+    put_trace(out, &log.trace_context)?;
     out.end_object()
 }
 

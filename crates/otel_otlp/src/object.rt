@@ -2,9 +2,10 @@
 //!
 //! An object's members are written in the order of their names, as a `Value` of `serde_json` has
 //! them, so that no tree is built and sorted first.
-ghost use Rattle.std.specs.Prelude.{[], ◌∷◌, OnOk};
+ghost use Rattle.std.specs.Prelude.{[], ◌∷◌, ◌≡◌, ◌*◌, OnOk, length};
 ghost use Rattle.std.specs.Fmt.{signed_decimal};
 ghost use Rattle.std.specs.Option.{option_copied};
+ghost use Rattle.hex.specs.Hex.{encode_lower};
 ghost use Rattle.json.specs.Token.{key, begin_array};
 ghost use Rattle.otel_otlp.specs.Json.{text_member, number_member, decimal_member};
 ghost use Rattle.otel_otlp.specs.Json.{text_unless_empty, number_unless_zero, text_if_given};
@@ -14,7 +15,7 @@ ghost use Rattle.otel_otlp.specs.Tokens.{Appended, WritesMembers};
 
 use json::Writer;
 use opentelemetry::trace::{SpanId, TraceId};
-use std::alloc::{AllocError, Global};
+use std::alloc::AllocError;
 
 /// Writes a member with a text.
 pub(crate) fn put_text(out: &mut Writer, name: &str, text: &str) -> Result<(), AllocError>
@@ -128,28 +129,28 @@ pub(crate) fn put_decimal_if_given(
     }
 }
 
+/// Writes a member with two lower-case hexadecimal digits for each byte. `room` has one byte for
+/// each digit.
+fn put_hex(out: &mut Writer, name: &str, bytes: &[u8], room: &mut [u8]) -> Result<(), AllocError>
+    requires { length room.old ≡ 2 * length bytes.now }
+    ensures { WritesMembers result out.old out.new
+        (text_member name.now (encode_lower bytes.now)) }
+{
+    hex::encode_to_slice(bytes, room).unwrap();
+    let digits = str::from_utf8(room).unwrap();
+    put_text(out, name, digits)
+}
+
 /// Writes a member with the id of a trace as 32 hexadecimal digits.
-pub(crate) fn put_trace_id(
-    out: &mut Writer,
-    alloc: Global,
-    name: &str,
-    id: TraceId,
-) -> Result<(), AllocError>
+pub(crate) fn put_trace_id(out: &mut Writer, name: &str, id: TraceId) -> Result<(), AllocError>
     ensures { WritesMembers result out.old out.new (text_member name.now (trace_id_text id)) }
 {
-    let digits = hex::encode(alloc, id.to_bytes())?;
-    put_text(out, name, digits.as_str())
+    put_hex(out, name, &id.to_bytes(), &mut [0; 32])
 }
 
 /// Writes a member with the id of a span as 16 hexadecimal digits.
-pub(crate) fn put_span_id(
-    out: &mut Writer,
-    alloc: Global,
-    name: &str,
-    id: SpanId,
-) -> Result<(), AllocError>
+pub(crate) fn put_span_id(out: &mut Writer, name: &str, id: SpanId) -> Result<(), AllocError>
     ensures { WritesMembers result out.old out.new (text_member name.now (span_id_text id)) }
 {
-    let text = hex::encode(alloc, id.to_bytes())?;
-    put_text(out, name, text.as_str())
+    put_hex(out, name, &id.to_bytes(), &mut [0; 16])
 }

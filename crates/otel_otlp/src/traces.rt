@@ -49,7 +49,7 @@ fn put_trace(out: &mut Writer, alloc: Global, context: &SpanContext) -> Result<(
         (text_member (codes "traceId") (trace_id_text context.now.trace_id)
         ++ text_unless_empty (codes "traceState") (header context.now.trace_state)) }
 {
-    put_trace_id(out, alloc, "traceId", context.trace_id())?;
+    put_trace_id(out, "traceId", context.trace_id())?;
     let state = context.trace_state().header(alloc)?;
     put_text_unless_empty(out, "traceState", state.as_str())
 }
@@ -63,7 +63,7 @@ fn link(out: &mut Writer, alloc: Global, link: &Link) -> Result<(), AllocError>
     put_attributes(out, link.attributes.as_slice())?;
     put_number_unless_zero(out, "droppedAttributesCount", link.dropped_attributes_count)?;
     put_number(out, "flags", flags(context, context.is_remote()))?;
-    put_span_id(out, alloc, "spanId", context.span_id())?;
+    put_span_id(out, "spanId", context.span_id())?;
     put_trace(out, alloc, context)?;
     out.end_object()
 }
@@ -126,13 +126,13 @@ fn put_kind(out: &mut Writer, kind: SpanKind) -> Result<(), AllocError>
 }
 
 /// Writes the member with the span id of the parent, unless the span is a root.
-fn put_parent(out: &mut Writer, alloc: Global, id: SpanId) -> Result<(), AllocError>
+fn put_parent(out: &mut Writer, id: SpanId) -> Result<(), AllocError>
     ensures { WritesMembers result out.old out.new (spec.parent_member id) }
 {
     if id == SpanId::INVALID {
         return Ok(());
     }
-    put_span_id(out, alloc, "parentSpanId", id)
+    put_span_id(out, "parentSpanId", id)
 }
 
 /// Writes each event.
@@ -205,8 +205,8 @@ fn span(out: &mut Writer, alloc: Global, span: &SpanData) -> Result<(), AllocErr
     put_kind(out, span.span_kind)?;
     put_links(out, alloc, span.links.links.as_slice())?;
     put_text(out, "name", span.name.as_str())?;
-    put_parent(out, alloc, span.parent_span_id)?;
-    put_span_id(out, alloc, "spanId", context.span_id())?;
+    put_parent(out, span.parent_span_id)?;
+    put_span_id(out, "spanId", context.span_id())?;
     put_decimal(out, "startTimeUnixNano", span.start_time)?;
     put_status(out, &span.status)?;
     put_trace(out, alloc, context)?;
