@@ -32,7 +32,8 @@
 #   make long                       runs the programs on long inputs
 #   make calls                      checks that make memory covers each call that can run out of memory
 #   make new-crate                  checks that ./new makes a crate whose program runs
-#   make fuzz                       compares random programs and rows with a plain model; COUNT=N sets their number, SEED=N the seed
+#   make fuzz                       compares random programs, rows and orders of requests with plain models; COUNT=N sets their
+#                                   number, SEED=N the seed
 #   make documents                  checks that everything the documents mention exists, and that the code they show runs
 #   make bench                      counts the instructions of operations, beside the Rust crate
 #

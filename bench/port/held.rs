@@ -1,12 +1,10 @@
 //! Contexts and spans that are held at the same time, whose memory is counted.
 use crate::contexts::named;
 use crate::operation::{Operation, Task, add, repeat};
-use crate::sdk::{Pipeline, fill, no_memory, start, tracer};
+use crate::sdk::{fill_current, traced};
 use opentelemetry::context::{Context, ContextStack};
-use opentelemetry::trace::{SpanContext, SpanId, TraceFlags, TraceId, TraceState};
-use otel_sdk::trace::{
-    BatchConfig, BatchSpanProcessor, InMemorySpanExporter, LiveSpans, Sampler, SdkTracer,
-};
+use opentelemetry::trace::{SpanContext, SpanId, TraceFlags, TraceId, TraceState, Tracing};
+use otel_sdk::trace::{InMemorySpanExporter, Sampler};
 use std::alloc::{AllocError, Global};
 
 pub fn play(task: &Task<'_>, alloc: Global, rt: HostRuntime) -> Result<Option<u64>, AllocError> {
@@ -14,7 +12,7 @@ pub fn play(task: &Task<'_>, alloc: Global, rt: HostRuntime) -> Result<Option<u6
     let is_of_spans = match task.name {
         "held_span_context" => true,
         "held_value_context" => false,
-        _ => return hold_spans(task, alloc, tracer(alloc, rt, Sampler::AlwaysOn)?),
+        _ => return hold_spans(task, alloc, rt),
     };
     repeat(
         Contexts {
@@ -26,11 +24,7 @@ pub fn play(task: &Task<'_>, alloc: Global, rt: HostRuntime) -> Result<Option<u6
     )
 }
 
-fn hold_spans(
-    task: &Task<'_>,
-    alloc: Global,
-    tracer: SdkTracer<Pipeline>,
-) -> Result<Option<u64>, AllocError> {
+fn hold_spans(task: &Task<'_>, alloc: Global, rt: HostRuntime) -> Result<Option<u64>, AllocError> {
     let is_queued = match task.name {
         "held_live_span" => false,
         "held_queued_span" => true,
@@ -39,7 +33,7 @@ fn hold_spans(
     repeat(
         Spans {
             alloc,
-            tracer,
+            rt,
             size: task.size,
             is_queued,
         },
@@ -83,28 +77,24 @@ impl Operation for Contexts {
     }
 }
 
-/// Spans with two attributes and an event start. They are left open, or end and are queued.
+/// Spans with two attributes and an event are entered. Each is left open, or exited and queued.
 #[derive(Drop)]
 struct Spans {
     alloc: Global,
-    tracer: SdkTracer<Pipeline>,
+    rt: HostRuntime,
     size: usize,
     is_queued: bool,
 }
 
 impl Operation for Spans {
     fn once(&mut self, sum: &mut u64) -> Result<(), AllocError> {
-        let mut live = LiveSpans::new(self.alloc);
         let exporter = InMemorySpanExporter::new(self.alloc);
-        let config = BatchConfig::default();
-        let mut processor = BatchSpanProcessor::new(self.alloc, exporter, config);
+        let mut tracing = traced(self.alloc, self.rt, Sampler::AlwaysOn, exporter)?;
         for _ in 0..self.size {
-            let mut span = start(self.alloc, &self.tracer)?;
-            fill(self.alloc, &mut span)?;
-            let number = live.start(span).map_err(|_| AllocError)?;
+            let entered = tracing.enter("work").map_err(|_| AllocError)?;
+            fill_current(self.alloc, &mut tracing)?;
             if self.is_queued {
-                live.end(number, 3);
-                live.collect(&mut processor).map_err(no_memory)?;
+                tracing.exit(entered);
             }
             add(sum, 1);
         }

@@ -1,15 +1,10 @@
-//! Spans of the SDK in a table, which `LiveSpans::end` ends, and their way to an exporter.
+//! Spans that a value of the SDK enters and exits, and their way to an exporter.
 use crate::operation::{Operation, Task, add, repeat};
-use crate::sdk::{Pipeline, fill, no_memory, start, tracer};
-use opentelemetry::StringValue;
-use opentelemetry::context::{Context, ContextStack};
-use opentelemetry::trace::{Span, Tracer};
+use crate::sdk::{Traced, fill_current, no_memory, traced};
+use opentelemetry::trace::{Entered, Tracing};
 use otel_sdk::error::OTelSdkResult;
 use otel_sdk::resource::Resource;
-use otel_sdk::trace::{
-    BatchConfig, BatchSpanProcessor, Exporter, LiveSpans, Sampler, SdkSpan, SdkTracer, SpanData,
-    SpanProcessor,
-};
+use otel_sdk::trace::{Exporter, Exports, Sampler, SpanData, SpanProcessor};
 use otel_sdk_base::Accepted;
 use std::alloc::{AllocError, Global};
 use std::rc::Rc;
@@ -50,108 +45,74 @@ impl Exporter<SpanData> for SpanCounter {
     }
 }
 
-type Processor = BatchSpanProcessor<SpanCounter>;
-
 pub fn play(task: &Task<'_>, alloc: Global, rt: HostRuntime) -> Result<Option<u64>, AllocError> {
     let sampler = match task.name {
         "live_span" | "live_child" => Sampler::AlwaysOn,
         "live_span_unsampled" => Sampler::AlwaysOff,
         _ => return Ok(None),
     };
-    let tracer = tracer(alloc, rt, sampler)?;
-    let mut live = LiveSpans::new(alloc);
-    for _ in 0..task.size {
-        let span = start(alloc, &tracer)?;
-        live.start(span).map_err(|_| AllocError)?;
-    }
     let counter = SpanCounter {
         accepted: Accepted::new(),
         spans: 0,
     };
-    let processor = BatchSpanProcessor::new(alloc, counter, BatchConfig::default());
-    let way = Way {
-        alloc,
-        tracer,
-        live,
-        processor,
-    };
-    if task.name == "live_child" {
-        let (stack, way) = with_parent(way)?;
-        return repeat(Children { stack, way }, task.times);
+    let mut tracing = traced(alloc, rt, sampler, counter)?;
+    for _ in 0..task.size {
+        tracing.start("work").map_err(|_| AllocError)?;
     }
-    repeat(Roots(way), task.times)
-}
-
-/// A stack whose current context has an open span.
-fn with_parent(mut way: Way) -> Result<(ContextStack, Way), AllocError> {
-    let mut stack = ContextStack::new(way.alloc)?;
-    let span = start(way.alloc, &way.tracer)?;
-    let context = child(&stack, &mut way.live, span)?;
-    stack.push(context)?;
-    Ok((stack, way))
-}
-
-/// Returns the current context with the span in it.
-#[inline(never)]
-fn child(stack: &ContextStack, live: &mut LiveSpans, span: SdkSpan) -> Result<Context, AllocError> {
-    live.start_in(stack, span).map_err(|_| AllocError)
+    if task.name == "live_child" {
+        enter(&mut tracing)?;
+        return repeat(Children(tracing), task.times);
+    }
+    repeat(Roots { alloc, tracing }, task.times)
 }
 
 #[inline(never)]
-fn start_below(way: &Way, parent: &Context) -> Result<SdkSpan, AllocError> {
-    let name = StringValue::from("work");
-    way.tracer.start_with_context(way.alloc, name, parent)
+fn enter(tracing: &mut Traced<SpanCounter>) -> Result<Entered, AllocError> {
+    tracing.enter("work").map_err(|_| AllocError)
 }
 
-/// What spans need on their way to the exporter.
-#[derive(Drop)]
-struct Way {
-    alloc: Global,
-    tracer: SdkTracer<Pipeline>,
-    live: LiveSpans,
-    processor: Processor,
-}
-
-/// Ends the span with this number, and queues it. A full batch is exported.
+/// Exits the span, which queues it. A full batch is exported.
 #[inline(never)]
-fn end(way: &mut Way, number: u64, sum: &mut u64) -> Result<(), AllocError> {
-    way.live.end(number, 3);
-    way.live.collect(&mut way.processor).map_err(no_memory)?;
-    if way.processor.queued_spans() >= BATCH {
-        way.processor.force_flush().map_err(no_memory)?;
-        add(sum, way.processor.exporter().spans % BATCH);
+fn exit(
+    tracing: &mut Traced<SpanCounter>,
+    entered: Entered,
+    sum: &mut u64,
+) -> Result<(), AllocError> {
+    tracing.exit(entered);
+    if tracing.processors().queued_spans() >= BATCH {
+        tracing.flush().map_err(no_memory)?;
+        add(sum, tracing.processors().1.exporter().spans % BATCH);
     }
     Ok(())
 }
 
-/// A span starts, is filled, ends, and is queued.
+/// A span is entered, filled, exited, and queued.
 #[derive(Drop)]
-struct Roots(Way);
+struct Roots {
+    alloc: Global,
+    tracing: Traced<SpanCounter>,
+}
 
 impl Operation for Roots {
     fn once(&mut self, sum: &mut u64) -> Result<(), AllocError> {
-        let way = &mut self.0;
-        let mut span = start(way.alloc, &way.tracer)?;
-        fill(way.alloc, &mut span)?;
-        add(sum, 1 + usize::from(span.is_recording()));
-        let number = way.live.start(span).map_err(|_| AllocError)?;
-        end(way, number, sum)
+        let entered = enter(&mut self.tracing)?;
+        fill_current(self.alloc, &mut self.tracing)?;
+        add(
+            sum,
+            1 + usize::from(self.tracing.context().has_active_span()),
+        );
+        exit(&mut self.tracing, entered, sum)
     }
 }
 
-/// A span starts below the current one, is put into a context, ends, and is queued.
+/// A span is entered below the current one, exited, and queued.
 #[derive(Drop)]
-struct Children {
-    stack: ContextStack,
-    way: Way,
-}
+struct Children(Traced<SpanCounter>);
 
 impl Operation for Children {
     fn once(&mut self, sum: &mut u64) -> Result<(), AllocError> {
-        let span = start_below(&self.way, self.stack.current())?;
-        let number = self.way.live.spans().next_number();
-        let context = child(&self.stack, &mut self.way.live, span)?;
-        add(sum, 1 + usize::from(context.has_active_span()));
-        end(&mut self.way, number, sum)
+        let entered = enter(&mut self.0)?;
+        add(sum, 1 + usize::from(self.0.context().has_active_span()));
+        exit(&mut self.0, entered, sum)
     }
 }

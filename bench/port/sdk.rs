@@ -1,17 +1,24 @@
 //! Operations on spans of the SDK: their start and end, and their way to an exporter.
 use crate::operation::{Operation, Task, add, repeat};
 use opentelemetry::trace::noop::NoopTracer;
-use opentelemetry::trace::{Span, Tracer, TracerProvider};
+use opentelemetry::trace::{Span, Tracer, TracerProvider, Tracing};
 use opentelemetry::{Context, Key, KeyValue, StringValue, Value};
 use otel_sdk::error::OTelSdkError;
 use otel_sdk::trace::{
-    BatchConfig, BatchSpanProcessor, Clock, CountedIdGenerator, FinishedSpans,
-    InMemorySpanExporter, LiveSpans, ManualClock, RandomIdGenerator, Sampler, SdkTracer,
-    SdkTracerProvider, SpanData, SpanProcessor, SystemClock, TracerPipeline,
+    BatchSpanProcessor, Build, Clock, CountedIdGenerator, Exports, FinishedSpans,
+    InMemorySpanExporter, ManualClock, OpenPipeline, RandomIdGenerator, Sampler, SdkTracer,
+    SdkTracerProvider, SdkTracing, SpanData, SpanExporter, SpanProcessor, SystemClock,
+    TracerPipeline, TracingBuilder, WithExporter,
 };
 use std::alloc::{AllocError, Global};
 
 pub type Pipeline = TracerPipeline<Sampler, CountedIdGenerator, ManualClock>;
+
+/// A value that traces, with counted ids, a fixed clock and one exporter.
+pub type Traced<E> = SdkTracing<
+    OpenPipeline<Sampler, CountedIdGenerator, ManualClock>,
+    ((), BatchSpanProcessor<E>),
+>;
 
 type SystemPipeline = TracerPipeline<
     Sampler,
@@ -45,9 +52,8 @@ pub fn play(task: &Task<'_>, alloc: Global, rt: HostRuntime) -> Result<Option<u6
             let tracer = NoopTracer::new();
             repeat(Ignoring { alloc, tracer }, task.times)
         }
-        "sdk_make" => way(task, alloc, rt, Until::Made),
-        "sdk_make_collect" => way(task, alloc, rt, Until::Collected),
-        "sdk_make_collect_flush" => way(task, alloc, rt, Until::Flushed),
+        "sdk_queue" => exporting(task, alloc, rt, false),
+        "sdk_queue_flush" => exporting(task, alloc, rt, true),
         _ => Ok(None),
     }
 }
@@ -74,20 +80,34 @@ fn system_tracer(alloc: Global, rt: HostRuntime) -> Result<SdkTracer<SystemPipel
     provider.tracer(alloc, StringValue::from("bench"))
 }
 
-fn way(
+/// Returns a value that traces, with this sampler and exporter.
+pub fn traced<E: SpanExporter>(
+    alloc: Global,
+    rt: HostRuntime,
+    sampler: Sampler,
+    exporter: E,
+) -> Result<Traced<E>, AllocError> {
+    TracingBuilder::new(rt)
+        .with_sampler(sampler)
+        .with_id_generator(CountedIdGenerator::new())
+        .with_clock(ManualClock::new(1))
+        .with_exporter(exporter)
+        .build(alloc, "bench")
+}
+
+fn exporting(
     task: &Task<'_>,
     alloc: Global,
     rt: HostRuntime,
-    until: Until,
+    is_flushed: bool,
 ) -> Result<Option<u64>, AllocError> {
-    let tracer = tracer(alloc, rt, Sampler::AlwaysOn)?;
     let size = task.size;
     repeat(
         Exporting {
             alloc,
-            tracer,
+            rt,
             size,
-            until,
+            is_flushed,
         },
         task.times,
     )
@@ -114,19 +134,21 @@ fn end<S: Span>(mut span: S, timestamp: u64, sum: &mut u64) {
     span.end(timestamp);
 }
 
-/// Ended spans in the table, each with two attributes and an event.
+/// Sets two attributes of the current span, and adds an event.
 #[inline(never)]
-fn make(
-    alloc: Global,
-    tracer: &SdkTracer<Pipeline>,
-    size: usize,
-    live: &mut LiveSpans,
-) -> Result<(), AllocError> {
+pub fn fill_current<T: Tracing>(alloc: Global, tracing: &mut T) -> Result<(), AllocError> {
+    tracing.set("http.request.method", "GET")?;
+    tracing.set("http.response.status_code", 200)?;
+    tracing.add_event(StringValue::from("cache miss"), Vec::new(alloc))
+}
+
+/// A span is entered, gets two attributes and an event, and is exited, as often as `size` says.
+#[inline(never)]
+fn make<T: Tracing>(alloc: Global, tracing: &mut T, size: usize) -> Result<(), AllocError> {
     for _ in 0..size {
-        let mut span = start(alloc, tracer)?;
-        fill(alloc, &mut span)?;
-        let number = live.start(span).map_err(|_| AllocError)?;
-        live.end(number, 3);
+        let entered = tracing.enter("work").map_err(|_| AllocError)?;
+        fill_current(alloc, tracing)?;
+        tracing.exit(entered);
     }
     Ok(())
 }
@@ -136,40 +158,19 @@ pub fn no_memory(_error: OTelSdkError) -> AllocError {
 }
 
 #[inline(never)]
-fn collect(
-    live: &mut LiveSpans,
-    processor: &mut BatchSpanProcessor<InMemorySpanExporter>,
-    sum: &mut u64,
-) -> Result<(), AllocError> {
-    live.collect(processor).map_err(no_memory)?;
-    add(sum, processor.queued_spans());
-    Ok(())
-}
-
-#[inline(never)]
-fn flush(
-    processor: &mut BatchSpanProcessor<InMemorySpanExporter>,
-    sum: &mut u64,
-) -> Result<(), AllocError> {
-    processor.force_flush().map_err(no_memory)?;
-    add(sum, processor.queued_spans());
+fn flush<T: Exports>(tracing: &mut T, sum: &mut u64) -> Result<(), AllocError> {
+    tracing.flush().map_err(no_memory)?;
+    add(sum, tracing.processors().queued_spans());
     Ok(())
 }
 
 /// Returns ended spans, as [`make`] makes them.
 pub fn ended(alloc: Global, rt: HostRuntime, size: usize) -> Result<Vec<SpanData>, AllocError> {
-    let mut live = LiveSpans::new(alloc);
-    make(
-        alloc,
-        &tracer(alloc, rt, Sampler::AlwaysOn)?,
-        size,
-        &mut live,
-    )?;
     let exporter = InMemorySpanExporter::new(alloc);
-    let mut processor = BatchSpanProcessor::new(alloc, exporter, BatchConfig::default());
-    live.collect(&mut processor).map_err(no_memory)?;
-    processor.force_flush().map_err(no_memory)?;
-    processor.exporter().get_finished_spans()
+    let mut tracing = traced(alloc, rt, Sampler::AlwaysOn, exporter)?;
+    make(alloc, &mut tracing, size)?;
+    tracing.flush().map_err(no_memory)?;
+    tracing.processors().1.exporter().get_finished_spans()
 }
 
 /// A span that records starts and ends.
@@ -235,36 +236,23 @@ impl Operation for Ignoring {
     }
 }
 
-/// The last step of the spans.
-#[derive(Clone, Copy, PartialEq, Eq, Drop)]
-enum Until {
-    Made,
-    Collected,
-    Flushed,
-}
-
-/// Spans are made, collected, and exported to memory.
+/// Spans are entered and exited, and exported to memory if that is wanted.
 #[derive(Drop)]
 struct Exporting {
     alloc: Global,
-    tracer: SdkTracer<Pipeline>,
+    rt: HostRuntime,
     size: usize,
-    until: Until,
+    is_flushed: bool,
 }
 
 impl Operation for Exporting {
     fn once(&mut self, sum: &mut u64) -> Result<(), AllocError> {
-        let mut live = LiveSpans::new(self.alloc);
-        make(self.alloc, &self.tracer, self.size, &mut live)?;
-        add(sum, live.ended().len());
         let exporter = InMemorySpanExporter::new(self.alloc);
-        let config = BatchConfig::default();
-        let mut processor = BatchSpanProcessor::new(self.alloc, exporter, config);
-        if self.until != Until::Made {
-            collect(&mut live, &mut processor, sum)?;
-        }
-        if self.until == Until::Flushed {
-            flush(&mut processor, sum)?;
+        let mut tracing = traced(self.alloc, self.rt, Sampler::AlwaysOn, exporter)?;
+        make(self.alloc, &mut tracing, self.size)?;
+        add(sum, tracing.processors().queued_spans());
+        if self.is_flushed {
+            flush(&mut tracing, sum)?;
         }
         Ok(())
     }

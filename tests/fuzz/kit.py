@@ -1,4 +1,5 @@
-"""Builds the two programs, the driver of otel_carry and the reader of the vectors' rows, and runs them on cases."""
+"""Builds the three programs, the driver of otel_carry, the reader of the vectors' rows and the orders of requests, and runs them on
+cases."""
 import importlib.machinery
 import importlib.util
 import os
@@ -48,6 +49,23 @@ def lay_programs(room):
         file.write(text)
     for name in ("driver", "headers"):
         shutil.copy(f"{HERE}/src/{name}.rs", f"{folder}/src/{name}.rt")
+    return folder
+
+
+def lay_orders(room):
+    """The orders of the tests of opentelemetry, with a `main` that plays many."""
+    subprocess.run(["git", "init", "-q", room], check=True)
+    shutil.copytree(f"{TOP}/crates", f"{room}/crates", ignore=shutil.ignore_patterns("out", "must-fail"))
+    folder = f"{room}/crates/orders"
+    os.makedirs(f"{folder}/src")
+    shutil.copy(f"{HERE}/src/orders.rs", f"{folder}/src/main.rt")
+    for name in ("keeping", "orders", "plain"):
+        shutil.copy(f"{TOP}/tests/crates/opentelemetry/src/tracing/{name}.rs", f"{folder}/src/{name}.rt")
+    with open(f"{TOP}/crates.txt", encoding="utf-8") as file:
+        listed = file.read()
+    below = re.search(r"(?m)^otel_examples: (.*)$", listed)[1]
+    with open(f"{room}/crates.txt", "w", encoding="utf-8") as file:
+        file.write(f"{listed}orders: {below} otel_examples\n")
     return folder
 
 

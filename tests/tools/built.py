@@ -1,12 +1,27 @@
-"""The crates of the repository and the libraries that `rt ci` built from them, for scripts that call the kit's compiler
-themselves."""
+"""The crates of the repository and what is built from them: the libraries of `rt ci`, for scripts that call the kit's compiler
+themselves, and the files that scripts build and keep. `./new` copies this file into other repositories."""
+import contextlib
 import glob
+import hashlib
 import os
 import shutil
 import subprocess
 import sys
 
-TOP = os.path.dirname(os.path.dirname(os.path.dirname(os.path.abspath(__file__))))
+
+def top():
+    """The nearest folder above this file that has a crates.txt."""
+    found = os.path.dirname(os.path.abspath(__file__))
+    while not os.path.isfile(f"{found}/crates.txt"):
+        if found == os.path.dirname(found):
+            sys.exit(f"no folder above {__file__} has a crates.txt")
+        found = os.path.dirname(found)
+    return found
+
+
+if not shutil.which("rt"):
+    sys.exit("the kit's command rt isn't on PATH")
+TOP = top()
 # `rt doc` prints the path of a page of the kit.
 KIT = os.path.dirname(subprocess.run(["rt", "doc"], stdout=subprocess.PIPE, text=True, check=True).stdout.strip())
 PARTS = "src", "specs", "proofs"
@@ -15,8 +30,8 @@ PARTS = "src", "specs", "proofs"
 def crates():
     """The lines of crates.txt: the dependencies of each crate, by its name."""
     with open(f"{TOP}/crates.txt", encoding="utf-8") as file:
-        lines = [line.split("#", 1)[0].split(":", 1) for line in file]
-    return {line[0].split()[0]: line[1].split() for line in lines if len(line) == 2}
+        lines = [line.partition("#")[0].partition(":") for line in file]
+    return {name.split()[0]: libraries.replace(",", " ").split() for name, _, libraries in lines if name.strip()}
 
 
 def below(crate, known):
@@ -26,6 +41,39 @@ def below(crate, known):
         if it in known:
             found += [dep for dep in [*below(it, known), it] if dep not in found]
     return found
+
+
+def read(path):
+    with open(path, "rb") as file:
+        return file.read()
+
+
+def checksum(crate, known):
+    """The checksum of all files that a build of the crate reads."""
+    digest = hashlib.sha256(subprocess.run(["rt", "version"], stdout=subprocess.PIPE, check=True).stdout)
+    for it in [*below(crate, known), crate]:
+        digest.update(repr((it, known[it])).encode())
+        places = [f"{glob.escape(TOP)}/crates/{it}/{part}/**/*" for part in PARTS]
+        files = (path for place in places for path in glob.glob(place, recursive=True) if os.path.isfile(path))
+        for path in sorted(files):
+            digest.update(repr((os.path.relpath(path, TOP), read(path))).encode())
+    return digest.hexdigest()
+
+
+def is_of(made, sources):
+    """Whether this file was built from these sources, and hasn't changed since."""
+    with contextlib.suppress(OSError):
+        return read(f"{made}.of").decode() == sources + hashlib.sha256(read(made)).hexdigest()
+    return False
+
+
+def keep(built, made, sources):
+    """Keeps the file built from these sources as `made`, in the place of an older one, which may be running."""
+    os.makedirs(os.path.dirname(made), exist_ok=True)
+    shutil.copy(built, f"{made}.new")
+    os.replace(f"{made}.new", made)
+    with open(f"{made}.of", "w", encoding="utf-8") as file:
+        file.write(sources + hashlib.sha256(read(made)).hexdigest())
 
 
 def lay_copy(room):

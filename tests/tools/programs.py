@@ -10,8 +10,6 @@
 reuses the proofs of earlier runs on this machine, such as `make test`. Everything except the results goes to standard error.
 """
 import contextlib
-import glob
-import hashlib
 import os
 import shutil
 import subprocess
@@ -21,7 +19,7 @@ import tempfile
 sys.dont_write_bytecode = True
 import progress
 import unproved
-from built import KIT, PARTS, TOP, below, crates, words
+from built import KIT, TOP, below, checksum, crates, is_of, keep, words
 
 # The arguments and the input with which `make prove` runs each program. A program without either runs as it is.
 SHOWN = {"otel_carry": ([], "examples/first-run"), "otel_service": (["--headers", "--fixed", "--waterfall"], "examples/service"),
@@ -33,51 +31,8 @@ def say(text):
     print(text, file=sys.stderr, flush=True)
 
 
-def read(path):
-    with open(path, "rb") as file:
-        return file.read()
-
-
-def checksum(crate, known):
-    """The checksum of all files that a build of the crate reads."""
-    digest = hashlib.sha256(subprocess.run(["rt", "version"], stdout=subprocess.PIPE, check=True).stdout)
-    for it in [*below(crate, known), crate]:
-        digest.update(repr((it, known[it])).encode())
-        files = (path for part in PARTS for path in glob.glob(f"{TOP}/crates/{it}/{part}/**/*", recursive=True) if os.path.isfile(path))
-        for path in sorted(files):
-            digest.update(repr((os.path.relpath(path, TOP), read(path))).encode())
-    return digest.hexdigest()
-
-
-def is_of(made, sources):
-    """Whether this file was built from these sources, and hasn't changed since."""
-    with contextlib.suppress(OSError):
-        return read(f"{made}.of").decode() == sources + hashlib.sha256(read(made)).hexdigest()
-    return False
-
-
-def keep(built, made, sources):
-    """Keeps the file built from these sources as `made`."""
-    os.makedirs(os.path.dirname(made), exist_ok=True)
-    shutil.copy(built, made)
-    with open(f"{made}.of", "w", encoding="utf-8") as file:
-        file.write(sources + hashlib.sha256(read(made)).hexdigest())
-
-
 def programs(known):
     return [it for it in known if os.path.isfile(f"{TOP}/crates/{it}/src/main.rt")]
-
-
-def build_unproved(name, made, sources, known):
-    """Builds the program unproved."""
-    room = tempfile.mkdtemp(prefix="unproved-")
-    try:
-        with progress.Progress(f"{name} is compiled, unproved"):
-            folder = unproved.lay_crates(f"{room}/copy", [*below(name, known), name], known)
-            unproved.build(f"{folder}/{name}", room, f"{room}/{name}")
-        keep(f"{room}/{name}", made, sources)
-    finally:
-        shutil.rmtree(room, ignore_errors=True)
 
 
 def path(name):
@@ -89,12 +44,11 @@ def path(name):
     if is_of(f"{out}/{name}", sources):
         say(f"{name}: this is the proved program")
         return f"{out}/{name}"
-    made = f"{out}/unproved/{name}"
-    if not is_of(made, sources):
-        try:
-            build_unproved(name, made, sources, known)
-        except unproved.Failed as why:
-            sys.exit(f"{why}\n{name} isn't compiled")
+    try:
+        with progress.Progress(f"{name} is compiled, unproved"):
+            made = unproved.path(name, known)
+    except unproved.Failed as why:
+        sys.exit(f"{why}\n{name} isn't compiled")
     say(f"{name}: this is an unproved build; `make prove` proves the program")
     return made
 

@@ -6,3 +6,5 @@ pub mod CurrentLemmas
 pub mod RefusalLemmas
 pub mod WorkedLemmas
 pub mod LongLemmas
+pub mod OpenLemmas
+mod LocalLemmas

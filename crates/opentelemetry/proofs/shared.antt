@@ -2,3 +2,4 @@
 pub mod Maps
 pub mod Rising
 pub mod Setting
+pub mod GhostSteps

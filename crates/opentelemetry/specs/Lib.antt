@@ -14,3 +14,8 @@ pub mod Scope
 pub mod InSpan
 pub mod Closure
 pub mod View
+pub mod SpanSource
+pub mod Tracing
+pub mod Clock
+pub mod SpanChange
+pub mod OpenSpans

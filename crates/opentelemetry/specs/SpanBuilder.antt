@@ -1,5 +1,6 @@
 -- The model of a span builder.
-use Rattle.std.specs.Prelude.{ℕ, zero, suc, Bool, true, false, ◌&&◌, List, Option, Some, None}
+use Rattle.std.specs.Prelude.{ℕ, zero, suc, Bool, true, false, ◌&&◌, List, [], ◌∷◌, ◌++◌, Option, Some, None}
+use Rattle.std.specs.Option.{unwrap_or}
 use Rattle.std.specs.List.{filter}
 use Rattle.otel_base.specs.KeyValue.{Attribute}
 use Rattle.otel_context.specs.declared.span.status.SpanKind.{SpanKind}
@@ -25,6 +26,12 @@ from_name name = record {
   attributes = None;
   events = None;
   links = None;
+}
+
+-- the builder with one more attribute, the last one
+abbrev pub with_attribute : BuilderRecord → Attribute → BuilderRecord
+with_attribute b attribute = record b {
+  attributes = Some (unwrap_or b.attributes [] ++ attribute ∷ []);
 }
 
 abbrev is_not_zero : ℕ → Bool

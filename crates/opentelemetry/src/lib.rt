@@ -7,10 +7,13 @@
 pub mod baggage;
 pub mod carry;
 pub mod context;
+mod history;
 pub mod logs;
 pub mod propagation;
+pub mod time;
 pub mod trace;
 
+pub use history::History;
 pub use otel_base::{
     Array, InstrumentationScope, InstrumentationScopeBuilder, Key, KeyValue, StringValue, Value,
 };

@@ -7,6 +7,7 @@ pub mod noop;
 mod span_builder;
 mod tracer;
 mod tracer_provider;
+mod tracing;
 
 pub use event::Event;
 pub use in_span::{CallClosure, Run, SpanBody, StartError};
@@ -21,3 +22,7 @@ pub use otel_ids::{
 pub use span_builder::SpanBuilder;
 pub use tracer::Tracer;
 pub use tracer_provider::TracerProvider;
+pub use tracing::{
+    Attached, Entered, LocalTracing, NoopSource, NoopTracing, NotEntered, OpenSpan, SourceWork,
+    SpanSource, TracerSource, Tracing,
+};

@@ -5,7 +5,7 @@ use Rattle.std.proofs.lemmas.List.Sums.{sum_by-append}
 use Rattle.std.specs.Bool.{⊤}
 use Rattle.std.specs.List.{flat_map, sum_by}
 use Rattle.std.specs.Result.{IsErrAnd, result_unwrap_or}
-use Rattle.otel_sdk_base.specs.Clock.{within_u64}
+use Rattle.opentelemetry.specs.Clock.{within_u64}
 use Rattle.otel_sdk_base.specs.Export.{items_of}
 use Rattle.otel_sdk_base.specs.declared.error.OTelSdkError.{OTelSdkError}
 use Rattle.otel_otlp.proofs.HttpParts.{parts_items}

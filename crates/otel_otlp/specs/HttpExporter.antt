@@ -7,7 +7,7 @@ use Rattle.std.specs.List.{flat_map}
 use Rattle.std.specs.Result.{result_unwrap_or}
 use Rattle.http.specs.Request.{head_of, body_of}
 use Rattle.http.specs.declared.request.Parts as http
-use Rattle.otel_sdk_base.specs.Clock.{within_u64}
+use Rattle.opentelemetry.specs.Clock.{within_u64}
 use Rattle.otel_sdk_base.specs.Export.{Calls, items_of}
 use Rattle.otel_sdk_base.specs.Resource as resource
 use Rattle.otel_sdk_base.specs.Resource.{Parts}

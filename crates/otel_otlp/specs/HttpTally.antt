@@ -1,6 +1,6 @@
 -- What an exporter counts of the items that don't arrive, and the collector's last message.
 use Rattle.std.specs.Prelude.{ℕ, ◌+◌, List, Option, Some, None, option_map, string_bytes}
-use Rattle.otel_sdk_base.specs.Clock.{within_u64}
+use Rattle.opentelemetry.specs.Clock.{within_u64}
 use Rattle.otel_otlp.specs.declared.otlp_http.response.Partial.{Partial}
 
 -- the items that the collector rejected, the items that were given up, and the responses that

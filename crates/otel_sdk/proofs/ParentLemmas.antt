@@ -1,26 +1,20 @@
 -- A span has the ids of its parent from its start on.
 use Rattle.std.proofs.Common.{◌≡◌, ℕ, Bool, true, false, List, [], ◌∷◌, fold, Option, Some, None, Result, refl, sym, ap, subst, ◌∙◌, inl, inr}
-use Rattle.std.specs.Prelude.{◌⊎◌, if◌then◌else◌, option_map}
+use Rattle.std.specs.Prelude.{◌⊎◌, if◌then◌else◌}
 use Rattle.otel_base.specs.InstrumentationScope.{Scope}
 use Rattle.otel_base.specs.KeyValue.{Attribute}
 use Rattle.otel_context.specs.Context.{ContextRecord, is_telemetry_suppressed}
-use Rattle.otel_context.specs.SpanEffects.{attributes_of}
 use Rattle.otel_ids.specs.SpanContext.{SpanContextRecord}
 use Rattle.opentelemetry.specs.Event.{LinkRecord}
 use Rattle.opentelemetry.specs.SpanBuilder.{BuilderRecord}
 use Rattle.otel_sdk.specs.Sampler.{Asked, Answer}
-use Rattle.otel_sdk_span.specs.Span.{SpanState, after_end, recording, says_nothing, unrecorded, with_attribute, with_event}
+use Rattle.otel_sdk_span.specs.Span.{SpanState, says_nothing, unrecorded, with_attribute, with_event}
 use Rattle.otel_sdk_span.specs.Span.{with_kept_link, with_link, keep_within}
 use Rattle.otel_sdk_span.specs.SpanData.{SpanRecord}
 use Rattle.otel_sdk_span.specs.declared.limits.SpanLimits.{SpanLimits}
-use Rattle.otel_sdk.specs.Journal.{ids_of}
-use Rattle.otel_sdk.specs.Parents.{IsChild, IsChildIfRecorded, IsInTrace, IsUnder}
-use Rattle.otel_sdk.specs.SpanChange.{change_of}
+use Rattle.otel_sdk.specs.Parents.{IsChild, IsInTrace, IsUnder}
 use Rattle.otel_sdk.specs.Tracer.{IsTraceId, MayBuild, Records, Starts, StartsNew, asked, given_data, has_random_id, parent_of, records, silent, span_context_of, without_ids}
 use Rattle.otel_sdk.specs.declared.trace.id_generator.IdError.{IdError}
-use Rattle.otel_sdk.specs.declared.trace.change.SpanChange.{SpanChange}
-use Rattle.otel_sdk.specs.declared.trace.change.SpanChange.TheVariants.{SetAttribute, AddEvent}
-use Rattle.otel_sdk.specs.declared.trace.change.SpanChange.TheVariants.{AddLink, SetStatus, UpdateName}
 
 -- ---- the recorded data keeps its ids
 
@@ -48,7 +42,7 @@ link-same_of : (b : Bool) (limits : SpanLimits) (d : SpanRecord) (l : LinkRecord
 link-same_of true limits d l = same-ids d
 link-same_of false limits d l = record { own = refl; parent = refl; remote = refl }
 
-link-same : (limits : SpanLimits) (d : SpanRecord) (l : LinkRecord) → SameIds d (with_link limits d l)
+pub link-same : (limits : SpanLimits) (d : SpanRecord) (l : LinkRecord) → SameIds d (with_link limits d l)
 link-same limits d l = link-same_of (says_nothing l) limits d l
 
 fold-same : {X : Type 0} (f : SpanRecord → X → SpanRecord) → ((d : SpanRecord) (x : X) → SameIds d (f d x))
@@ -66,78 +60,6 @@ within-same limits d =
     (fold-same (with_attribute limits) (λ x y. record { own = refl; parent = refl; remote = refl }) d.attributes empty)
     (then-ids a e _ (fold-same (with_event limits) (λ x y. record { own = refl; parent = refl; remote = refl }) d.events a)
     (fold-same (with_link limits) (λ x y. link-same limits x y) d.links e)))
-
--- ---- changes and the end
-
-module _ (p : Option SpanContextRecord) where
-  if-child : (b : Bool) (own : SpanContextRecord) (g : SpanRecord → SpanRecord) → ((d : SpanRecord) → SameIds d (g d))
-      → (o : Option SpanRecord) → IsChildIfRecorded p own o → IsChildIfRecorded p own (if b then o else option_map g o)
-  if-child true own g same o h = h
-  if-child false own g same None h = h
-  if-child false own g same (Some d) h = ((same d).own ∙ h.0, child-same p d (g d) (same d) h.1)
-
-  recording-under : (s : SpanState) (g : SpanRecord → SpanRecord) → ((d : SpanRecord) → SameIds d (g d))
-      → IsUnder p s → IsUnder p (recording s g)
-  recording-under s g same h = record {
-    trace = h.trace;
-    child = if-child s.has_ended s.context g same s.recorded h.child;
-  }
-
-  pub change-under : (c : SpanChange) (s : SpanState) → IsUnder p s → IsUnder p (change_of c s)
-  change-under (SetAttribute attribute) s h = recording-under s _ (λ d. record { own = refl; parent = refl; remote = refl }) h
-  change-under (AddEvent name time attributes) s h =
-      recording-under s _ (λ d. record { own = refl; parent = refl; remote = refl }) h
-  change-under (AddLink context attributes) s h = recording-under s _ (λ d. link-same s.limits d (record {
-    span_context = context;
-    attributes = attributes_of attributes;
-    dropped_attributes_count = 0;
-  })) h
-  change-under (SetStatus status) s h = recording-under s _ (λ d. record { own = refl; parent = refl; remote = refl }) h
-  change-under (UpdateName name) s h = recording-under s _ (λ d. record { own = refl; parent = refl; remote = refl }) h
-
-  pub end-under : (s : SpanState) (time : ℕ) → IsUnder p s → IsUnder p (after_end s time)
-  end-under s time h = record {
-    trace = h.trace;
-    child = if-child s.has_ended s.context (λ d. record d { end_time = time })
-        (λ d. record { own = refl; parent = refl; remote = refl }) s.recorded h.child;
-  }
-
-pub change-context : (c : SpanChange) (s : SpanState) → (change_of c s).context ≡ s.context
-change-context (SetAttribute attribute) s = refl
-change-context (AddEvent name time attributes) s = refl
-change-context (AddLink context attributes) s = refl
-change-context (SetStatus status) s = refl
-change-context (UpdateName name) s = refl
-
--- ---- the ids of a span
-
-abbrev parent_ids : SpanRecord → ℕ × Bool
-parent_ids d = (d.parent_span_id, d.parent_span_is_remote)
-
-if-ids : (b : Bool) (g : SpanRecord → SpanRecord) → ((d : SpanRecord) → SameIds d (g d)) → (o : Option SpanRecord)
-    → option_map parent_ids (if b then o else option_map g o) ≡ option_map parent_ids o
-if-ids true g same o = refl
-if-ids false g same None = refl
-if-ids false g same (Some d) = λ i. Some ((same d).parent i, (same d).remote i)
-
-recording-ids : (s : SpanState) (g : SpanRecord → SpanRecord) → ((d : SpanRecord) → SameIds d (g d))
-    → ids_of (recording s g) ≡ ids_of s
-recording-ids s g same = ap (λ (p : Option (ℕ × Bool)). record { context = s.context; parent = p })
-    (if-ids s.has_ended g same s.recorded)
-
-pub change-ids : (c : SpanChange) (s : SpanState) → ids_of (change_of c s) ≡ ids_of s
-change-ids (SetAttribute attribute) s = recording-ids s _ (λ d. record { own = refl; parent = refl; remote = refl })
-change-ids (AddEvent name time attributes) s = recording-ids s _ (λ d. record { own = refl; parent = refl; remote = refl })
-change-ids (AddLink context attributes) s = recording-ids s _ (λ d. link-same s.limits d (record {
-  span_context = context;
-  attributes = attributes_of attributes;
-  dropped_attributes_count = 0;
-}))
-change-ids (SetStatus status) s = recording-ids s _ (λ d. record { own = refl; parent = refl; remote = refl })
-change-ids (UpdateName name) s = recording-ids s _ (λ d. record { own = refl; parent = refl; remote = refl })
-
-pub end-ids : (s : SpanState) (time : ℕ) → ids_of (after_end s time) ≡ ids_of s
-end-ids s time = recording-ids s (λ d. record d { end_time = time }) (λ d. record { own = refl; parent = refl; remote = refl })
 
 -- ---- starts
 

@@ -161,11 +161,11 @@ provider_with_env c b =
 
 -- the builder with the configuration's sampler, resource, limits of spans and sizes of batches,
 -- disabled if the configuration is
-abbrev pub with_env : {S G E : Type 0} → EnvConfig → BuilderParts S G E
-    → BuilderParts EnvSampler G E
+abbrev pub with_env : {S G X : Type 0} → EnvConfig → BuilderParts S G X
+    → BuilderParts EnvSampler G X
 with_env c b = record {
   provider = provider_with_env c b.provider;
-  exporter = b.exporter;
+  processors = b.processors;
   config = effective (limits.sizes_of c.span_batches);
   is_disabled = b.is_disabled || c.is_disabled;
 }

@@ -1,13 +1,11 @@
--- The last export of a `Tracing`, which is tried again for some time. Not in the Rust crate.
-use Rattle.std.specs.Prelude.{◌≡◌, ◌≢◌, ◌⊎◌, ◌<◌, ◌≤◌, ◌-◌, ◌*◌, ◌==◌, ℕ, zero, suc, List}
+-- The last export of a value that traces, which is tried again for some time. Not in the Rust
+-- crate.
+use Rattle.std.specs.Prelude.{◌≡◌, ◌≢◌, ◌⊎◌, ◌<◌, ◌≤◌, ◌-◌, ◌*◌, ◌==◌, ℕ, zero, suc, Bool}
 use Rattle.std.specs.Prelude.{Result, Ok, Err, OnErr, false, if◌then◌else◌, refl}
-use Rattle.otel_sdk.specs.Tracing.{TracingState, ShutsDown}
 use Rattle.otel_sdk.specs.declared.trace.tracing.last_export.Unfinished.{Unfinished}
 use Rattle.otel_sdk.specs.declared.trace.tracing.last_export.Unfinished.TheVariants.{Dropped}
 use Rattle.otel_sdk.specs.declared.trace.tracing.last_export.Unfinished.TheVariants.{Refused}
-use Rattle.otel_sdk_base.specs.Export.{Calls}
 use Rattle.otel_sdk_base.specs.declared.error.OTelSdkError.{OTelSdkError}
-use Rattle.otel_sdk_span.specs.SpanData.{SpanRecord}
 
 -- the nanoseconds of these milliseconds
 abbrev pub nanos_of : ℕ → ℕ
@@ -17,27 +15,27 @@ nanos_of millis = millis * 1000000
 abbrev pub pause : ℕ
 pause = 100000000
 
--- a clock that shows no later moment so often in a row has stopped
+-- a clock that shows no later timestamp so often in a row has stopped
 abbrev pub still : ℕ
 still = 10000000
 
--- the outcome of the last shutdown, before which a full queue had dropped this many spans
+-- the outcome of the last shutdown, before which this many spans were dropped
 abbrev pub outcome_of : Result ℕ OTelSdkError → ℕ → Result (Unit {0}) Unfinished
 outcome_of (Err error) dropped = Err (Refused error)
 outcome_of (Ok count) dropped = if dropped == 0 then Ok tt else Err (Dropped dropped)
 
 -- ---- time
 
--- the moment that a clock showed last, and the nanoseconds that are left
+-- the timestamp that a clock showed last, and the nanoseconds that are left
 pub record TimeLeft : Type 0 where
   pub last : ℕ
   pub left : ℕ
 
--- The clock showed this moment. The time is no longer if the clock was set back.
+-- The clock showed this timestamp. The time is no longer if the clock was set back.
 abbrev pub with_moment : ℕ → TimeLeft → TimeLeft
 with_moment now time = record { last = now; left = time.left - (now - time.last) }
 
--- Only a reading of the clock shows that `reads` holds of a moment.
+-- Only a reading of the clock shows that `reads` holds of a timestamp.
 module _ (reads : ℕ → Type 0) where
   -- the clock was read, none or more times, each time while more than `due` was left
   pub data Waits (due : ℕ) : TimeLeft → TimeLeft → Type 0 where
@@ -45,7 +43,7 @@ module _ (reads : ℕ → Type 0) where
     read_again : (old time : TimeLeft) (now : ℕ) → Waits due old time → due < time.left
         → reads now → Waits due old (with_moment now time)
 
-  -- each of the last readings, of this number, showed no later moment than the one before it
+  -- each of the last readings, of this number, showed no later timestamp than the one before it
   unfoldable pub StoodStill : ℕ → ℕ → Type 0
   StoodStill zero last = Unit {0}
   StoodStill (suc count) last =
@@ -65,42 +63,36 @@ module _ (reads : ℕ → Type 0) where
 
 -- ---- tries
 
-module _ {P E : Type 0} where
-  -- Shutdowns were tried, none or more. Each failed, and left the processor open, and then the
-  -- clock was read until the next one was due.
-  pub data Tries (accepted : E → List (List SpanRecord)) (calls : Calls E) (reads : ℕ → Type 0)
-      : TracingState P E → TimeLeft → TracingState P E → TimeLeft → Type 0 where
-    none : (t : TracingState P E) (time : TimeLeft) → Tries accepted calls reads t time t time
-    again : (old before new : TracingState P E) (start time next : TimeLeft) (error : OTelSdkError)
-        → Tries accepted calls reads old start before time
-        → ShutsDown accepted calls (Err error) before new
-        → new.processor.is_shut_down ≡ false
-        → HasWaited reads time next
-        → Tries accepted calls reads old start new next
+-- A shutdown relates the states before and after by `Shuts`, and `is_closed` says whether the
+-- processors were shut down.
+module _ {T : Type 0} (Shuts : Result ℕ OTelSdkError → T → T → Type 0) (is_closed : T → Bool)
+    (reads : ℕ → Type 0) where
+  -- Shutdowns were tried, none or more. Each failed, and left a processor open, and then the clock
+  -- was read until the next one was due.
+  pub data Tries : T → TimeLeft → T → TimeLeft → Type 0 where
+    none : (t : T) (time : TimeLeft) → Tries t time t time
+    again : (old before new : T) (start time next : TimeLeft) (error : OTelSdkError)
+        → Tries old start before time → Shuts (Err error) before new → is_closed new ≡ false
+        → HasWaited reads time next → Tries old start new next
 
-  -- This is the answer of the last shutdown; each one before failed, and left the processor open.
-  -- If this one did too, the time is over, or the clock stopped.
-  pub record IsLast (accepted : E → List (List SpanRecord)) (calls : Calls E) (reads : ℕ → Type 0)
-      (start : TimeLeft) (answer : Result ℕ OTelSdkError) (old new : TracingState P E)
-      : Type 0 where
-    pub before : TracingState P E
+  -- This is the answer of the last shutdown; each one before failed, and left a processor open. If
+  -- this one did too, the time is over, or the clock stopped.
+  pub record IsLast (start : TimeLeft) (answer : Result ℕ OTelSdkError) (old new : T) : Type 0 where
+    pub before : T
     pub time : TimeLeft
-    pub tries : Tries accepted calls reads old start before time
-    pub last : ShutsDown accepted calls answer before new
-    pub gave_up : OnErr answer
-        (new.processor.is_shut_down ≡ false → HasGivenUp reads time)
+    pub tries : Tries old start before time
+    pub last : Shuts answer before new
+    pub gave_up : OnErr answer (is_closed new ≡ false → HasGivenUp reads time)
 
   -- The clock was read, and then the shutdown was tried until one succeeded, or the last one
   -- failed (`finish`).
-  pub record Finishes (accepted : E → List (List SpanRecord)) (calls : Calls E)
-      (reads : ℕ → Type 0) (millis : ℕ) (answer : Result (Unit {0}) Unfinished)
-      (old new : TracingState P E) : Type 0 where
+  pub record Finishes (dropped : T → ℕ) (millis : ℕ) (answer : Result (Unit {0}) Unfinished)
+      (old new : T) : Type 0 where
     pub moment : ℕ
     pub shown : reads moment
     pub shutdown : Result ℕ OTelSdkError
-    pub last : IsLast accepted calls reads (record { last = moment; left = nanos_of millis })
-        shutdown old new
-    pub outcome : answer ≡ outcome_of shutdown new.processor.dropped
+    pub last : IsLast (record { last = moment; left = nanos_of millis }) shutdown old new
+    pub outcome : answer ≡ outcome_of shutdown (dropped new)
 
 -- ---- worked rows
 dropped_example : outcome_of (Ok 0) 3 ≡ Err (Dropped 3)

@@ -1,55 +1,48 @@
--- A `Tracing` under construction. Not in the Rust crate.
-use Rattle.std.specs.Prelude.{◌≡◌, Bool, List, []}
+-- A value that traces, under construction. Not in the Rust crate.
+use Rattle.std.specs.Prelude.{◌≡◌, Bool}
+use Rattle.opentelemetry.specs.Tracing as tracing
+use Rattle.opentelemetry.specs.Tracing.{TracingState}
 use Rattle.otel_base.specs.InstrumentationScope.{Scope}
-use Rattle.otel_sdk.specs.LiveState.{no_spans}
+use Rattle.otel_sdk.specs.Processor.{ProcessorCalls}
+use Rattle.otel_sdk.specs.SdkSource as source
+use Rattle.otel_sdk.specs.SdkSource.{SourceState}
 use Rattle.otel_sdk.specs.Tracer.{ProviderParts, TracerState, provider_of, tracer_of}
-use Rattle.otel_sdk.specs.Tracing.{TracingState}
-use Rattle.otel_sdk_base.specs.Export.{Calls}
-use Rattle.otel_sdk_base.specs.Queue.{Limits, new as new_processor}
-use Rattle.otel_sdk_span.specs.SpanData.{SpanRecord}
+use Rattle.otel_sdk_base.specs.Queue.{Limits}
+use Rattle.otel_sdk_span.specs.Span.{SpanState}
 
--- the parts of the provider, the exporter, the limits of the queue, and whether it is disabled
-pub record BuilderParts (S G E : Type 0) : Type 0 where
+-- the parts of the provider, the processors, the limits of the queues of exporters that are added
+-- later, and whether it is disabled
+pub record BuilderParts (S G X : Type 0) : Type 0 where
   pub provider : ProviderParts S G
-  pub exporter : E
+  pub processors : X
   pub config : Limits
   pub is_disabled : Bool
 
 -- the same parts with this provider
-abbrev pub with_provider : {S T G H E : Type 0} → ProviderParts T H → BuilderParts S G E
-    → BuilderParts T H E
+abbrev pub with_provider : {S T G H X : Type 0} → ProviderParts T H → BuilderParts S G X
+    → BuilderParts T H X
 with_provider provider parts = record {
   provider = provider;
-  exporter = parts.exporter;
+  processors = parts.processors;
   config = parts.config;
   is_disabled = parts.is_disabled;
 }
 
--- nothing is attached, started, entered or queued, and the clock wasn't read
-abbrev pub at_start : {P E : Type 0} → (E → List (List SpanRecord)) → P → E → Limits → Bool
-    → TracingState P E
-at_start accepted pipeline exporter config is_disabled = record {
-  pipeline = pipeline;
-  contexts = [];
-  spans = no_spans;
-  entered = [];
-  processor = new_processor exporter config;
-  started = [];
-  history = [];
-  earlier = accepted exporter;
-  moments = [];
-  unrecorded = 0;
-  is_disabled = is_disabled;
+-- the same parts with one more processor, after the others
+abbrev pub with_last : {S G X Q : Type 0} → Q → BuilderParts S G X → BuilderParts S G (X × Q)
+with_last processor parts = record {
+  provider = parts.provider;
+  processors = (parts.processors, processor);
+  config = parts.config;
+  is_disabled = parts.is_disabled;
 }
 
--- The `Tracing` of these parts and this scope. Its exporter was told the resource before the first
--- batch, and has accepted what the given one had.
-pub record IsBuilt {S G E : Type 0} (accepted : E → List (List SpanRecord)) (calls : Calls E)
-    (parts : BuilderParts S G E) (scope : Scope) (t : TracingState (TracerState S G) E)
-    : Type 0 where
-  pub exporter : E
-  pub same : accepted exporter ≡ accepted parts.exporter
-  pub told : calls.takes_resource parts.exporter (provider_of parts.provider).resource exporter
-  pub state : t
-      ≡ at_start accepted (tracer_of (provider_of parts.provider) scope) exporter parts.config
-      parts.is_disabled
+-- The value of these parts and this scope. Its processors were told the resource, and nothing has
+-- begun.
+pub record IsBuilt {S G X : Type 0} (processing : ProcessorCalls X) (parts : BuilderParts S G X)
+    (scope : Scope) (t : TracingState (SourceState (TracerState S G) X) SpanState) : Type 0 where
+  pub processors : X
+  pub told : processing.takes_resource parts.processors (provider_of parts.provider).resource
+      processors
+  pub state : t ≡ tracing.at_start (source.at_start
+      (tracer_of (provider_of parts.provider) scope) processors parts.is_disabled)

@@ -74,7 +74,7 @@ pub use warning::{EnvWarning, Instead};
 ///
 /// ```
 /// let config = EnvConfig::from_vars(alloc, vars.as_slice())?;
-/// let mut tracing = Tracing::builder(rt)
+/// let mut tracing = TracingBuilder::new(rt)
 ///     .with_env(alloc, &config)?
 ///     .counted(1)
 ///     .with_exporter(InMemorySpanExporter::new(alloc))

@@ -4,7 +4,7 @@ ghost use Rattle.otel_sdk.specs.Parents.{TracersStartChildren};
 use crate::trace::{IdGenerator, TracerCalls};
 
 /// States which ids a span of a provider's tracers inherits from its parent, for a generator `G` of
-/// ids and a clock `C`. Callers of [`run`](crate::trace::run) cite it. Not in the Rust crate.
+/// ids and a clock `C`. Not in the Rust crate.
 pub fn tracer_children<G: IdGenerator, C: TracerCalls>()
     // A span that records has its parent's trace id, and its parent's span id as the parent id.
     ensures { TracersStartChildren G.may_trace G.may_span C.may_show C.is_counted C.is_read }

@@ -1,7 +1,7 @@
 pub mod Attributes
-pub mod Clock
 pub mod Errors
 pub mod Export
+pub mod NotEntered
 pub mod Queue
 pub mod QueueView
 pub mod Resource

@@ -4,20 +4,20 @@
 
 mod accepted;
 pub mod attributes;
-mod clock;
 pub mod cutting;
 pub mod error;
 mod export;
 mod in_memory_exporter;
+mod not_entered;
 pub mod otlp;
 mod queue;
 pub mod resource;
 mod writer_calls;
 
 pub use accepted::Accepted;
-pub use clock::{Clock, CountedClock, ManualClock, SystemClock, TimeSource};
 pub use export::Exporter;
 pub use in_memory_exporter::{ExactClone, InMemoryExporter};
+pub use opentelemetry::time::{Clock, CountedClock, ManualClock, SystemClock, TimeSource};
 pub use queue::Queue;
 pub use queue::config::{BatchConfig, BatchConfigBuilder};
 pub use writer_calls::WriterCalls;

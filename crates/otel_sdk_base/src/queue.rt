@@ -1,5 +1,6 @@
 //! The queue of items that wait for an exporter.
-ghost use Rattle.std.specs.Prelude.{◌≡◌, ◌≤◌, ◌<◌, [], not, length, IfOk, IfErr, IsTrue, OnOk};
+ghost use Rattle.std.specs.Prelude.{◌≡◌, ◌≤◌, ◌<◌, ◌+◌, [], not, length, min, IfOk, IfErr};
+ghost use Rattle.std.specs.Prelude.{IsTrue, OnOk};
 ghost use Rattle.std.specs.Rc.{rc_value};
 ghost use Rattle.otel_sdk_base.specs.Export.{refuses_with};
 ghost use Rattle.otel_sdk_base.specs.Writers.{FlushesNever};
@@ -123,6 +124,22 @@ impl<T: Drop, E: Exporter<T>> Queue<T, E> {
             self.items.reserve(1)?;
         }
         Ok(())
+    }
+
+    /// Reserves space for this many more items, as far as the queue's maximum size allows, so that
+    /// [`Queue::reserve`] needs no memory for them.
+    ///
+    /// # Errors
+    ///
+    /// `AllocError` if out of memory. The items are unchanged.
+    pub fn reserve_for(&mut self, count: usize) -> Result<(), AllocError>
+        ensures same { state self.new ≡ state self.old }
+        ensures ok { OnOk result (min (length (state self.new).queue + count)
+            (state self.new).config.max_queue_size ≤ capacity self.new) }
+    {
+        let size = self.config.max_queue_size;
+        let wanted = self.items.len().saturating_add(count).min(size);
+        self.items.reserve(wanted.saturating_sub(self.items.len()))
     }
 
     /// Queues the item, or drops and counts it if the queue is full. Never allocates.

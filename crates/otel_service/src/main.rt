@@ -8,21 +8,22 @@ use clap::{ArgGroup, ArgMatches, Command, arg};
 use opentelemetry::logs::Logger;
 use otel_otlp::{AppendFile, OtlpJsonSpanExporter, pipe_exporter};
 use otel_sdk::EnvConfig;
-use otel_sdk::trace::{SpanExporter, Tracing};
+use otel_sdk::trace::{Build, SpanExporter, TracingBuilder, WithExporter};
 use otel_waterfall::WaterfallExporter;
-use service::{Call, NAME, Service, logger};
+use service::{Call, NAME, logger, serve};
 use std::alloc::{AllocError, Global};
 use std::process::ExitCode;
 
 /// Answers the requests, and hands their spans to the exporter.
 fn run<E: SpanExporter, L: Logger>(call: &Call<L>, matches: &ArgMatches<'_>, to: E) -> Result<()> {
-    let spans = Tracing::builder(call.rt).with_exporter(to);
-    let spans = spans.with_env(call.rt.alloc(), call.env)?;
+    let spans = TracingBuilder::new(call.rt).with_env(call.rt.alloc(), call.env)?;
     if matches.get_flag("fixed") {
         // A millisecond from one reading of the clock to the next.
-        return Service::serve(call, spans.counted(1_000_000).build(call.rt.alloc(), NAME)?);
+        let spans = spans.counted(1_000_000).with_exporter(to);
+        return serve(call, spans.build(call.rt.alloc(), NAME)?);
     }
-    Service::serve(call, spans.build(call.rt.alloc(), NAME)?)
+    let spans = spans.with_exporter(to);
+    serve(call, spans.build(call.rt.alloc(), NAME)?)
 }
 
 /// Returns the command with its arguments.

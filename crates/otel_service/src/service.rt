@@ -5,14 +5,14 @@ use bytes::{BufMut, Bytes};
 use http::{HeaderMap, Request, StatusCode};
 use http_server::{Config, Connection, Reason, Response, Service as HttpService, State};
 use opentelemetry::logs::Logger;
-use opentelemetry::trace::{SpanBuilder, SpanKind, Status};
+use opentelemetry::trace::{SpanBuilder, SpanKind, Status, Tracing};
 use opentelemetry::{KeyValue, Value};
 use otel_appender_log::OpenTelemetryLogBridge;
 use otel_http::{HeaderExtractor, HeaderInjector, add_header_line};
 use otel_otlp::OtlpJsonLogExporter;
 use otel_sdk::env::{ConfiguredPropagator, EnvConfig};
 use otel_sdk::logs::{SimpleLogProcessor, SimpleLogger};
-use otel_sdk::trace::{Pipeline, SpanExporter, SystemClock, Tracing, finish};
+use otel_sdk::trace::{Exports, SpanProcessor, SystemClock, finish};
 use std::alloc::AllocError;
 use std::io::{self, Read, Stderr, Write};
 
@@ -64,24 +64,51 @@ fn answer_http(rt: HostRuntime, service: &mut impl HttpService) -> Result<()> {
     answer_peer(rt, &mut peer, service)
 }
 
-/// A service that answers requests.
-#[derive(Drop)]
-pub struct Service<'a, P, E: SpanExporter, L> {
-    /// How it was called.
-    pub call: &'a Call<'a, L>,
-    /// Starts and exports the spans.
-    pub tracing: Tracing<P, E>,
-    /// Whether a failed export was told.
-    pub is_told: bool,
-}
-
-impl<'a, P: Pipeline, E: SpanExporter, L: Logger> Service<'a, P, E, L> {
+/// Answers the requests of a program with a value that traces them.
+// Called by `serve`, which is generic over both types: the borrow checker covers no call of a
+// function that names `Call`, and so `'static`, for a value whose type holds other lifetimes too.
+pub trait Answers<T> {
     /// Answers the requests of standard input, exports their spans, and logs them.
     ///
     /// # Errors
     ///
     /// The reason why the input isn't read, an answer isn't written, or spans are lost.
-    pub fn serve(call: &'a Call<'a, L>, tracing: Tracing<P, E>) -> Result<()> {
+    fn answer_all(self, tracing: T) -> Result<()>;
+}
+
+impl<'a, T: Exports + Drop, L: Logger> Answers<T> for &'a Call<'a, L> {
+    fn answer_all(self, tracing: T) -> Result<()> {
+        Service::serve(self, tracing)
+    }
+}
+
+/// Answers the requests, as [`Answers::answer_all`].
+///
+/// # Errors
+///
+/// As [`Answers::answer_all`].
+pub fn serve<C: Answers<T>, T>(call: C, tracing: T) -> Result<()> {
+    call.answer_all(tracing)
+}
+
+/// A service that answers requests.
+#[derive(Drop)]
+pub struct Service<'a, T, L> {
+    /// How it was called.
+    pub call: &'a Call<'a, L>,
+    /// Starts and exports the spans.
+    pub tracing: T,
+    /// Whether a failed export was told.
+    pub is_told: bool,
+}
+
+impl<'a, T: Exports + Drop, L: Logger> Service<'a, T, L> {
+    /// Answers the requests, as [`Answers::answer_all`].
+    ///
+    /// # Errors
+    ///
+    /// As [`Answers::answer_all`].
+    fn serve(call: &'a Call<'a, L>, tracing: T) -> Result<()> {
         let mut service = Service {
             call,
             tracing,
@@ -141,9 +168,11 @@ impl<'a, P: Pipeline, E: SpanExporter, L: Logger> Service<'a, P, E, L> {
         Ok(self.tracing.set_status(Status::error(text.into()))?)
     }
 
-    /// Exports a full batch: 512 spans. The first failure is told on standard error.
+    /// Exports a full batch: 512 spans, unless the environment says otherwise. The first failure is
+    /// told on standard error.
     fn export(&mut self) {
-        let is_full = self.tracing.ended_spans() >= 512;
+        let size = self.call.env.span_batches.max_export_batch_size as usize;
+        let is_full = self.tracing.processors().queued_spans() >= size;
         if is_full && let (Err(error), false) = (self.tracing.flush(), self.is_told) {
             self.is_told = true;
             drop(eprintln!(self.call.rt; "{error}; the spans wait for another try"));
@@ -176,7 +205,7 @@ impl<'a, P: Pipeline, E: SpanExporter, L: Logger> Service<'a, P, E, L> {
     }
 }
 
-impl<P: Pipeline, E: SpanExporter, L: Logger> HttpService for Service<'_, P, E, L> {
+impl<T: Exports + Drop, L: Logger> HttpService for Service<'_, T, L> {
     ghost answers = { λ _ _ _ _. Unit {0} };
 
     fn call(&mut self, request: &Request<Bytes>, answer: &mut Response) -> Result<(), AllocError> {

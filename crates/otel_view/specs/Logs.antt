@@ -4,7 +4,7 @@ use Rattle.std.specs.Prelude.{Option, None, Some, Vec}
 use Rattle.std.specs.Option.{unwrap_or}
 use Rattle.std.specs.declared.alloc.Global.{Global}
 use Rattle.indexmap.specs.IndexMap.{Updates}
-use Rattle.otel_sdk_base.specs.Clock.{within_u64}
+use Rattle.opentelemetry.specs.Clock.{within_u64}
 use Rattle.otel_sdk_logs.specs.declared.record.TraceContext.{TraceContext}
 use Rattle.otel_view.specs.declared.logs.Line.{Line}
 use Rattle.otel_view.specs.declared.logs.Logs.{Logs}

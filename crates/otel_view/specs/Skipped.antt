@@ -3,7 +3,7 @@ use Rattle.std.specs.Prelude.{◌≡◌, ℕ, ◌+◌, List, [], ◌∷◌, ◌+
 use Rattle.std.specs.Prelude.{Bool, true, false}
 use Rattle.std.specs.Char.{is_ascii_whitespace}
 use Rattle.std.specs.List.{list_all}
-use Rattle.otel_sdk_base.specs.Clock.{within_u64}
+use Rattle.opentelemetry.specs.Clock.{within_u64}
 use Rattle.otel_view.specs.declared.input.Skipped.{Skipped}
 
 -- the numbers of the first ten lines

@@ -2,7 +2,7 @@
 use Rattle.std.specs.Prelude.{ℕ, ◌+◌, ◌-◌, Bool, true, false, Option, None, Some, min, max, nat_lt}
 use Rattle.std.specs.Prelude.{◌≡◌, ◌++◌, ◌^◌, List, length, if◌then◌else◌, IsPermutation}
 use Rattle.std.specs.List.Sorted.{IsNonDecreasingBy}
-use Rattle.otel_sdk_base.specs.Clock.{within_u64}
+use Rattle.opentelemetry.specs.Clock.{within_u64}
 use Rattle.otel_view.specs.declared.summary.Filter.{Filter}
 use Rattle.otel_view.specs.declared.summary.Head.{Head}
 use Rattle.otel_view.specs.declared.summary.Part.{Part}

@@ -2,6 +2,7 @@
 mod active;
 mod bridge;
 mod in_span;
+mod local;
 mod logs;
 mod noop;
 mod parts;
@@ -19,6 +20,7 @@ pub fn play<R: Print>(alloc: Global, lines: &Lines<'_, R>) {
     active::play(alloc, lines);
     tracers::play(alloc, lines);
     in_span::play(alloc, lines);
+    local::play(alloc, lines);
     logs::play(alloc, lines);
     noop::play(alloc, lines);
     bridge::play(alloc, lines);

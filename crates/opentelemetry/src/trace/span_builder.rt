@@ -3,14 +3,16 @@ ghost use Rattle.std.specs.Prelude.{◌≡◌, IfOk, Some, [], map};
 ghost use Rattle.otel_context.specs.SpanEffects.{attributes_of};
 ghost use Rattle.otel_context.specs.Stack.{current};
 ghost use Rattle.opentelemetry.specs.SpanBuilder.{from_name, is_valid_link, valid_links};
-ghost use Rattle.opentelemetry.specs.SpanBuilder.{with_links};
+ghost use Rattle.opentelemetry.specs.SpanBuilder.{with_attribute, with_links};
+ghost use Rattle.otel_base.specs.View.{value_of};
+ghost use Rattle.otel_base.specs.declared.value.Value.{Value};
 ghost use Rattle.opentelemetry.specs.View.{builder_of, event_of, link_of};
 
 use crate::trace::attributes::copy_attributes;
 use crate::trace::event::Event;
 use crate::trace::link::Link;
 use crate::trace::tracer::Tracer;
-use otel_base::{KeyValue, StringValue};
+use otel_base::{Key, KeyValue, StringValue, Value};
 use otel_context::{Context, ContextStack, SpanKind};
 use std::alloc::{AllocError, Global};
 
@@ -81,6 +83,54 @@ impl SpanBuilder {
             attributes: Some(attributes),
             ..self
         }
+    }
+
+    /// Adds an attribute after those that are set.
+    ///
+    /// ```
+    /// let span = SpanBuilder::from_name(operation.into())
+    ///     .with_kind(SpanKind::Client)
+    ///     .with_attribute(alloc, "db.operation.name", operation)?
+    ///     .with_attribute(alloc, "db.query.text", String::from_str(alloc, key)?)?;
+    /// ```
+    ///
+    /// # Errors
+    ///
+    /// `AllocError` if out of memory. The builder and the value are dropped.
+    pub fn with_attribute<V>(
+        self,
+        alloc: Global,
+        key: &'static str,
+        value: V,
+    ) -> Result<SpanBuilder, AllocError>
+    where
+        Value: From<V>,
+        ensures { IfOk result (λ b. (made : Value) × ⟦<Value as From<V>>⟧.from_gives value made
+            × (builder_of b ≡ with_attribute (builder_of self) (key.now, value_of made))) }
+    {
+        let attribute = KeyValue::new(Key::from(key), Value::from(value));
+        let SpanBuilder {
+            span_kind,
+            name,
+            start_time,
+            attributes,
+            events,
+            links,
+        } = self;
+        let mut attributes = match attributes {
+            Some(attributes) => attributes,
+            None => Vec::new(alloc),
+        };
+        attributes.push(attribute)?;
+        let attributes = Some(attributes);
+        Ok(SpanBuilder {
+            span_kind,
+            name,
+            start_time,
+            attributes,
+            events,
+            links,
+        })
     }
 
     /// Sets the events, replacing any set before.

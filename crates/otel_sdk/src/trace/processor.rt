@@ -1,109 +1,115 @@
-//! Processors of spans, which pass ended spans to an exporter.
-ghost use Rattle.std.specs.Prelude.{◌≡◌, [], true, false, IfErr, IsErrOf, IsSome, OnOk, Some};
-ghost use Rattle.std.specs.Prelude.{alloc_error};
-ghost use Rattle.otel_sdk.specs.Processor.{IsHandedIn, IsHandedInOrReturned};
-ghost use Rattle.otel_sdk_base.specs.declared.error.OTelSdkError.TheVariants.{AlreadyShutdown};
-ghost use Rattle.otel_sdk_base.specs.declared.error.OTelSdkError.TheVariants.{Memory};
+//! Processors of spans, which are told of each span, and pass the ended ones to an exporter.
+ghost use Rattle.std.specs.Prelude.{◌≡◌, IfOk, IsTrue, OnOk, false, true};
+ghost use Rattle.std.specs.Rc.{rc_value};
+ghost use Rattle.otel_sdk.specs.Processor.{AddsToAccount, KeepsAccount, ids_of};
+ghost use Rattle.otel_sdk_span.specs.SpanData.{SpanRecord};
 
 pub(crate) mod batch;
+mod list;
 pub(crate) mod simple;
 
-use otel_sdk_base::error::{OTelSdkError, OTelSdkResult};
+use opentelemetry::Context;
+use otel_sdk_base::error::OTelSdkResult;
 use otel_sdk_base::resource::Resource;
-use otel_sdk_span::SpanData;
+use otel_sdk_span::{SdkSpan, SpanData};
+use std::alloc::{AllocError, Global};
 use std::rc::Rc;
-use thiserror::Error;
 
-/// The reason why a processor failed at the end of a span. Not in the Rust crate.
+/// Is told of each span that begins, and gets the data of each one that ends (the Rust crate's
+/// `SpanProcessor`). There are no threads: it works only during calls.
 ///
-/// See [`SpanProcessor::on_end`].
-#[derive(Debug, Drop, Error)]
-#[error("{error}")]
-pub struct EndRefused {
-    /// The span, or `None` if the processor accepted it and only its export failed.
-    pub span: Option<SpanData>,
-    /// The cause of the failure.
-    pub error: OTelSdkError,
-}
-
-/// Drops the span, if there is one.
-impl From<EndRefused> for OTelSdkError {
-    ghost from_gives = { λ refused converted. converted ≡ refused.error };
-
-    fn from(refused: EndRefused) -> OTelSdkError {
-        refused.error
-    }
-}
-
-/// Receives ended spans, and passes the sampled ones to an exporter (the Rust crate's
-/// `SpanProcessor`). There are no threads: spans are exported only during calls.
+/// Processors form a list of pairs, as `(((), P), Q)`, which is a processor itself. An application
+/// lists them by [`TracingBuilder::with_processor`](crate::trace::TracingBuilder::with_processor).
 ///
-/// Implementors define three ghost functions: the sampled spans that the processor received and
-/// keeps, in order, with the number of spans that it dropped (`received`); the last ones of these,
-/// which its exporter hasn't accepted (`queued`); and whether it is open (`receives`).
+/// Implementors say in the ghost member `calls` what each call does, and for which ended spans the
+/// processor accounts.
 ///
 /// See [`crate::trace::BatchSpanProcessor`] and [`crate::trace::SimpleSpanProcessor`].
 pub trait SpanProcessor: Drop {
-    ghost use Rattle.std.specs.Prelude.{Bool, List};
-    ghost use Rattle.otel_sdk_base.specs.Queue.{Received};
-    ghost use Rattle.otel_sdk_span.specs.SpanData.{SpanRecord};
+    ghost use Rattle.otel_sdk.specs.Processor.{ProcessorCalls};
 
-    ghost received: { Self → Received SpanRecord };
+    ghost calls: { ProcessorCalls Self };
 
-    ghost queued: { Self → List SpanRecord };
-
-    ghost receives: { Self → Bool };
-
-    /// Receives a span that has ended. Drops it if it isn't sampled.
+    /// Reserves memory, so that this many open spans can end without any. Does nothing by default.
     ///
     /// # Errors
     ///
-    /// - `AlreadyShutdown` after [`SpanProcessor::shutdown`], or `Memory` if out of memory. Nothing
-    ///   changes, and the error returns the span.
-    /// - Otherwise the exporter's error. The processor accepted the span, and the error returns no
-    ///   span.
-    fn on_end(&mut self, span: SpanData) -> Result<(), EndRefused>
-        ensures ok { OnOk result (IsHandedIn span (received self.old) (received self.new)) }
-        ensures err { IfErr result (λ refused. IsHandedInOrReturned span
-            (received self.old) (received self.new) refused.span) }
-        ensures closed { receives self.old ≡ false
-            → IsErrOf result (record { span = Some span; error = AlreadyShutdown }) }
-        ensures memory { receives self.old ≡ true → IfErr result (λ refused.
-            IsSome refused.span → refused.error ≡ Memory alloc_error) }
-        ensures stays { receives self.new ≡ receives self.old };
+    /// `AllocError` if out of memory. Nothing changes.
+    fn reserve(&mut self, _open: usize) -> Result<(), AllocError>
+        ensures { self.new ≡ self.old }
+    {
+        Ok(())
+    }
 
-    /// Passes the queued spans to the exporter, and flushes it.
+    /// Is told that a span begins under the parent context, before it is the current one. May
+    /// change the span, but not its ids.
+    fn on_start(&mut self, alloc: Global, span: &mut SdkSpan, parent: &Context)
+        ensures starts { calls.starts self.old parent.now span.old self.new span.new }
+        ensures ids { ids_of span.new ≡ ids_of span.old }
+        ensures account { KeepsAccount calls self.old self.new };
+
+    /// Returns `true` if the processor is told of spans that end.
+    fn keeps_ended(&self) -> bool
+        ensures keeps { result ≡ calls.keeps_ended self.now }
+        ensures idle { result ≡ false
+            → (span : SpanRecord) → AddsToAccount calls span self.now self.now };
+
+    /// Gets the data of a span that has ended. An exporting processor drops it if it isn't sampled.
+    fn on_end(&mut self, span: SpanData)
+        ensures ends { calls.ends self.old span self.new }
+        ensures account { AddsToAccount calls span self.old self.new };
+
+    /// Is told of a span that has ended, if its data couldn't be copied for this processor. Counts
+    /// it if it is sampled.
+    fn on_loss(&mut self, span: &SpanData)
+        ensures loses { calls.loses self.old span.now self.new }
+        ensures account { AddsToAccount calls span.now self.old self.new };
+
+    /// Passes the spans that the processor keeps to the exporter, and flushes it.
     ///
     /// # Errors
     ///
     /// `AlreadyShutdown` after [`SpanProcessor::shutdown`], or the exporter's error. The spans that
-    /// it didn't accept stay queued, in order.
+    /// it didn't accept are kept, in order.
     fn force_flush(&mut self) -> OTelSdkResult
-        ensures same { received self.new ≡ received self.old }
-        ensures exported { OnOk result (queued self.new ≡ []) }
-        ensures closed { receives self.old ≡ false → IsErrOf result AlreadyShutdown }
-        ensures stays { receives self.new ≡ receives self.old };
+        ensures flushes { calls.flushes self.old result self.new }
+        ensures account { KeepsAccount calls self.old self.new }
+        ensures exported { OnOk result (calls.IsEmpty self.new) };
 
-    /// Flushes the processor, and shuts it and its exporter down. From then on, each call returns
-    /// `AlreadyShutdown`.
+    /// Flushes the processor, and shuts it and its exporter down. Spans that end later are dropped
+    /// and counted.
     ///
     /// # Errors
     ///
     /// `AlreadyShutdown` after an earlier call, or the exporter's error. If the flush failed, the
-    /// processor stays open for another attempt.
+    /// processor stays open for another try.
     fn shutdown(&mut self) -> OTelSdkResult
-        ensures ok { OnOk result (receives self.new ≡ false) }
-        ensures exported { OnOk result (queued self.new ≡ []) }
-        ensures again { receives self.old ≡ false → IsErrOf result AlreadyShutdown }
-        ensures same { receives self.old ≡ false → received self.new ≡ received self.old }
-        ensures closed { receives self.old ≡ false → receives self.new ≡ false }
-        ensures open { receives self.new ≡ true → received self.new ≡ received self.old }
-        ensures dropped { (received self.new).dropped ≡ (received self.old).dropped };
+        ensures shuts_down { calls.shuts_down self.old result self.new }
+        ensures account { KeepsAccount calls self.old self.new }
+        ensures closed { OnOk result (calls.is_shut_down self.new ≡ true) };
 
-    /// Tells the exporter the resource of the following spans. Does nothing by default.
-    fn set_resource(&mut self, _resource: Rc<Resource>)
-        ensures same { received self.new ≡ received self.old }
-        ensures waiting { queued self.new ≡ queued self.old }
-        ensures stays { receives self.new ≡ receives self.old }
-    {}
+    /// Returns `true` if the processor was shut down, or has nothing to shut down.
+    fn is_shut_down(&self) -> bool
+        ensures state { result ≡ calls.is_shut_down self.now }
+        ensures empty { IsTrue result → calls.IsEmpty self.now };
+
+    /// Returns the number of sampled spans that were dropped: because a queue was full or shut
+    /// down, or out of memory. Several processors each count a span that they dropped. Stops at the
+    /// maximum `u64`.
+    fn dropped_spans(&self) -> u64
+        ensures { result ≡ calls.dropped self.now };
+
+    /// Returns the number of spans that the processor keeps to hand on: of several, the maximum.
+    fn queued_spans(&self) -> usize
+        ensures { result ≡ calls.queued self.now };
+
+    /// Tells the exporter the resource of later spans, unless it was shut down.
+    ///
+    /// # Errors
+    ///
+    /// `AllocError` if out of memory. Only some exporters were told.
+    fn set_resource(&mut self, resource: &Rc<Resource>) -> Result<(), AllocError>
+        ensures told { OnOk result
+            (calls.takes_resource self.old (rc_value resource.now) self.new) }
+        ensures account { KeepsAccount calls self.old self.new };
 }

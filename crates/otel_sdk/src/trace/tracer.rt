@@ -185,10 +185,8 @@ where
     }
 }
 
-/// The configuration with which a [`Tracing`] starts spans, as a [`TracerPipeline`] that nobody can
-/// shut down. Not in the Rust crate.
-///
-/// [`Tracing`]: crate::trace::Tracing
+/// The configuration with which an [`SdkTracing`](crate::trace::SdkTracing) starts spans, as a
+/// [`TracerPipeline`] that nobody can shut down. Not in the Rust crate.
 pub struct OpenPipeline<S, G, C> {
     pub(crate) config: TracerConfig<S, G, C>,
     pub(crate) scope: Rc<InstrumentationScope>,

@@ -9,7 +9,7 @@ use std::marker::Model;
 /// once (the Rust crate's `BatchConfig`, without its delays, since there is no clock to wait on).
 ///
 /// See [`BatchConfigBuilder`].
-#[derive(Debug, Drop)]
+#[derive(Clone, Copy, Debug)]
 pub struct BatchConfig {
     pub(crate) max_queue_size: usize,
     pub(crate) max_export_batch_size: usize,
@@ -24,6 +24,11 @@ impl Model for BatchConfig {
     ghost view = { λ c. record {
       max_queue_size = c.max_queue_size;
       max_export_batch_size = c.max_export_batch_size;
+    } };
+
+    ghost inverse = { λ l. record {
+      max_queue_size = l.max_queue_size;
+      max_export_batch_size = l.max_export_batch_size;
     } };
 
     ghost invariant = { λ c. (0 < c.max_export_batch_size)

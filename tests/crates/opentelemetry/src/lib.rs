@@ -10,3 +10,4 @@ mod members;
 mod paths;
 mod propagation;
 mod trace;
+mod tracing;

@@ -87,12 +87,7 @@ fn taken(alloc: Global, first: usize, failures: usize) -> Result<(Vec<u8>, usize
     let exporter = OtlpJsonSpanExporter::new(alloc, failing(alloc, first, failures))?;
     let mut processor = BatchSpanProcessor::new(alloc, exporter, config);
     for number in 1..6 {
-        if processor
-            .on_end(root(alloc, number, scope(alloc, "s")?)?)
-            .is_err()
-        {
-            return Err(Fail::from("not queued"));
-        }
+        processor.on_end(root(alloc, number, scope(alloc, "s")?)?);
     }
     let mut failed = 0;
     while failed <= failures && processor.force_flush().is_err() {

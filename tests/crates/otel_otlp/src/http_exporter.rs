@@ -457,7 +457,7 @@ fn each_span_of_a_processor_is_taken_once(rt: HostRuntime) -> Result<(), Fail> {
         let exporter = exporter(alloc, replies, &moment, length_of_one(alloc)?)?;
         let mut processor = BatchSpanProcessor::new(alloc, exporter, config);
         for span in spans(alloc, 1, 6)? {
-            assert!(rt; processor.on_end(span).is_ok());
+            processor.on_end(span);
         }
         let mut flushes = 0;
         while flushes < 9 && processor.force_flush().is_err() {

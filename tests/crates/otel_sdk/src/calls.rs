@@ -2,12 +2,12 @@
 //! counted.
 use opentelemetry::trace::{
     Link, Span, SpanBuilder, SpanContext, SpanId, SpanKind, TraceFlags, TraceId, TraceState,
-    Tracer, TracerProvider,
+    Tracer, TracerProvider, Tracing,
 };
 use opentelemetry::{Context, KeyValue, StringValue};
 use otel_sdk::trace::{
-    Clock, IdError, IdGenerator, InMemorySpanExporter, SamplingDecision, SamplingResult,
-    SdkTracerProvider, ShouldSample, Tracing,
+    Build, Clock, Exports, IdError, IdGenerator, InMemorySpanExporter, SamplingDecision,
+    SamplingResult, SdkTracerProvider, ShouldSample, TracingBuilder, WithExporter,
 };
 use std::alloc::{AllocError, Global};
 use std::cell::Cell;
@@ -199,7 +199,7 @@ fn a_tracing_asks_for_what_it_needs_once(rt: HostRuntime) -> Result<(), Fail> {
     let alloc = rt.alloc();
     let counts = no_calls(alloc)?;
     let decision = SamplingDecision::RecordAndSample;
-    let mut tracing = Tracing::builder(rt)
+    let mut tracing = TracingBuilder::new(rt)
         .with_sampler(counting(&counts, decision)?)
         .with_id_generator(counting(&counts, decision)?)
         .with_clock(counting(&counts, decision)?)

@@ -2,12 +2,15 @@
 use crate::env::config;
 use opentelemetry::logs::{Logger, LoggerProvider, Severity};
 use opentelemetry::propagation::text_map_propagator::TextMapPropagator;
-use opentelemetry::trace::{Run, SpanBuilder, SpanContext, SpanId, Status, TraceId, TraceState};
+use opentelemetry::trace::{
+    SpanBuilder, SpanContext, SpanId, Status, TraceId, TraceState, Tracing,
+};
 use opentelemetry::{Key, KeyValue, StringValue, Value};
 use otel_sdk::env::{EnvSampler, WithEnv};
 use otel_sdk::logs::{InMemoryLogExporter, SdkLoggerProvider, SimpleLogProcessor};
 use otel_sdk::trace::{
-    Clock, FinishedSpans, IdError, IdGenerator, InMemorySpanExporter, OpenPipeline, Tracing,
+    BatchSpanProcessor, Build, Clock, Exports, FinishedSpans, IdError, IdGenerator,
+    InMemorySpanExporter, OpenPipeline, SdkTracing, SpanProcessor, TracingBuilder, WithExporter,
 };
 use std::alloc::Global;
 use std::cell::Cell;
@@ -59,14 +62,17 @@ impl Clock for Asked {
     }
 }
 
-type App = Tracing<OpenPipeline<EnvSampler, Asked, Asked>, InMemorySpanExporter>;
+type App = SdkTracing<
+    OpenPipeline<EnvSampler, Asked, Asked>,
+    ((), BatchSpanProcessor<InMemorySpanExporter>),
+>;
 
-/// A `Tracing` as the variable says.
+/// A value that traces, as the variable says.
 fn app(rt: HostRuntime, disabled: &str, times: &Rc<Cell<u64>>) -> Result<App, Fail> {
     let alloc = rt.alloc();
     let config = config(alloc, &[("OTEL_SDK_DISABLED", disabled)])?;
     Ok(
-        Tracing::builder(rt)
+        TracingBuilder::new(rt)
             .with_env(alloc, &config)?
             .with_id_generator(Asked {
                 times: times.clone()?,
@@ -88,8 +94,8 @@ fn work(alloc: Global, app: &mut App) -> Result<(), Fail> {
     app.set_status(Status::Ok)?;
     app.update_name(StringValue::from("renamed"))?;
     app.record_error(&402)?;
-    let open = app.in_span("price", Run(|app: &mut App| app.open_spans()));
-    let paid = app.try_in_span("pay", Run(|_: &mut App| -> Result<u8, u16> { Err(402) }));
+    let open = app.in_span("price", |app: &mut App| app.open_spans());
+    let paid = app.try_in_span("pay", |_: &mut App| -> Result<u8, u16> { Err(402) });
     app.enter_with(SpanBuilder::from_name(StringValue::from("left open")))?;
     app.exit(serve);
     if open == 0 && paid == Err(402) {
@@ -106,10 +112,14 @@ fn a_disabled_tracing_does_nothing(rt: HostRuntime) -> Result<(), Fail> {
     let mut app = app(rt, "true", &times)?;
     assert!(rt; app.is_disabled());
     work(alloc, &mut app)?;
-    assert_eq!(rt; (app.open_spans(), app.ended_spans()), (0, 0));
-    assert_eq!(rt; (app.unrecorded(), app.dropped_spans()), (0, 0));
+    let processors = app.processors();
+    assert_eq!(rt; (app.open_spans(), processors.queued_spans()), (0, 0));
+    assert_eq!(rt; (app.unrecorded(), processors.dropped_spans()), (0, 0));
     app.flush()?;
-    assert_eq!(rt; app.exporter().get_finished_spans()?.len(), 0);
+    assert_eq!(rt;
+        app.processors().1.exporter().get_finished_spans()?.len(),
+        0
+    );
     assert_eq!(rt; app.shutdown()?, 0);
     assert!(rt; app.shutdown().is_err());
     assert_eq!(rt; times.get(), 0);
@@ -163,7 +173,7 @@ fn any_other_tracing_starts_spans(rt: HostRuntime) -> Result<(), Fail> {
 #[test]
 fn code_disables_too(rt: HostRuntime) -> Result<(), Fail> {
     let alloc = rt.alloc();
-    let mut tracing = Tracing::builder(rt)
+    let mut tracing = TracingBuilder::new(rt)
         .disabled()
         .with_env(alloc, &config(alloc, &[])?)?
         .counted(1)
@@ -173,7 +183,15 @@ fn code_disables_too(rt: HostRuntime) -> Result<(), Fail> {
     assert!(rt; !tracing.context().has_active_span());
     tracing.exit(serve);
     tracing.flush()?;
-    assert_eq!(rt; tracing.exporter().get_finished_spans()?.len(), 0);
+    assert_eq!(rt;
+        tracing
+            .processors()
+            .1
+            .exporter()
+            .get_finished_spans()?
+            .len(),
+        0
+    );
     Ok(())
 }
 

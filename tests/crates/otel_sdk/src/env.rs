@@ -1,8 +1,11 @@
 //! The configuration by environment variables: each variable, and the effect of its faults.
+use opentelemetry::trace::Tracing;
 use opentelemetry::{StringValue, Value};
 use otel_sdk::EnvConfig;
 use otel_sdk::env::{EnvEndpoint, EnvExporter, EnvPropagator, EnvSampler};
-use otel_sdk::trace::{FinishedSpans, InMemorySpanExporter, Sampler, Tracing};
+use otel_sdk::trace::{
+    Build, Exports, FinishedSpans, InMemorySpanExporter, Sampler, TracingBuilder, WithExporter,
+};
 use std::alloc::Global;
 use std::test::Fail;
 
@@ -321,7 +324,7 @@ fn arrived(rt: HostRuntime, vars: &[(&str, &str)]) -> Result<usize, Fail> {
     let alloc = rt.alloc();
     let vars = owned(alloc, vars)?;
     let config = EnvConfig::from_vars(alloc, vars.as_slice())?;
-    let mut tracing = Tracing::builder(rt)
+    let mut tracing = TracingBuilder::new(rt)
         .with_env(alloc, &config)?
         .counted(1)
         .with_exporter(InMemorySpanExporter::new(alloc))
@@ -329,7 +332,14 @@ fn arrived(rt: HostRuntime, vars: &[(&str, &str)]) -> Result<usize, Fail> {
     let span = tracing.enter("work")?;
     tracing.exit(span);
     tracing.flush()?;
-    Ok(tracing.exporter().get_finished_spans()?.len())
+    Ok(
+        tracing
+            .processors()
+            .1
+            .exporter()
+            .get_finished_spans()?
+            .len(),
+    )
 }
 
 #[test]

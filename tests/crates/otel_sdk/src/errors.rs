@@ -1,13 +1,12 @@
 //! Each error of the API and the SDK is an error to `?`, in a program with `anyhow` and in one with
 //! `OTelSdkError`.
 use opentelemetry::propagation::PropagationError;
-use opentelemetry::trace::{SpanCause, SpanRefused, StartError};
+use opentelemetry::trace::{NotEntered, SpanCause, SpanRefused, StartError};
 use otel_sdk::error::{OTelSdkError, OTelSdkResult};
-use otel_sdk::trace::{EndRefused, IdError, NotEntered};
-use std::alloc::{AllocError, Global};
+use otel_sdk::trace::IdError;
+use std::alloc::AllocError;
 use std::io;
 use std::test::Fail;
-use test_support::span_data;
 
 /// A span type with neither `Debug` nor `Display`.
 #[derive(Drop)]
@@ -40,10 +39,8 @@ impl Failed {
         Err(io::Error::from(io::ErrorKind::NotFound))
     }
 
-    fn end(alloc: Global) -> Result<(), EndRefused> {
-        let span = span_data(alloc, 1, 1).ok();
-        let error = OTelSdkError::AlreadyShutdown;
-        Err(EndRefused { span, error })
+    fn flush() -> OTelSdkResult {
+        Err(OTelSdkError::AlreadyShutdown)
     }
 
     fn enter() -> Result<(), NotEntered> {
@@ -52,28 +49,28 @@ impl Failed {
 }
 
 /// Fails at the step with this number, of 0 to 6.
-fn by_anyhow(alloc: Global, step: u8) -> anyhow::Result<()> {
+fn by_anyhow(step: u8) -> anyhow::Result<()> {
     match step {
         0 => Failed::cause()?,
         1 => drop(Failed::insert()?),
         2 => drop(Failed::in_span()?),
         3 => Failed::inject()?,
         4 => Failed::read()?,
-        5 => Failed::end(alloc)?,
+        5 => Failed::flush()?,
         _ => Failed::enter()?,
     }
     Ok(())
 }
 
 /// Fails at the step with this number, of 0 to 5.
-fn by_sdk(alloc: Global, step: u8) -> OTelSdkResult {
+fn by_sdk(step: u8) -> OTelSdkResult {
     match step {
         0 => Failed::cause()?,
         1 => drop(Failed::insert()?),
         2 => drop(Failed::in_span()?),
         3 => Failed::inject()?,
         4 => Failed::read()?,
-        _ => Failed::end(alloc)?,
+        _ => Failed::enter()?,
     }
     Ok(())
 }
@@ -91,7 +88,7 @@ fn anyhow_tells_each_error(rt: HostRuntime) -> Result<(), Fail> {
         "no position left",
     ];
     for (step, text) in texts.iter().enumerate() {
-        let Err(error) = by_anyhow(alloc, step as u8) else {
+        let Err(error) = by_anyhow(step as u8) else {
             return Err(Fail::from("no error"));
         };
         assert_eq!(rt; error.to_string(alloc)?.as_str(), *text);
@@ -108,10 +105,10 @@ fn the_error_of_the_sdk_tells_each_error(rt: HostRuntime) -> Result<(), Fail> {
         "no memory",
         "propagation refused",
         "entity not found",
-        "Shutdown already invoked",
+        "no position left",
     ];
     for (step, text) in texts.iter().enumerate() {
-        let Err(error) = by_sdk(alloc, step as u8) else {
+        let Err(error) = by_sdk(step as u8) else {
             return Err(Fail::from("no error"));
         };
         assert_eq!(rt; error.to_string(alloc)?.as_str(), *text);
@@ -120,7 +117,7 @@ fn the_error_of_the_sdk_tells_each_error(rt: HostRuntime) -> Result<(), Fail> {
 }
 
 #[test]
-fn a_refused_end_prints_its_error(rt: HostRuntime) -> Result<(), Fail> {
+fn the_error_of_a_flush_prints_why(rt: HostRuntime) -> Result<(), Fail> {
     let alloc = rt.alloc();
     let rows = [
         (OTelSdkError::AlreadyShutdown, "Shutdown already invoked"),
@@ -131,8 +128,7 @@ fn a_refused_end_prints_its_error(rt: HostRuntime) -> Result<(), Fail> {
         ),
     ];
     for (error, text) in rows {
-        let refused = EndRefused { span: None, error };
-        assert_eq!(rt; refused.to_string(alloc)?.as_str(), text);
+        assert_eq!(rt; error.to_string(alloc)?.as_str(), text);
     }
     Ok(())
 }

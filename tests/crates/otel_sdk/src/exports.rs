@@ -1,12 +1,12 @@
 //! The calls that processors make on their exporter, each counted.
-use crate::ended::three_ended;
+use opentelemetry::trace::Tracing;
 use otel_sdk::error::OTelSdkResult;
 use otel_sdk::resource::Resource;
 use otel_sdk::trace::{
-    BatchConfig, BatchSpanProcessor, Exporter, SimpleSpanProcessor, SpanData, SpanProcessor,
-    Tracing,
+    BatchConfig, BatchSpanProcessor, Build, Exporter, Exports, SimpleSpanProcessor, SpanData,
+    SpanProcessor, TracingBuilder, WithExporter, WithProcessor,
 };
-use std::alloc::Global;
+use std::alloc::{AllocError, Global};
 use std::default::Default;
 use std::rc::Rc;
 use std::test::Fail;
@@ -15,12 +15,12 @@ use test_support::span_data;
 /// An exporter that accepts all batches. It writes down each call: the number of spans of a batch,
 /// `f` for a flush, `s` for a shutdown and `r` for a resource.
 #[derive(Drop)]
-struct Noted {
-    calls: String,
+pub struct Noted {
+    pub calls: String,
 }
 
 impl Noted {
-    fn new(alloc: Global) -> Noted {
+    pub fn new(alloc: Global) -> Noted {
         Noted {
             calls: String::new(alloc),
         }
@@ -53,19 +53,26 @@ impl Exporter<SpanData> for Noted {
     }
 }
 
+/// Hands the sampled spans 1, 2 and 3 to the processor.
+fn end_three(alloc: Global, processor: &mut impl SpanProcessor) -> Result<(), AllocError> {
+    for number in 1..4 {
+        processor.on_end(span_data(alloc, number, 1)?);
+    }
+    Ok(())
+}
+
 #[test]
 fn a_batch_processor_calls_its_exporter_once(rt: HostRuntime) -> Result<(), Fail> {
     let alloc = rt.alloc();
-    let mut live = three_ended(alloc)?;
     let config = BatchConfig::default();
     let mut processor = BatchSpanProcessor::new(alloc, Noted::new(alloc), config);
-    assert!(rt; live.collect(&mut processor).is_ok());
+    end_three(alloc, &mut processor)?;
     assert_eq!(rt; processor.exporter().calls.as_str(), "");
     assert!(rt; processor.force_flush().is_ok());
     assert_eq!(rt; processor.exporter().calls.as_str(), "3f");
-    assert!(rt; processor.on_end(span_data(alloc, 4, 1)?).is_ok());
-    let resource = Resource::builder_empty(alloc).build();
-    processor.set_resource(Rc::new(alloc, resource)?);
+    processor.on_end(span_data(alloc, 4, 1)?);
+    let resource = Rc::new(alloc, Resource::builder_empty(alloc).build())?;
+    processor.set_resource(&resource)?;
     assert_eq!(rt; processor.exporter().calls.as_str(), "3fr");
     assert!(rt; processor.shutdown().is_ok());
     assert!(rt; processor.shutdown().is_err());
@@ -77,37 +84,50 @@ fn a_batch_processor_calls_its_exporter_once(rt: HostRuntime) -> Result<(), Fail
 #[test]
 fn a_simple_processor_flushes_once_after_each_span(rt: HostRuntime) -> Result<(), Fail> {
     let alloc = rt.alloc();
-    let mut live = three_ended(alloc)?;
     let mut processor = SimpleSpanProcessor::new(alloc, Noted::new(alloc));
-    assert!(rt; live.collect_each(&mut processor).is_ok());
-    assert_eq!(rt; processor.exporter().calls.as_str(), "f1f1f1f");
-    assert!(rt; live.collect_each(&mut processor).is_ok());
-    assert_eq!(rt; processor.exporter().calls.as_str(), "f1f1f1ff");
-    assert!(rt; processor.on_end(span_data(alloc, 4, 1)?).is_ok());
+    end_three(alloc, &mut processor)?;
+    assert_eq!(rt; processor.exporter().calls.as_str(), "1f1f1f");
     assert!(rt; processor.force_flush().is_ok());
-    assert_eq!(rt; processor.exporter().calls.as_str(), "f1f1f1ff1ff");
-    let resource = Resource::builder_empty(alloc).build();
-    processor.set_resource(Rc::new(alloc, resource)?);
+    assert_eq!(rt; processor.exporter().calls.as_str(), "1f1f1ff");
+    let resource = Rc::new(alloc, Resource::builder_empty(alloc).build())?;
+    processor.set_resource(&resource)?;
     assert!(rt; processor.shutdown().is_ok());
-    assert!(rt; processor.on_end(span_data(alloc, 5, 1)?).is_err());
-    assert_eq!(rt; processor.exporter().calls.as_str(), "f1f1f1ff1ffrfs");
+    processor.on_end(span_data(alloc, 4, 1)?);
+    assert_eq!(rt; processor.dropped_spans(), 1);
+    assert_eq!(rt; processor.exporter().calls.as_str(), "1f1f1ffrfs");
     Ok(())
 }
 
 #[test]
 fn a_tracing_calls_its_exporter_once(rt: HostRuntime) -> Result<(), Fail> {
     let alloc = rt.alloc();
-    let builder = Tracing::builder(rt).with_exporter(Noted::new(alloc));
+    let builder = TracingBuilder::new(rt).with_exporter(Noted::new(alloc));
     let mut tracing = builder.build(alloc, "cart")?;
     let serve = tracing.enter("serve")?;
     tracing.exit(serve);
-    assert_eq!(rt; tracing.exporter().calls.as_str(), "r");
+    assert_eq!(rt; tracing.processors().1.exporter().calls.as_str(), "r");
     tracing.flush()?;
-    assert_eq!(rt; tracing.exporter().calls.as_str(), "r1f");
+    assert_eq!(rt; tracing.processors().1.exporter().calls.as_str(), "r1f");
     tracing.enter("price")?;
     assert_eq!(rt; tracing.shutdown()?, 1);
     assert!(rt; tracing.shutdown().is_err());
     assert!(rt; tracing.flush().is_err());
-    assert_eq!(rt; tracing.exporter().calls.as_str(), "r1f1fs");
+    assert_eq!(rt; tracing.processors().1.exporter().calls.as_str(), "r1f1fs");
+    Ok(())
+}
+
+#[test]
+fn a_tracing_hands_each_span_to_a_simple_processor(rt: HostRuntime) -> Result<(), Fail> {
+    let alloc = rt.alloc();
+    let processor = SimpleSpanProcessor::new(alloc, Noted::new(alloc));
+    let builder = TracingBuilder::new(rt).with_processor(processor);
+    let mut tracing = builder.build(alloc, "cart")?;
+    let serve = tracing.enter("serve")?;
+    tracing.enter("price")?;
+    assert_eq!(rt; tracing.processors().1.exporter().calls.as_str(), "r");
+    tracing.exit(serve);
+    assert_eq!(rt; tracing.processors().1.exporter().calls.as_str(), "r1f1f");
+    assert_eq!(rt; tracing.shutdown()?, 0);
+    assert_eq!(rt; tracing.processors().1.exporter().calls.as_str(), "r1f1ffs");
     Ok(())
 }

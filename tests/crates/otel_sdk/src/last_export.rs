@@ -1,11 +1,13 @@
 //! The last export: how often it is tried, and when.
+use opentelemetry::trace::Tracing;
 use otel_sdk::EnvConfig;
 use otel_sdk::env::EnvBatches;
 use otel_sdk::error::{OTelSdkError, OTelSdkResult};
 use otel_sdk::resource::Resource;
 use otel_sdk::trace::{
-    BatchConfigBuilder, Clock, CountedClock, CountedIdGenerator, Exporter, ManualClock,
-    OpenPipeline, ParentBased, Sampler, SpanData, SystemClock, Tracing, Unfinished, finish,
+    BatchConfigBuilder, BatchSpanProcessor, Build, Clock, CountedClock, CountedIdGenerator,
+    Exporter, Exports, ManualClock, OpenPipeline, ParentBased, Sampler, SdkTracing, SpanData,
+    SystemClock, TracingBuilder, Unfinished, WithExporter, finish,
 };
 use std::alloc::Global;
 use std::cell::Cell;
@@ -73,16 +75,24 @@ impl Exporter<SpanData> for Busy {
     }
 }
 
-type App = Tracing<OpenPipeline<ParentBased<Sampler>, CountedIdGenerator, CountedClock>, Busy>;
+type App = SdkTracing<
+    OpenPipeline<ParentBased<Sampler>, CountedIdGenerator, CountedClock>,
+    ((), BatchSpanProcessor<Busy>),
+>;
 
 /// Two spans that are open, in a queue for two.
 fn app(rt: HostRuntime, exporter: Busy) -> Result<App, Fail> {
     let config = BatchConfigBuilder::default().with_max_queue_size(2).build();
-    let builder = Tracing::builder(rt).counted(1).with_batch_config(config);
+    let builder = TracingBuilder::new(rt).counted(1).with_batch_config(config);
     let mut app = builder.with_exporter(exporter).build(rt.alloc(), "cart")?;
     app.enter("serve")?;
     app.enter("price")?;
     Ok(app)
+}
+
+/// The exporter of the value.
+fn exporter(app: &App) -> &Busy {
+    app.processors().1.exporter()
 }
 
 /// An export may take this many milliseconds.
@@ -116,10 +126,10 @@ fn a_failed_export_is_tried_again_every_100_milliseconds(rt: HostRuntime) -> Res
         let answer = finish(&mut app, &clock, &within(*millis));
         assert_eq!(rt; answer.is_ok(), *is_well, "{failures} {millis}");
         assert_eq!(rt; matches!(answer, Err(Unfinished::Refused(_))), !*is_well);
-        assert_eq!(rt; app.exporter().flushes, *tries, "{failures} {millis}");
-        assert_eq!(rt; app.exporter().shutdowns, u32::from(*is_well));
+        assert_eq!(rt; exporter(&app).flushes, *tries, "{failures} {millis}");
+        assert_eq!(rt; exporter(&app).shutdowns, u32::from(*is_well));
         assert_eq!(rt; clock.now(), (*took + 10) * MILLI, "{failures} {millis}");
-        assert_eq!(rt; (app.exporter().spans, app.open_spans()), (2, 0));
+        assert_eq!(rt; (exporter(&app).spans, app.open_spans()), (2, 0));
     }
     Ok(())
 }
@@ -129,7 +139,7 @@ fn a_clock_that_has_stopped_allows_no_other_try(rt: HostRuntime) -> Result<(), F
     let mut app = app(rt, Busy::new(rt.alloc(), 99))?;
     let answer = finish(&mut app, &ManualClock::new(7), &within(30_000));
     assert!(rt; matches!(answer, Err(Unfinished::Refused(_))));
-    assert_eq!(rt; app.exporter().flushes, 1);
+    assert_eq!(rt; exporter(&app).flushes, 1);
     Ok(())
 }
 
@@ -159,7 +169,7 @@ fn a_clock_that_is_set_back_allows_no_more_time(rt: HostRuntime) -> Result<(), F
         is_set: Cell::new(false),
     };
     assert!(rt; finish(&mut app, &clock, &within(1000)).is_err());
-    assert_eq!(rt; app.exporter().flushes, 11);
+    assert_eq!(rt; exporter(&app).flushes, 11);
     assert_eq!(rt; clock.now(), 1020 * MILLI);
     Ok(())
 }
@@ -172,7 +182,7 @@ fn after_a_shutdown_nothing_is_tried_again(rt: HostRuntime) -> Result<(), Fail> 
     for _ in 0..2 {
         let answer = finish(&mut app, &CountedClock::new(MILLI), &within(1000));
         assert!(rt; matches!(answer, Err(Unfinished::Refused(_))));
-        assert_eq!(rt; (app.exporter().flushes, app.exporter().shutdowns), (1, 1));
+        assert_eq!(rt; (exporter(&app).flushes, exporter(&app).shutdowns), (1, 1));
     }
     Ok(())
 }
@@ -190,7 +200,7 @@ fn dropped_spans_are_no_success(rt: HostRuntime) -> Result<(), Fail> {
         error.to_string(rt.alloc())?.as_str(),
         "1 spans are lost: the queue was full"
     );
-    assert_eq!(rt; (app.exporter().spans, app.exporter().shutdowns), (2, 1));
+    assert_eq!(rt; (exporter(&app).spans, exporter(&app).shutdowns), (2, 1));
     let why = OTelSdkError::InternalFailure(String::from_str(rt.alloc(), "full")?);
     assert_eq!(rt;
         Unfinished::Refused(why).to_string(rt.alloc())?.as_str(),
@@ -202,14 +212,12 @@ fn dropped_spans_are_no_success(rt: HostRuntime) -> Result<(), Fail> {
 #[test]
 fn the_environment_says_how_long_a_program_tries(rt: HostRuntime) -> Result<(), Fail> {
     let config = EnvConfig::from_vars(rt.alloc(), &[])?;
-    let builder = Tracing::builder(rt).with_exporter(Busy::new(rt.alloc(), 1));
-    let builder = builder.with_env(rt.alloc(), &config)?;
+    let builder = TracingBuilder::new(rt).with_env(rt.alloc(), &config)?;
+    let builder = builder.with_exporter(Busy::new(rt.alloc(), 1));
     let mut tracing = builder.build(rt.alloc(), "cart")?;
     tracing.enter("serve")?;
     finish(&mut tracing, &SystemClock::new(rt), &config.span_batches)?;
-    assert_eq!(rt;
-        (tracing.exporter().spans, tracing.exporter().flushes),
-        (1, 2)
-    );
+    let exporter = tracing.processors().1.exporter();
+    assert_eq!(rt; (exporter.spans, exporter.flushes), (1, 2));
     Ok(())
 }

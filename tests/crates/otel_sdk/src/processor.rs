@@ -1,5 +1,4 @@
 //! The batches that processors hand to an exporter: worked runs.
-use opentelemetry::trace::SpanId;
 use otel_sdk::error::{OTelSdkError, OTelSdkResult};
 use otel_sdk::resource::Resource;
 use otel_sdk::trace::{
@@ -19,7 +18,7 @@ pub struct Planned {
     plan: &'static [u8],
     pub log: String,
     pub fails_to_flush: bool,
-    flushes: u8,
+    pub flushes: u8,
 }
 
 impl Planned {
@@ -87,8 +86,8 @@ pub fn report(errors: &mut String, error: &OTelSdkError) -> Result<(), AllocErro
     })
 }
 
-/// Makes the calls of a script: `e1` ends the sampled span 1, `u1` ends it unsampled, `f` flushes,
-/// and `s` shuts down. Returns the errors.
+/// Makes the calls of a script: `e1` hands over the sampled span 1, and `u1` an unsampled one; `f`
+/// flushes, and `s` shuts down. Returns the errors.
 fn played<P: SpanProcessor>(
     alloc: Global,
     processor: &mut P,
@@ -102,7 +101,8 @@ fn played<P: SpanProcessor>(
             [kind, number] => {
                 let flags = if *kind == b'e' { 3 } else { 2 };
                 let span = span_data(alloc, (*number - b'0') as u64, flags)?;
-                processor.on_end(span).err().map(|refused| refused.error)
+                processor.on_end(span);
+                None
             }
             _ => None,
         };
@@ -162,16 +162,7 @@ const RUNS: &[Row] = &[
         1,
     ),
     (4, 2, "-+", "e1 s e2 s", "[1]![1 2]", " failed", 0, 0),
-    (
-        4,
-        2,
-        "+",
-        "e1 s e2 f s",
-        "[1]",
-        " closed closed closed",
-        0,
-        0,
-    ),
+    (4, 2, "+", "e1 s e2 f s", "[1]", " closed closed", 0, 1),
     (4, 2, "", "f", "", "", 0, 0),
     (4, 2, "+", "e1 f f", "[1]", "", 0, 0),
     (4, 2, "+", "e2 e1 f", "[2 1]", "", 0, 0),
@@ -206,9 +197,9 @@ fn a_simple_processor_exports_each_span(rt: HostRuntime) -> Result<(), Fail> {
     let mut processor = SimpleSpanProcessor::new(alloc, exporter);
     let errors = played(alloc, &mut processor, "e1 u2 e3 s e4")?;
     assert_eq!(rt; processor.exporter().log.as_str(), "[1]![1][3]");
-    assert_eq!(rt; errors.as_str(), " failed closed");
+    assert_eq!(rt; errors.as_str(), "");
     assert_eq!(rt; processor.queued_spans(), 0);
-    assert_eq!(rt; processor.dropped_spans(), 0);
+    assert_eq!(rt; processor.dropped_spans(), 1);
     Ok(())
 }
 
@@ -229,7 +220,7 @@ fn a_queue_has_room_for_2048_spans(rt: HostRuntime) -> Result<(), Fail> {
     let exporter = InMemorySpanExporter::new(alloc);
     let mut processor = BatchSpanProcessor::new(alloc, exporter, Default::default());
     for number in 0..2050 {
-        assert!(rt; processor.on_end(span_data(alloc, number, 1)?).is_ok());
+        processor.on_end(span_data(alloc, number, 1)?);
     }
     assert_eq!(rt; processor.queued_spans(), 2048);
     assert_eq!(rt; processor.dropped_spans(), 2);
@@ -239,22 +230,71 @@ fn a_queue_has_room_for_2048_spans(rt: HostRuntime) -> Result<(), Fail> {
         .build();
     let mut processor = BatchSpanProcessor::new(alloc, exporter, config);
     for number in 0..2050 {
-        assert!(rt; processor.on_end(span_data(alloc, number, 1)?).is_ok());
+        processor.on_end(span_data(alloc, number, 1)?);
     }
     assert_eq!(rt; processor.queued_spans(), 2050);
     Ok(())
 }
 
 #[test]
-fn a_span_that_is_not_taken_comes_back(rt: HostRuntime) -> Result<(), Fail> {
+fn a_span_that_a_simple_processor_cannot_export_is_kept(rt: HostRuntime) -> Result<(), Fail> {
     let alloc = rt.alloc();
-    let exporter = InMemorySpanExporter::new(alloc);
-    let mut processor = BatchSpanProcessor::new(alloc, exporter, Default::default());
-    assert!(rt; processor.shutdown().is_ok());
-    let Err(refused) = processor.on_end(span_data(alloc, 5, 1)?) else {
-        return Err(Fail::from("taken"));
-    };
-    let back = refused.span.ok_or("no span comes back")?;
-    assert_eq!(rt; back.span_context.span_id(), SpanId::from(5));
+    let mut processor = SimpleSpanProcessor::new(alloc, Planned::new(alloc, "+-+-+"));
+    let errors = played(alloc, &mut processor, "e1 e2")?;
+    assert_eq!(rt; processor.exporter().log.as_str(), "[1][2]!");
+    assert_eq!(rt; processor.queued_spans(), 1);
+    let more = played(alloc, &mut processor, "e3")?;
+    assert_eq!(rt; processor.exporter().log.as_str(), "[1][2]![2][3]!");
+    assert_eq!(rt; processor.queued_spans(), 1);
+    let last = played(alloc, &mut processor, "f")?;
+    assert_eq!(rt; processor.exporter().log.as_str(), "[1][2]![2][3]![3]");
+    assert_eq!(rt;
+        (errors.as_str(), more.as_str(), last.as_str()),
+        ("", "", "")
+    );
+    assert_eq!(rt;
+        (processor.queued_spans(), processor.dropped_spans()),
+        (0, 0)
+    );
+    Ok(())
+}
+
+#[test]
+fn spans_are_exported_though_no_flush_succeeds(rt: HostRuntime) -> Result<(), Fail> {
+    let alloc = rt.alloc();
+    let mut exporter = Planned::new(alloc, "+++");
+    exporter.fails_to_flush = true;
+    let mut processor = SimpleSpanProcessor::new(alloc, exporter);
+    let errors = played(alloc, &mut processor, "e1 e2 e3 f")?;
+    assert_eq!(rt; processor.exporter().log.as_str(), "[1][2][3]");
+    assert_eq!(rt; errors.as_str(), " failed");
+    assert_eq!(rt; processor.queued_spans(), 0);
+    Ok(())
+}
+
+#[test]
+fn a_span_that_could_not_be_copied_is_counted(rt: HostRuntime) -> Result<(), Fail> {
+    let alloc = rt.alloc();
+    let (first, second) = (Planned::new(alloc, ""), Planned::new(alloc, ""));
+    let batch = BatchSpanProcessor::new(alloc, first, Default::default());
+    let mut processors = (batch, SimpleSpanProcessor::new(alloc, second));
+    processors.on_loss(&span_data(alloc, 1, 1)?);
+    processors.on_loss(&span_data(alloc, 2, 0)?);
+    let dropped = (processors.0.dropped_spans(), processors.1.dropped_spans());
+    assert_eq!(rt; dropped, (1, 1));
+    assert_eq!(rt;
+        (processors.dropped_spans(), processors.queued_spans()),
+        (2, 0)
+    );
+    Ok(())
+}
+
+#[test]
+fn no_processor_keeps_nothing(rt: HostRuntime) -> Result<(), Fail> {
+    let mut none = ();
+    assert!(rt; !none.keeps_ended() && none.is_shut_down());
+    none.on_end(span_data(rt.alloc(), 1, 1)?);
+    assert!(rt; none.force_flush().is_ok() && none.shutdown().is_ok());
+    assert_eq!(rt; (none.queued_spans(), none.dropped_spans()), (0, 0));
     Ok(())
 }

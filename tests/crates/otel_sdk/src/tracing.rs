@@ -1,13 +1,16 @@
 //! Programs that trace with one value.
 use crate::processor::Planned;
 use opentelemetry::trace::{
-    Run, SpanBuilder, SpanContext, SpanId, Status, TraceFlags, TraceId, TraceState,
+    SpanBuilder, SpanContext, SpanId, Status, TraceFlags, TraceId, TraceState, Tracing,
 };
 use opentelemetry::{Context, Key, KeyValue, StringValue, Value};
+use otel_sdk::error::OTelSdkError;
 use otel_sdk::trace::{
-    BatchConfigBuilder, Clock, CountedIdGenerator, FinishedSpans, InMemorySpanExporter,
-    OpenPipeline, ParentBased, Sampler, SpanExporter, Tracing,
+    BatchConfigBuilder, BatchSpanProcessor, Build, Clock, CountedIdGenerator, Exports,
+    FinishedSpans, InMemorySpanExporter, OpenPipeline, ParentBased, Sampler, SdkTracing, SpanData,
+    SpanExporter, SpanProcessor, TracingBuilder, WithExporter,
 };
+use std::alloc::AllocError;
 use std::cell::Cell;
 use std::test::Fail;
 
@@ -25,7 +28,9 @@ impl Clock for Ticks {
     }
 }
 
-type Traced<E> = Tracing<OpenPipeline<ParentBased<Sampler>, CountedIdGenerator, Ticks>, E>;
+type Pipeline = OpenPipeline<ParentBased<Sampler>, CountedIdGenerator, Ticks>;
+
+type Traced<E> = SdkTracing<Pipeline, ((), BatchSpanProcessor<E>)>;
 
 type App = Traced<InMemorySpanExporter>;
 
@@ -33,19 +38,24 @@ type App = Traced<InMemorySpanExporter>;
 fn tracing<E: SpanExporter>(rt: HostRuntime, exporter: E) -> Result<Traced<E>, Fail> {
     let config = BatchConfigBuilder::default().with_max_queue_size(2).build();
     Ok(
-        Tracing::builder(rt)
-            .with_exporter(exporter)
+        TracingBuilder::new(rt)
             .with_id_generator(CountedIdGenerator::new())
             .with_clock(Ticks {
                 latest: Cell::new(0),
             })
             .with_batch_config(config)
+            .with_exporter(exporter)
             .build(rt.alloc(), "cart")?,
     )
 }
 
 fn app(rt: HostRuntime) -> Result<App, Fail> {
     tracing(rt, InMemorySpanExporter::new(rt.alloc()))
+}
+
+/// The spans that were exported.
+fn finished(app: &App) -> Result<Vec<SpanData>, AllocError> {
+    app.processors().1.exporter().get_finished_spans()
 }
 
 fn last(id: SpanId) -> u8 {
@@ -57,7 +67,7 @@ fn last(id: SpanId) -> u8 {
 fn exported(rt: HostRuntime, app: &mut App) -> Result<String, Fail> {
     app.flush()?;
     let mut text = String::new(rt.alloc());
-    for span in &app.exporter().get_finished_spans()? {
+    for span in &finished(app)? {
         let (parent, own) = (last(span.parent_span_id), last(span.span_context.span_id()));
         let name = span.name.as_str();
         let line = format!(in rt.alloc();
@@ -71,7 +81,7 @@ fn exported(rt: HostRuntime, app: &mut App) -> Result<String, Fail> {
 
 #[test]
 fn counted_spans_are_the_same_each_time(rt: HostRuntime) -> Result<(), Fail> {
-    let builder = Tracing::builder(rt).counted(5);
+    let builder = TracingBuilder::new(rt).counted(5);
     let exporter = InMemorySpanExporter::new(rt.alloc());
     let mut tracing = builder.with_exporter(exporter).build(rt.alloc(), "cart")?;
     let serve = tracing.enter("serve")?;
@@ -79,7 +89,7 @@ fn counted_spans_are_the_same_each_time(rt: HostRuntime) -> Result<(), Fail> {
     tracing.exit(price);
     tracing.exit(serve);
     tracing.flush()?;
-    let spans = tracing.exporter().get_finished_spans()?;
+    let spans = tracing.processors().1.exporter().get_finished_spans()?;
     assert_eq!(rt; spans.len(), 2);
     let (price, serve) = (&spans[0], &spans[1]);
     assert_eq!(rt;
@@ -110,10 +120,9 @@ fn counted_spans_are_the_same_each_time(rt: HostRuntime) -> Result<(), Fail> {
 #[test]
 fn spans_nest(rt: HostRuntime) -> Result<(), Fail> {
     let mut app = app(rt)?;
-    let open = app.in_span(
-        "serve",
-        Run(|app: &mut App| app.in_span("price", Run(|app: &mut App| app.open_spans()))),
-    );
+    let open = app.in_span("serve", |app: &mut App| {
+        app.in_span("price", |app: &mut App| app.open_spans())
+    });
     assert_eq!(rt; open, 2);
     assert_eq!(rt; app.open_spans(), 0);
     assert_eq!(rt;
@@ -152,8 +161,22 @@ fn a_shutdown_ends_open_spans_and_counts_them(rt: HostRuntime) -> Result<(), Fai
     app.enter("inner")?;
     assert_eq!(rt; app.shutdown()?, 2);
     assert_eq!(rt; app.open_spans(), 0);
-    assert!(rt; app.shutdown().is_err());
-    assert!(rt; app.flush().is_err());
+    assert!(rt; matches!(app.shutdown(), Err(OTelSdkError::AlreadyShutdown)));
+    assert!(rt; matches!(app.flush(), Err(OTelSdkError::AlreadyShutdown)));
+    Ok(())
+}
+
+#[test]
+fn spans_that_end_after_a_shutdown_are_dropped_and_counted(rt: HostRuntime) -> Result<(), Fail> {
+    let mut app = app(rt)?;
+    assert_eq!(rt; app.shutdown()?, 0);
+    app.in_span("late", |_: &mut App| ());
+    assert_eq!(rt; app.processors().dropped_spans(), 1);
+    assert_eq!(rt; app.processors().queued_spans(), 0);
+    app.enter("later")?;
+    assert!(rt; matches!(app.shutdown(), Err(OTelSdkError::AlreadyShutdown)));
+    assert_eq!(rt; app.open_spans(), 0);
+    assert_eq!(rt; app.processors().dropped_spans(), 2);
     Ok(())
 }
 
@@ -173,7 +196,7 @@ fn changes_reach_the_current_span(rt: HostRuntime) -> Result<(), Fail> {
     app.update_name(StringValue::from("renamed"))?;
     app.exit(outer);
     app.flush()?;
-    let spans = app.exporter().get_finished_spans()?;
+    let spans = finished(&app)?;
     assert_eq!(rt; spans.len(), 2);
     assert_eq!(rt; spans[0].attributes.len(), 1);
     assert_eq!(rt; spans[0].events.events[0].timestamp, 3);
@@ -195,9 +218,9 @@ fn an_attached_context_is_the_parent(rt: HostRuntime) -> Result<(), Fail> {
         TraceState::NONE,
     );
     let guard = app.attach(Context::new().with_remote_span_context(rt.alloc(), caller)?)?;
-    app.in_span("serve", Run(|_: &mut App| ()));
+    app.in_span("serve", |_: &mut App| ());
     app.detach(guard);
-    app.in_span("next", Run(|_: &mut App| ()));
+    app.in_span("next", |_: &mut App| ());
     assert_eq!(rt;
         exported(rt, &mut app)?.as_str(),
         "serve 70-1 1-2;next 0-2 3-4;"
@@ -208,12 +231,12 @@ fn an_attached_context_is_the_parent(rt: HostRuntime) -> Result<(), Fail> {
 #[test]
 fn a_failure_is_recorded_in_its_span(rt: HostRuntime) -> Result<(), Fail> {
     let mut app = app(rt)?;
-    let out = app.try_in_span("pay", Run(|_: &mut App| -> Result<u8, u16> { Err(402) }));
+    let out = app.try_in_span("pay", |_: &mut App| -> Result<u8, u16> { Err(402) });
     assert!(rt; out == Err(402));
-    let out = app.try_in_span("ship", Run(|_: &mut App| -> Result<u8, u16> { Ok(7) }));
+    let out = app.try_in_span("ship", |_: &mut App| -> Result<u8, u16> { Ok(7) });
     assert!(rt; out == Ok(7));
     app.flush()?;
-    let spans = app.exporter().get_finished_spans()?;
+    let spans = finished(&app)?;
     assert_eq!(rt; spans[0].events.events[0].name.as_str(), "exception");
     let message = &spans[0].events.events[0].attributes[0];
     assert_eq!(rt; message.key.as_str(), "exception.message");
@@ -227,10 +250,10 @@ fn a_failure_is_recorded_in_its_span(rt: HostRuntime) -> Result<(), Fail> {
 fn a_full_queue_drops_and_counts(rt: HostRuntime) -> Result<(), Fail> {
     let mut app = app(rt)?;
     for name in ["a", "b", "c"] {
-        app.in_span(name, Run(|_: &mut App| ()));
+        app.in_span(name, |_: &mut App| ());
     }
     assert_eq!(rt; exported(rt, &mut app)?.as_str(), "a 0-1 1-2;b 0-2 3-4;");
-    assert_eq!(rt; app.dropped_spans(), 1);
+    assert_eq!(rt; app.processors().dropped_spans(), 1);
     assert_eq!(rt; app.unrecorded(), 0);
     Ok(())
 }
@@ -238,7 +261,7 @@ fn a_full_queue_drops_and_counts(rt: HostRuntime) -> Result<(), Fail> {
 #[test]
 fn a_refused_batch_is_kept(rt: HostRuntime) -> Result<(), Fail> {
     let mut app = tracing(rt, Planned::new(rt.alloc(), "-++"))?;
-    app.in_span("a", Run(|_: &mut Traced<Planned>| ()));
+    app.in_span("a", |_: &mut Traced<Planned>| ());
     assert!(rt; app.flush().is_err());
     app.enter("b")?;
     assert_eq!(rt; app.shutdown()?, 1);

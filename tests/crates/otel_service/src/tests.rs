@@ -6,7 +6,9 @@ use http::{HeaderMap, HeaderName, HeaderValue};
 use opentelemetry::Value;
 use opentelemetry::trace::{SpanId, SpanKind, Status};
 use otel_sdk::EnvConfig;
-use otel_sdk::trace::{FinishedSpans, InMemorySpanExporter, SpanData, Tracing};
+use otel_sdk::trace::{
+    Build, Exports, FinishedSpans, InMemorySpanExporter, SpanData, TracingBuilder, WithExporter,
+};
 use std::process::Abort;
 use std::test::Fail;
 
@@ -30,9 +32,9 @@ fn answered(rt: HostRuntime, given: &[u8], fails: bool) -> anyhow::Result<Outcom
         log: &logger(rt, &env)?,
         is_lines: true,
     };
-    let tracing = Tracing::builder(rt)
-        .with_exporter(InMemorySpanExporter::new(alloc))
+    let tracing = TracingBuilder::new(rt)
         .counted(1)
+        .with_exporter(InMemorySpanExporter::new(alloc))
         .build(alloc, "test")?;
     let mut service = Service {
         call: &call,
@@ -51,7 +53,12 @@ fn answered(rt: HostRuntime, given: &[u8], fails: bool) -> anyhow::Result<Outcom
     Ok(Outcome {
         lines: String::from_str(alloc, str::from_utf8(&lines).unwrap_or(""))?,
         error,
-        spans: service.tracing.exporter().get_finished_spans()?,
+        spans: service
+            .tracing
+            .processors()
+            .1
+            .exporter()
+            .get_finished_spans()?,
     })
 }
 

@@ -3,7 +3,7 @@ use crate::lines::Lines;
 use otel_sdk::EnvConfig;
 use otel_sdk::env::{EnvSampler, VariableSource, WithEnv};
 use otel_sdk::logs::{InMemoryLogExporter, SdkLoggerProvider, SimpleLogProcessor};
-use otel_sdk::trace::{Sampler, SdkTracerProvider, ShouldSample, Tracing};
+use otel_sdk::trace::{Sampler, SdkTracerProvider, ShouldSample, TracingBuilder};
 use std::alloc::{AllocError, Global};
 
 pub fn play<R: Print>(rt: HostRuntime, lines: &Lines<'_, R>) {
@@ -77,7 +77,7 @@ fn with_env<R: Print>(rt: HostRuntime, lines: &Lines<'_, R>) -> Result<(), Alloc
     let alloc = rt.alloc();
     let vars = vars(alloc)?;
     let config = EnvConfig::from_vars(alloc, vars.as_slice())?;
-    let builder = Tracing::builder(rt);
+    let builder = TracingBuilder::new(rt);
     lines.answer_named("set", builder.with_env(alloc, &config));
     Ok(())
 }

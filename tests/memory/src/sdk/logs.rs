@@ -9,6 +9,7 @@ use otel_sdk::logs::{
 };
 use otel_sdk::resource::Resource;
 use otel_sdk::trace::Exporter;
+use otel_sdk_logs::RecordIntake;
 use std::alloc::{AllocError, Global};
 use std::cell::Cell;
 use std::default::Default;
@@ -38,6 +39,12 @@ pub fn play<R: Print>(alloc: Global, lines: &Lines<'_, R>) {
     }
     if lines.begin("batch-log-processor-shutdown") {
         lines.end(batch(alloc, lines, |processor| processor.shutdown()));
+    }
+    if lines.begin("record-intake-flush") {
+        lines.end(batch(alloc, lines, |processor| RecordIntake::flush(processor)));
+    }
+    if lines.begin("record-intake-shut-down") {
+        lines.end(batch(alloc, lines, |processor| RecordIntake::shut_down(processor)));
     }
     if lines.begin("simple-log-processor-new") {
         let made = SimpleLogProcessor::new(alloc, Sizes::new(alloc, true));

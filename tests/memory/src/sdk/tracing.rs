@@ -1,23 +1,38 @@
 //! One value that traces a program: its builder, its spans and its contexts.
 mod changes;
-mod exports;
+mod ends;
+pub mod exports;
 
 use crate::lines::Lines;
 use crate::propagators::carriers::{carrier, injected};
 use crate::propagators::headers::{TRACE_KEYS, TRACE_TEXTS, carrier_of, with_remote_span};
 use crate::sdk::tracer::resource;
 use exports::{Tally, has_exported};
-use opentelemetry::trace::{Run, SpanBuilder, TraceState};
+use opentelemetry::trace::{Entered, NotEntered, SpanBuilder, TraceState, Tracing};
 use opentelemetry::{Context, StringValue};
 use otel_propagators::TraceContextPropagator;
 use otel_sdk::resource::Resource;
 use otel_sdk::trace::{
-    CountedIdGenerator, Entered, ManualClock, NotEntered, OpenPipeline, Sampler, Traces, Tracing,
-    TracingBuilder,
+    BatchSpanProcessor, Build, CountedIdGenerator, Exports, InMemorySpanExporter, ManualClock,
+    OpenPipeline, Sampler, SdkTracing, SpanProcessor, TracingBuilder, WithExporter,
 };
 use std::alloc::{AllocError, Global};
 
-pub type App = Tracing<OpenPipeline<Sampler, CountedIdGenerator, ManualClock>, Tally>;
+type Pipeline = OpenPipeline<Sampler, CountedIdGenerator, ManualClock>;
+
+/// The processors of an exporter that takes no memory.
+type Tallied = ((), BatchSpanProcessor<Tally>);
+
+type Builder<X> = TracingBuilder<Sampler, CountedIdGenerator, ManualClock, X>;
+
+/// A value with an exporter that takes no memory.
+pub type App = SdkTracing<Pipeline, Tallied>;
+
+/// A value with two of them.
+pub type TwoTallies = SdkTracing<Pipeline, (Tallied, BatchSpanProcessor<Tally>)>;
+
+/// A value with an exporter that takes memory for each span.
+pub type KeptApp = SdkTracing<Pipeline, ((), BatchSpanProcessor<InMemorySpanExporter>)>;
 
 /// The number of attachments that fit into a new stack.
 const ROOM: u16 = 8;
@@ -29,8 +44,12 @@ pub fn play<R: Print>(rt: HostRuntime, lines: &Lines<'_, R>) {
     if lines.begin("tracing-builder-build") {
         lines.answer_named("built", app(rt));
     }
+    if lines.begin("tracing-builder-build-named") {
+        lines.answer_named("built", two(rt));
+    }
     spans(rt, lines);
     contexts(rt, lines);
+    ends::play(rt, lines);
     changes::play(rt, lines);
     exports::play(rt, lines);
 }
@@ -39,18 +58,22 @@ fn with_resource<R: Print>(rt: HostRuntime, lines: &Lines<'_, R>) -> Result<(), 
     let alloc = rt.alloc();
     let first = Resource::builder_empty(alloc).build();
     let next = resource(alloc)?;
-    let builder = Tracing::builder(rt).with_resource(first)?;
+    let builder = TracingBuilder::new(rt).with_resource(first)?;
     lines.answer_named("set", builder.with_resource(next));
     Ok(())
 }
 
-/// The builder of a value.
-pub fn builder(rt: HostRuntime) -> TracingBuilder<Sampler, CountedIdGenerator, ManualClock, Tally> {
-    Tracing::builder(rt)
-        .with_exporter(Tally::new())
+/// The builder of a value without processors.
+fn counted(rt: HostRuntime) -> Builder<()> {
+    TracingBuilder::new(rt)
         .with_sampler(Sampler::AlwaysOn)
         .with_id_generator(CountedIdGenerator::new())
         .with_clock(ManualClock::new(1))
+}
+
+/// The builder of a value.
+pub fn builder(rt: HostRuntime) -> Builder<Tallied> {
+    counted(rt).with_exporter(Tally::new())
 }
 
 /// A value without spans.
@@ -58,8 +81,22 @@ pub fn app(rt: HostRuntime) -> Result<App, AllocError> {
     builder(rt).build(rt.alloc(), "cart")
 }
 
+/// A value without spans, with two exporters.
+pub fn two(rt: HostRuntime) -> Result<TwoTallies, AllocError> {
+    let builder = builder(rt).with_exporter(Tally::new());
+    builder.build_named(rt.alloc(), "cart".into())
+}
+
+/// A value without spans, whose exporter takes memory.
+pub fn kept(rt: HostRuntime) -> Result<KeptApp, AllocError> {
+    let exporter = InMemorySpanExporter::new(rt.alloc());
+    counted(rt)
+        .with_exporter(exporter)
+        .build(rt.alloc(), "cart")
+}
+
 /// Enters a span of the set-up.
-pub fn enter(app: &mut App) -> Result<Entered, AllocError> {
+pub fn enter(app: &mut impl Tracing) -> Result<Entered, AllocError> {
     match app.enter("s") {
         Ok(entered) => Ok(entered),
         Err(_) => Err(AllocError),
@@ -77,15 +114,15 @@ fn crowded(rt: HostRuntime) -> Result<App, AllocError> {
 
 fn spans<R: Print>(rt: HostRuntime, lines: &Lines<'_, R>) {
     if lines.begin("tracing-enter") {
-        lines.end(entered(lines, app(rt), |app| Traces::enter(app, "s")));
+        lines.end(entered(lines, app(rt), |app| app.enter("s")));
     }
     if lines.begin("tracing-enter-with") {
         let builder = SpanBuilder::from_name(StringValue::from("s"));
-        let enter_with = |app: &mut App| Traces::enter_with(app, builder);
+        let enter_with = |app: &mut App| app.enter_with(builder);
         lines.end(entered(lines, crowded(rt), enter_with));
     }
-    if lines.begin("tracing-exit") {
-        lines.end(exit(rt, lines));
+    if lines.begin("tracing-start-many") {
+        lines.end(start_many(rt, lines));
     }
     if lines.begin("tracing-in-span") {
         lines.end(in_span(rt, lines));
@@ -95,7 +132,8 @@ fn spans<R: Print>(rt: HostRuntime, lines: &Lines<'_, R>) {
     }
 }
 
-/// Enters a span by this call. It is then open and exported later, or isn't there after an error.
+/// Enters a span by this call. It is then open and exported later. After an error nothing changed:
+/// no span is open, queued or dropped.
 fn entered<R: Print, F: FnOnce(&mut App) -> Result<Entered, NotEntered> + Drop>(
     lines: &Lines<'_, R>,
     app: Result<App, AllocError>,
@@ -106,18 +144,35 @@ fn entered<R: Print, F: FnOnce(&mut App) -> Result<Entered, NotEntered> + Drop>(
     let open = if answer.is_ok() { 1 } else { 0 };
     lines.answer_named("entered", answer);
     let is_open = app.open_spans() == open && app.context().has_active_span() == (open == 1);
-    lines.due(is_open && app.unrecorded() == 0 && has_exported(&mut app, open, 0));
+    let is_idle = app.unrecorded() == 0 && app.processors().queued_spans() == 0;
+    lines.due(is_open && is_idle && has_exported(&mut app, open, 0));
     Ok(())
 }
 
-/// An exit of the outer one of two spans. Both are exported later.
-fn exit<R: Print>(rt: HostRuntime, lines: &Lines<'_, R>) -> Result<(), AllocError> {
+/// The number of spans that are open together. The memory that is reserved for the ends grows while
+/// they start.
+const MANY: usize = 20;
+
+/// Starts of many spans. A start that can't reserve memory is refused, and changes nothing. The
+/// others end without memory, and are exported later.
+fn start_many<R: Print>(rt: HostRuntime, lines: &Lines<'_, R>) -> Result<(), AllocError> {
     let mut app = app(rt)?;
-    let outer = enter(&mut app)?;
-    enter(&mut app)?;
-    app.exit(outer);
-    lines.free("Tracing::exit", &app.open_spans());
-    lines.due(has_exported(&mut app, 2, 0));
+    let mut refused = None;
+    let mut started = 0;
+    for _ in 0..MANY {
+        match app.start("s") {
+            Ok(_) => started += 1,
+            Err(error) => refused = Some(error),
+        }
+        if app.open_spans() != started {
+            refused = Some(NotEntered::NumbersUsedUp);
+        }
+    }
+    match refused {
+        Some(error) => lines.answer(&error),
+        None => lines.answer(&started),
+    }
+    lines.due(has_exported(&mut app, started, 0));
     Ok(())
 }
 
@@ -133,7 +188,7 @@ fn recorded<R: Print>(lines: &Lines<'_, R>, app: &App) {
 /// Work that runs in a span or, after a failed request, without one.
 fn in_span<R: Print>(rt: HostRuntime, lines: &Lines<'_, R>) -> Result<(), AllocError> {
     let mut app = app(rt)?;
-    let open = app.in_span("s", Run(|app: &mut App| app.open_spans()));
+    let open = app.in_span("s", |app: &mut App| app.open_spans());
     recorded(lines, &app);
     let is_counted = open <= 1 && app.unrecorded() < 2 && (open == 1) == (app.unrecorded() == 0);
     lines.due(is_counted && app.open_spans() == 0 && has_exported(&mut app, open, 0));
@@ -143,18 +198,17 @@ fn in_span<R: Print>(rt: HostRuntime, lines: &Lines<'_, R>) -> Result<(), AllocE
 /// Work that fails. The caller gets its error in any case.
 fn try_in_span<R: Print>(rt: HostRuntime, lines: &Lines<'_, R>) -> Result<(), AllocError> {
     let mut app = app(rt)?;
-    let out = app.try_in_span("s", Run(|_: &mut App| -> Result<u8, u16> { Err(402) }));
+    let out = app.try_in_span("s", |_: &mut App| -> Result<u8, u16> { Err(402) });
     recorded(lines, &app);
-    let is_lost = app.unrecorded() == 1;
+    let unrecorded = app.unrecorded();
     let is_flushed = app.flush().is_ok();
-    let tally = app.exporter();
-    let is_whole = tally.spans == 1 && tally.parts == 1;
-    let is_due = if is_lost {
-        tally.parts <= tally.spans
+    let tally = app.processors().1.exporter();
+    let is_due = if unrecorded == 0 {
+        tally.spans == 1 && tally.parts == 1
     } else {
-        is_whole || !is_flushed
+        unrecorded == 1 && tally.spans <= 1 && tally.parts == 0
     };
-    lines.due(out == Err(402) && app.open_spans() == 0 && app.unrecorded() < 2 && is_due);
+    lines.due(out == Err(402) && app.open_spans() == 0 && is_flushed && is_due);
     Ok(())
 }
 
@@ -179,7 +233,7 @@ fn caller(alloc: Global) -> Result<Context, AllocError> {
 
 fn attach<R: Print>(rt: HostRuntime, lines: &Lines<'_, R>) -> Result<(), AllocError> {
     let mut app = crowded(rt)?;
-    let answer = Traces::attach(&mut app, caller(rt.alloc())?);
+    let answer = app.attach(caller(rt.alloc())?);
     let is_attached = answer.is_ok();
     lines.answer_named("attached", answer);
     lines.due(app.context().has_active_span() == is_attached);
@@ -198,7 +252,7 @@ fn receive<R: Print>(rt: HostRuntime, lines: &Lines<'_, R>) -> Result<(), AllocE
     let mut app = crowded(rt)?;
     let propagator = TraceContextPropagator::new(rt.alloc())?;
     let carrier = carrier_of(rt.alloc(), &TRACE_TEXTS)?;
-    let answer = Traces::receive(&mut app, &propagator, &carrier);
+    let answer = app.receive(&propagator, &carrier);
     let is_attached = answer.is_ok();
     lines.answer_named("received", answer);
     lines.due(app.context().has_active_span() == is_attached);
@@ -210,7 +264,7 @@ fn send<R: Print>(rt: HostRuntime, lines: &Lines<'_, R>) -> Result<(), AllocErro
     enter(&mut app)?;
     let propagator = TraceContextPropagator::new(rt.alloc())?;
     let mut carrier = carrier(rt.alloc())?;
-    let answer = Traces::send(&app, &propagator, &mut carrier);
+    let answer = app.send(&propagator, &mut carrier);
     injected(lines, answer, &carrier, &TRACE_KEYS);
     Ok(())
 }

@@ -18,6 +18,9 @@ pub fn play<R: Print>(alloc: Global, lines: &Lines<'_, R>) {
     if lines.begin("span-builder-clone") {
         lines.end(builder_clone(alloc, lines));
     }
+    if lines.begin("span-builder-with-attribute") {
+        lines.end(builder_with_attribute(alloc, lines));
+    }
 }
 
 /// An owned text, whose clone allocates.
@@ -64,5 +67,12 @@ fn builder_clone<R: Print>(alloc: Global, lines: &Lines<'_, R>) -> Result<(), Al
     let builder = builder(alloc)?;
     lines.answer_named("a copy", builder.clone());
     lines.receiver(&builder.name);
+    Ok(())
+}
+
+fn builder_with_attribute<R: Print>(alloc: Global, lines: &Lines<'_, R>) -> Result<(), AllocError> {
+    let builder = SpanBuilder::from_name(text(alloc)?);
+    let answer = builder.with_attribute(alloc, "k", "v");
+    lines.answer_named("a builder", answer);
     Ok(())
 }

@@ -1,24 +1,16 @@
 //! A processor that exports spans in batches.
-ghost use Rattle.std.specs.Prelude.{◌≡◌, [], true, false, length, Some, IfErr, IsErrOf, IsSome};
-ghost use Rattle.std.specs.Prelude.{OnOk, OnErr, alloc_error};
-ghost use Rattle.std.specs.Rc.{rc_value};
-ghost use Rattle.otel_sdk.specs.Processor as spec;
-ghost use Rattle.otel_sdk.specs.Processor.{IsHandedIn, is_open};
+ghost use Rattle.std.specs.Prelude.{◌≡◌, [], ◌∷◌};
+ghost use Rattle.otel_sdk.specs.Processor.{Counts, HasReceived, Queues};
 ghost use Rattle.otel_sdk_base.specs.Queue as queue_spec;
-ghost use Rattle.otel_sdk_base.specs.Queue.{IsForceFlushed, IsShutDown, TellsResource};
-ghost use Rattle.otel_sdk_base.specs.Queue.{received_of};
-ghost use Rattle.otel_sdk_base.specs.declared.error.OTelSdkError.TheVariants.{AlreadyShutdown};
-ghost use Rattle.otel_sdk_base.specs.declared.error.OTelSdkError.TheVariants.{Memory};
+ghost use Rattle.otel_sdk_base.specs.QueueView.{state};
 
-mod ended;
-mod reserved;
-
-use crate::trace::processor::{EndRefused, SpanProcessor};
+use crate::trace::processor::SpanProcessor;
+use opentelemetry::{Context, History};
 use otel_sdk_base::error::OTelSdkResult;
 use otel_sdk_base::resource::Resource;
 use otel_sdk_base::{BatchConfig, Queue};
-use otel_sdk_span::{SpanData, SpanExporter};
-use std::alloc::Global;
+use otel_sdk_span::{SdkSpan, SpanData, SpanExporter};
+use std::alloc::{AllocError, Global};
 use std::marker::Model;
 use std::rc::Rc;
 
@@ -29,136 +21,127 @@ use std::rc::Rc;
 /// stays queued, in order.
 ///
 /// ```
-/// live.collect(processor)?;
-/// processor.force_flush()
+/// let processor = BatchSpanProcessor::new(alloc, exporter, BatchConfig::default());
+/// let builder = TracingBuilder::new(rt).with_processor(processor);
 /// ```
 pub struct BatchSpanProcessor<E> {
     queue: Queue<SpanData, E>,
+    // The exporter as it was given.
+    given: History<E>,
 }
 
 // Written out, so that a caller's proof has one call here, and not the drops of all parts.
 impl<E: Drop> Drop for BatchSpanProcessor<E> {
     fn drop(self) {
-        let BatchSpanProcessor { queue: _ } = self;
+        let BatchSpanProcessor { queue: _, given: _ } = self;
     }
 }
 
 impl<E> Model for BatchSpanProcessor<E> {
-    ghost use Rattle.otel_sdk.specs.Processor.{ProcessorState};
+    ghost use Rattle.otel_sdk.specs.Processor.{BatchState};
     ghost use Rattle.otel_sdk_base.specs.QueueView.{state};
 
-    ghost Value = { ProcessorState E };
+    ghost Value = { BatchState E };
 
-    ghost view = { λ p. state p.queue };
+    ghost view = { λ p. record { queue = state p.queue; given = p.given.items } };
+}
+
+/// Queues a sampled span, or drops and counts it if the queue is full or shut down, or out of
+/// memory. Drops any other span.
+fn queue_or_count<E: SpanExporter>(queue: &mut Queue<SpanData, E>, span: SpanData)
+    ensures { Queues span (state queue.old) (state queue.new) }
+{
+    if span.span_context.is_sampled() {
+        match queue.reserve() {
+            Ok(()) => queue.add(span),
+            Err(_) => queue.count_dropped(),
+        }
+    }
+}
+
+/// Counts the span as dropped if it is sampled.
+fn count<E: SpanExporter>(queue: &mut Queue<SpanData, E>, span: &SpanData)
+    ensures { Counts span.now (state queue.old) (state queue.new) }
+{
+    if span.span_context.is_sampled() {
+        queue.count_dropped();
+    }
 }
 
 impl<E: SpanExporter> BatchSpanProcessor<E> {
     /// Returns a processor without spans. Doesn't allocate.
     pub fn new(alloc: Global, exporter: E, config: BatchConfig) -> BatchSpanProcessor<E>
-        ensures { result ≡ queue_spec.new exporter config }
+        ensures state { result ≡ record {
+          queue = queue_spec.new exporter config;
+          given = exporter ∷ [];
+        } }
+        ensures account { HasReceived E.accepted E.calls result [] }
     {
+        let given = History::new().and(&exporter);
         BatchSpanProcessor {
             queue: Queue::new(alloc, exporter, config),
+            given,
         }
     }
 
     /// Returns the exporter.
     pub fn exporter(&self) -> &E
-        ensures { result.now ≡ self.now.exporter }
+        ensures { result.now ≡ self.now.queue.exporter }
     {
         self.queue.exporter()
-    }
-
-    /// Returns the number of sampled spans that were dropped because the queue was full. Stops at
-    /// the greatest `u64`.
-    pub fn dropped_spans(&self) -> u64
-        ensures { result ≡ self.now.dropped }
-    {
-        self.queue.dropped()
-    }
-
-    /// Returns the number of queued spans.
-    pub fn queued_spans(&self) -> usize
-        ensures { result ≡ length self.now.queue }
-    {
-        self.queue.len()
-    }
-
-    pub(crate) fn is_shut_down(&self) -> bool
-        ensures { result ≡ self.now.is_shut_down }
-    {
-        self.queue.is_shut_down()
     }
 }
 
 impl<E: SpanExporter> SpanProcessor for BatchSpanProcessor<E> {
-    ghost use Rattle.otel_sdk.specs.Processor.{is_open};
-    ghost use Rattle.otel_sdk_base.specs.Queue.{received_of};
+    ghost use Rattle.otel_sdk.specs.Processor.{batch_calls};
 
-    ghost received = { received_of E.accepted };
+    ghost calls = { batch_calls E.accepted E.calls };
 
-    ghost queued = { λ p. p.queue };
-
-    ghost receives = { is_open };
-
-    /// Queues a sampled span, or drops and counts it if the queue is full. Drops a span that isn't
-    /// sampled.
-    ///
-    /// # Errors
-    ///
-    /// `AlreadyShutdown` after [`SpanProcessor::shutdown`], otherwise `Memory` if out of memory.
-    /// Nothing changes, and the error returns the span.
-    fn on_end(&mut self, span: SpanData) -> Result<(), EndRefused>
-        ensures ok { OnOk result (self.new ≡ spec.after_end span self.old) }
-        ensures open { OnOk result (self.old.is_shut_down ≡ false) }
-        ensures err { OnErr result (self.new ≡ self.old) }
-        ensures refused { IfErr result (λ refused.
-            refused ≡ record { span = Some span; error = queue_spec.cause self.old }) }
-        ensures handed_in { OnOk result
-            (IsHandedIn span (received_of E.accepted self.old) (received_of E.accepted self.new)) }
-        ensures closed { is_open self.old ≡ false
-            → IsErrOf result (record { span = Some span; error = AlreadyShutdown }) }
-        ensures memory { is_open self.old ≡ true → IfErr result (λ refused.
-            IsSome refused.span → refused.error ≡ Memory alloc_error) }
-        ensures stays { is_open self.new ≡ is_open self.old }
-    {
-        let is_sampled = span.span_context.is_sampled();
-        if let Err(error) = reserved::reserve(&mut self.queue, is_sampled) {
-            return Err(EndRefused {
-                span: Some(span),
-                error,
-            });
+    fn reserve(&mut self, open: usize) -> Result<(), AllocError> {
+        if self.queue.is_shut_down() {
+            return Ok(());
         }
-        reserved::add(&mut self.queue, span);
-        Ok(())
+        self.queue.reserve_for(open)
     }
 
-    /// Exports the queued spans, in order, in batches of at most `max_export_batch_size` spans.
-    /// Then flushes the exporter.
-    ///
-    /// # Errors
-    ///
-    /// - `AlreadyShutdown` after [`SpanProcessor::shutdown`]. Nothing changes.
-    /// - Otherwise the error of the first rejected batch, or of the exporter's flush. The accepted
-    ///   spans are no longer queued.
-    fn force_flush(&mut self) -> OTelSdkResult
-        ensures { IsForceFlushed E.accepted E.calls result self.old self.new }
-    {
+    fn on_start(&mut self, _alloc: Global, _span: &mut SdkSpan, _parent: &Context) {}
+
+    fn keeps_ended(&self) -> bool {
+        true
+    }
+
+    fn on_end(&mut self, span: SpanData) {
+        queue_or_count(&mut self.queue, span);
+    }
+
+    fn on_loss(&mut self, span: &SpanData) {
+        count(&mut self.queue, span);
+    }
+
+    fn force_flush(&mut self) -> OTelSdkResult {
         self.queue.force_flush()
     }
 
-    fn shutdown(&mut self) -> OTelSdkResult
-        ensures shut_down { IsShutDown E.accepted E.calls result self.old self.new }
-        ensures open { is_open self.new ≡ true
-            → received_of E.accepted self.new ≡ received_of E.accepted self.old }
-    {
+    fn shutdown(&mut self) -> OTelSdkResult {
         self.queue.shutdown()
     }
 
-    /// Tells the exporter the resource of the following spans.
-    fn set_resource(&mut self, resource: Rc<Resource>)
-        ensures { TellsResource E.accepted E.calls (rc_value resource) self.old self.new }
-    {
-        self.queue.set_resource(resource);
+    fn is_shut_down(&self) -> bool {
+        self.queue.is_shut_down()
+    }
+
+    fn dropped_spans(&self) -> u64 {
+        self.queue.dropped()
+    }
+
+    fn queued_spans(&self) -> usize {
+        self.queue.len()
+    }
+
+    fn set_resource(&mut self, resource: &Rc<Resource>) -> Result<(), AllocError> {
+        if !self.queue.is_shut_down() {
+            self.queue.set_resource(resource.clone()?);
+        }
+        Ok(())
     }
 }

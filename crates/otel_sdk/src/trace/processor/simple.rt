@@ -1,25 +1,16 @@
 //! A processor that exports each span when it ends.
-ghost use Rattle.std.specs.Prelude.{◌≡◌, [], true, false, length, Some, IfErr, IsErrOf, IsSome, Ok};
-ghost use Rattle.std.specs.Prelude.{OnOk, alloc_error};
-ghost use Rattle.std.specs.Rc.{rc_value};
-ghost use Rattle.otel_sdk.specs.Processor as spec;
-ghost use Rattle.otel_sdk.specs.Processor.{IsHandedIn, IsHandedInOrReturned, IsFlushedOrReturned};
-ghost use Rattle.otel_sdk.specs.Processor.{is_open};
+ghost use Rattle.std.specs.Prelude.{◌≡◌, [], ◌∷◌};
+ghost use Rattle.otel_sdk.specs.Processor.{HasReceived};
 ghost use Rattle.otel_sdk_base.specs.Queue as queue_spec;
-ghost use Rattle.otel_sdk_base.specs.Queue.{IsExportersAnswer, IsFlushed, IsForceFlushed};
-ghost use Rattle.otel_sdk_base.specs.Queue.{IsShutDown, TellsResource, received_of};
-ghost use Rattle.otel_sdk_base.specs.declared.error.OTelSdkError.TheVariants.{AlreadyShutdown};
-ghost use Rattle.otel_sdk_base.specs.declared.error.OTelSdkError.TheVariants.{Memory};
 
-mod ended;
-
+use crate::trace::processor::SpanProcessor;
 use crate::trace::processor::batch::BatchSpanProcessor;
-use crate::trace::processor::{EndRefused, SpanProcessor};
+use opentelemetry::Context;
 use otel_sdk_base::BatchConfigBuilder;
 use otel_sdk_base::error::OTelSdkResult;
 use otel_sdk_base::resource::Resource;
-use otel_sdk_span::{SpanData, SpanExporter};
-use std::alloc::Global;
+use otel_sdk_span::{SdkSpan, SpanData, SpanExporter};
+use std::alloc::{AllocError, Global};
 use std::marker::Model;
 use std::rc::Rc;
 
@@ -30,11 +21,8 @@ use std::rc::Rc;
 /// them to the exporter again, before other spans.
 ///
 /// ```
-/// span.end_with_timestamp(end);
-/// match span.into_data() {
-///     Some(data) => processor.on_end(data).map_err(|refused| refused.error),
-///     None => Ok(()),
-/// }
+/// let processor = SimpleSpanProcessor::new(alloc, exporter);
+/// let builder = TracingBuilder::new(rt).with_processor(processor);
 /// ```
 pub struct SimpleSpanProcessor<E> {
     inner: BatchSpanProcessor<E>,
@@ -48,9 +36,9 @@ impl<E: Drop> Drop for SimpleSpanProcessor<E> {
 }
 
 impl<E> Model for SimpleSpanProcessor<E> {
-    ghost use Rattle.otel_sdk.specs.Processor.{ProcessorState};
+    ghost use Rattle.otel_sdk.specs.Processor.{BatchState};
 
-    ghost Value = { ProcessorState E };
+    ghost Value = { BatchState E };
 
     ghost view = { λ p. p.inner };
 }
@@ -58,7 +46,11 @@ impl<E> Model for SimpleSpanProcessor<E> {
 impl<E: SpanExporter> SimpleSpanProcessor<E> {
     /// Returns a processor without spans. Doesn't allocate.
     pub fn new(alloc: Global, exporter: E) -> SimpleSpanProcessor<E>
-        ensures { result ≡ queue_spec.new exporter queue_spec.single_limits }
+        ensures state { result ≡ record {
+          queue = queue_spec.new exporter queue_spec.single_limits;
+          given = exporter ∷ [];
+        } }
+        ensures account { HasReceived E.accepted E.calls result [] }
     {
         let config = BatchConfigBuilder::default()
             .with_max_export_batch_size(1)
@@ -70,88 +62,60 @@ impl<E: SpanExporter> SimpleSpanProcessor<E> {
 
     /// Returns the exporter.
     pub fn exporter(&self) -> &E
-        ensures { result.now ≡ self.now.exporter }
+        ensures { result.now ≡ self.now.queue.exporter }
     {
         self.inner.exporter()
-    }
-
-    /// Returns the number of sampled spans that were dropped because the queue was full. Stops at
-    /// the greatest `u64`.
-    pub fn dropped_spans(&self) -> u64
-        ensures { result ≡ self.now.dropped }
-    {
-        self.inner.dropped_spans()
-    }
-
-    /// Returns the number of spans that are queued because the exporter rejected them.
-    pub fn queued_spans(&self) -> usize
-        ensures { result ≡ length self.now.queue }
-    {
-        self.inner.queued_spans()
     }
 }
 
 impl<E: SpanExporter> SpanProcessor for SimpleSpanProcessor<E> {
-    ghost use Rattle.otel_sdk.specs.Processor.{is_open};
-    ghost use Rattle.otel_sdk_base.specs.Queue.{received_of};
+    ghost use Rattle.otel_sdk.specs.Processor.{simple_calls};
 
-    ghost received = { received_of E.accepted };
+    ghost calls = { simple_calls E.accepted E.calls };
 
-    ghost queued = { λ p. p.queue };
-
-    ghost receives = { is_open };
-
-    /// Queues the span if it is sampled, and drops it otherwise. Then flushes the processor.
-    ///
-    /// # Errors
-    ///
-    /// - `AlreadyShutdown` after [`SpanProcessor::shutdown`], or `Memory` if out of memory. Nothing
-    ///   changes, and the error returns the span.
-    /// - Otherwise the error of the flush. The error returns no span. The spans that the exporter
-    ///   didn't accept stay queued, in order.
-    fn on_end(&mut self, span: SpanData) -> Result<(), EndRefused>
-        ensures ok { OnOk result (IsFlushed E.accepted (spec.after_end span self.old) self.new
-            × (self.new.queue ≡ [])) }
-        ensures flushed { OnOk result (IsExportersAnswer E.accepted E.calls (Ok tt)
-            (spec.after_end span self.old) self.new) }
-        ensures open { OnOk result (self.old.is_shut_down ≡ false) }
-        ensures refused { IfErr result (λ refused. IsFlushedOrReturned E.accepted E.calls span
-            self.old self.new refused.span refused.error) }
-        ensures handed_in { OnOk result
-            (IsHandedIn span (received_of E.accepted self.old) (received_of E.accepted self.new)) }
-        ensures not_exported { IfErr result (λ refused. IsHandedInOrReturned span
-            (received_of E.accepted self.old) (received_of E.accepted self.new) refused.span) }
-        ensures closed { is_open self.old ≡ false
-            → IsErrOf result (record { span = Some span; error = AlreadyShutdown }) }
-        ensures memory { is_open self.old ≡ true → IfErr result (λ refused.
-            IsSome refused.span → refused.error ≡ Memory alloc_error) }
-        ensures stays { is_open self.new ≡ is_open self.old }
-    {
-        self.inner.on_end(span)?;
-        match self.inner.force_flush() {
-            Ok(()) => Ok(()),
-            Err(error) => Err(EndRefused { span: None, error }),
-        }
+    fn reserve(&mut self, open: usize) -> Result<(), AllocError> {
+        self.inner.reserve(open)
     }
 
-    fn force_flush(&mut self) -> OTelSdkResult
-        ensures { IsForceFlushed E.accepted E.calls result self.old self.new }
-    {
+    fn on_start(&mut self, alloc: Global, span: &mut SdkSpan, parent: &Context) {
+        self.inner.on_start(alloc, span, parent);
+    }
+
+    fn keeps_ended(&self) -> bool {
+        true
+    }
+
+    // If the export fails, the span stays queued.
+    fn on_end(&mut self, span: SpanData) {
+        self.inner.on_end(span);
+        drop(self.inner.force_flush());
+    }
+
+    fn on_loss(&mut self, span: &SpanData) {
+        self.inner.on_loss(span);
+    }
+
+    fn force_flush(&mut self) -> OTelSdkResult {
         self.inner.force_flush()
     }
 
-    fn shutdown(&mut self) -> OTelSdkResult
-        ensures shut_down { IsShutDown E.accepted E.calls result self.old self.new }
-        ensures open { is_open self.new ≡ true
-            → received_of E.accepted self.new ≡ received_of E.accepted self.old }
-    {
+    fn shutdown(&mut self) -> OTelSdkResult {
         self.inner.shutdown()
     }
 
-    /// Tells the exporter the resource of the following spans.
-    fn set_resource(&mut self, resource: Rc<Resource>)
-        ensures { TellsResource E.accepted E.calls (rc_value resource) self.old self.new }
-    {
-        self.inner.set_resource(resource);
+    fn is_shut_down(&self) -> bool {
+        self.inner.is_shut_down()
+    }
+
+    fn dropped_spans(&self) -> u64 {
+        self.inner.dropped_spans()
+    }
+
+    fn queued_spans(&self) -> usize {
+        self.inner.queued_spans()
+    }
+
+    fn set_resource(&mut self, resource: &Rc<Resource>) -> Result<(), AllocError> {
+        self.inner.set_resource(resource)
     }
 }

@@ -1,52 +1,72 @@
-//! The builder of a `Tracing`.
-ghost use Rattle.std.specs.Prelude.{◌≡◌, ◌||◌, IfOk, None, false, true};
+//! The builder of the SDK's value that traces.
+ghost use Rattle.std.specs.Prelude.{◌≡◌, ◌||◌, [], IfOk, None, false, true};
 ghost use Rattle.opentelemetry.specs.Scope.{scope_of_name};
 ghost use Rattle.otel_sdk.specs.ParentBased.{after_parent};
 ghost use Rattle.otel_sdk.specs.Tracer.{with_id_generator, with_resource, with_sampler};
-ghost use Rattle.otel_sdk.specs.TracingBuilder.{IsBuilt, with_provider};
-ghost use Rattle.otel_sdk_base.specs.Queue.{default_limits as default_batches};
+ghost use Rattle.otel_sdk.specs.TracingBuilder.{IsBuilt, with_last, with_provider};
+ghost use Rattle.otel_sdk_base.specs.Queue.{default_limits as default_batches, new as new_queue};
 ghost use Rattle.otel_sdk_span.specs.SpanLimits.{default_limits};
 
-use super::Tracing;
-use super::journal::Journal;
-use super::moments::Moments;
-use crate::trace::tracer::{OpenPipeline, SdkTracer};
+use super::SdkTracing;
+use crate::trace::processor::SpanProcessor;
+use crate::trace::processor::batch::BatchSpanProcessor;
+use crate::trace::source::SdkSource;
+use crate::trace::tracer::OpenPipeline;
 use crate::trace::{
-    CountedClock, CountedIdGenerator, IdGenerator, InMemorySpanExporter, ParentBased,
-    RandomIdGenerator, Sampler, SdkTracerProvider, ShouldSample, TracerProviderBuilder,
+    CountedClock, CountedIdGenerator, IdGenerator, ParentBased, RandomIdGenerator, Sampler,
+    SdkTracerProvider, ShouldSample, TracerProviderBuilder,
 };
-use opentelemetry::context::ContextStack;
+use opentelemetry::trace::{LocalTracing, SpanSource};
 use opentelemetry::{InstrumentationScope, StringValue};
 use otel_sdk_base::resource::Resource;
 use otel_sdk_base::{BatchConfig, Clock, SystemClock};
 use otel_sdk_span::{SpanExporter, SpanLimits};
-use std::alloc::{AllocError, Global};
+use std::alloc::{AllocError, AllocGlobal, Global};
 use std::marker::Model;
 use std::random::RandomSource;
 use std::rc::Rc;
 
-/// Builds a [`Tracing`].
+/// Builds an [`SdkTracing`].
 ///
-/// See [`Tracing::builder`].
-#[derive(Drop)]
-pub struct TracingBuilder<S, G, C, E> {
+/// ```
+/// let builder = TracingBuilder::new(rt).with_exporter(exporter);
+/// let mut tracing = builder.build(alloc, "cart")?;
+/// ```
+pub struct TracingBuilder<S, G, C, X: SpanProcessor> {
+    alloc: Global,
     provider: TracerProviderBuilder<S, G, C>,
-    exporter: E,
+    processors: X,
     config: BatchConfig,
     is_disabled: bool,
 }
 
-impl<S, G, C, E> Model for TracingBuilder<S, G, C, E> {
+// Written out, so that a caller's proof has one call here, and not the drops of all parts.
+impl<S: Drop, G: Drop, C: Drop, X: SpanProcessor> Drop for TracingBuilder<S, G, C, X> {
+    fn drop(self) {
+        let TracingBuilder {
+            alloc: _,
+            provider: _,
+            processors: _,
+            config: _,
+            is_disabled: _,
+        } = self;
+    }
+}
+
+impl<S, G, C, X: SpanProcessor> Model for TracingBuilder<S, G, C, X> {
+    ghost use Rattle.std.specs.Prelude.{[]};
     ghost use Rattle.otel_sdk.specs.TracingBuilder.{BuilderParts};
 
-    ghost Value = { BuilderParts S G E };
+    ghost Value = { BuilderParts S G X };
 
     ghost view = { λ b. record {
       provider = b.provider;
-      exporter = b.exporter;
+      processors = b.processors;
       config = b.config;
       is_disabled = b.is_disabled;
     } };
+
+    ghost invariant = { λ b. X.calls.AccountsFor b.processors [] };
 }
 
 /// The pipeline with the defaults.
@@ -56,16 +76,13 @@ pub type StandardPipeline<R> = OpenPipeline<
     SystemClock<R>,
 >;
 
-// The builder's type doesn't depend on the exporter named here.
-impl<R> Tracing<StandardPipeline<R>, InMemorySpanExporter>
+impl<R> TracingBuilder<ParentBased<Sampler>, RandomIdGenerator<R>, SystemClock<R>, ()>
 where
-    R: RandomSource + std::time::Clock + Copy + Drop,
+    R: RandomSource + std::time::Clock + AllocGlobal + Copy + Drop,
 {
-    /// Starts a `Tracing` with the defaults of [`SdkTracerProvider::builder`] and of
-    /// [`BatchConfig`]. It needs an exporter. Takes no memory.
-    pub fn builder(
-        rt: R,
-    ) -> TracingBuilder<ParentBased<Sampler>, RandomIdGenerator<R>, SystemClock<R>, ()>
+    /// Returns a builder with the defaults of [`SdkTracerProvider::builder`] and of
+    /// [`BatchConfig`], without processors. Takes no memory.
+    pub fn new(rt: R) -> Self
         ensures limits { result.provider.limits ≡ default_limits }
         ensures resource { result.provider.resource ≡ None }
         ensures sampler { result.provider.sampler ≡ after_parent Sampler.AlwaysOn }
@@ -73,71 +90,79 @@ where
         ensures enabled { result.is_disabled ≡ false }
     {
         TracingBuilder {
+            alloc: rt.alloc(),
             provider: SdkTracerProvider::builder(rt),
-            exporter: (),
+            processors: (),
             config: BatchConfig::default(),
             is_disabled: false,
         }
     }
 }
 
-impl<S: ShouldSample, G: IdGenerator, C: Clock, E: Drop> TracingBuilder<S, G, C, E> {
-    /// Sets the exporter.
-    pub fn with_exporter<X: SpanExporter>(self, exporter: X) -> TracingBuilder<S, G, C, X>
-        ensures { result ≡ record {
-          provider = self.provider;
-          exporter = exporter;
-          config = self.config;
-          is_disabled = self.is_disabled;
-        } }
-    {
-        TracingBuilder {
-            provider: self.provider,
-            exporter,
-            config: self.config,
-            is_disabled: self.is_disabled,
-        }
-    }
-
+impl<S: ShouldSample, G: IdGenerator, C: Clock, X: SpanProcessor> TracingBuilder<S, G, C, X> {
     /// Sets the sampler, which decides which spans record.
-    pub fn with_sampler<T: ShouldSample>(self, sampler: T) -> TracingBuilder<T, G, C, E>
+    pub fn with_sampler<T: ShouldSample>(self, sampler: T) -> TracingBuilder<T, G, C, X>
         ensures { result ≡ with_provider (with_sampler sampler self.provider) self }
     {
+        let TracingBuilder {
+            alloc,
+            provider,
+            processors,
+            config,
+            is_disabled,
+        } = self;
         TracingBuilder {
-            provider: self.provider.with_sampler(sampler),
-            exporter: self.exporter,
-            config: self.config,
-            is_disabled: self.is_disabled,
+            alloc,
+            provider: provider.with_sampler(sampler),
+            processors,
+            config,
+            is_disabled,
         }
     }
 
     /// Sets the generator of ids.
-    pub fn with_id_generator<T: IdGenerator>(self, id_generator: T) -> TracingBuilder<S, T, C, E>
+    pub fn with_id_generator<T: IdGenerator>(self, id_generator: T) -> TracingBuilder<S, T, C, X>
         ensures { result ≡ with_provider (with_id_generator id_generator self.provider) self }
     {
+        let TracingBuilder {
+            alloc,
+            provider,
+            processors,
+            config,
+            is_disabled,
+        } = self;
         TracingBuilder {
-            provider: self.provider.with_id_generator(id_generator),
-            exporter: self.exporter,
-            config: self.config,
-            is_disabled: self.is_disabled,
+            alloc,
+            provider: provider.with_id_generator(id_generator),
+            processors,
+            config,
+            is_disabled,
         }
     }
 
-    /// Sets the clock, which reads the moments at which spans start and end.
-    pub fn with_clock<T: Clock>(self, clock: T) -> TracingBuilder<S, G, T, E>
+    /// Sets the clock, which shows the timestamps at which spans start and end.
+    pub fn with_clock<T: Clock>(self, clock: T) -> TracingBuilder<S, G, T, X>
         ensures { result ≡ self }
     {
+        let TracingBuilder {
+            alloc,
+            provider,
+            processors,
+            config,
+            is_disabled,
+        } = self;
         TracingBuilder {
-            provider: self.provider.with_clock(clock),
-            exporter: self.exporter,
-            config: self.config,
-            is_disabled: self.is_disabled,
+            alloc,
+            provider: provider.with_clock(clock),
+            processors,
+            config,
+            is_disabled,
         }
     }
 
     /// Counts ids up from 1, and lets each reading of the clock be `step` nanoseconds later than
     /// the one before, so that every run gives the same spans. Use it in tests and examples.
-    pub fn counted(self, step: u64) -> TracingBuilder<S, CountedIdGenerator, CountedClock, E>
+    pub fn counted(self, step: u64) -> TracingBuilder<S, CountedIdGenerator, CountedClock, X>
         ensures { result ≡ with_provider
             (with_id_generator result.provider.id_generator self.provider) self }
     {
@@ -155,14 +180,16 @@ impl<S: ShouldSample, G: IdGenerator, C: Clock, E: Drop> TracingBuilder<S, G, C,
             ≡ with_provider (with_resource resource self.provider) self) }
     {
         let TracingBuilder {
+            alloc,
             provider,
-            exporter,
+            processors,
             config,
             is_disabled,
         } = self;
         Ok(TracingBuilder {
+            alloc,
             provider: provider.with_resource(resource)?,
-            exporter,
+            processors,
             config,
             is_disabled,
         })
@@ -174,74 +201,270 @@ impl<S: ShouldSample, G: IdGenerator, C: Clock, E: Drop> TracingBuilder<S, G, C,
           provider = record self.provider { limits = limits };
         } }
     {
+        let TracingBuilder {
+            alloc,
+            provider,
+            processors,
+            config,
+            is_disabled,
+        } = self;
         TracingBuilder {
-            provider: self.provider.with_span_limits(limits),
-            ..self
+            alloc,
+            provider: provider.with_span_limits(limits),
+            processors,
+            config,
+            is_disabled,
         }
     }
 
-    /// Sets the greatest size of the queue and of a batch.
+    /// Sets the maximum size of the queue and of a batch, for the exporters that are added later.
     pub fn with_batch_config(self, config: BatchConfig) -> Self
         ensures { result ≡ record self { config = config } }
     {
-        TracingBuilder { config, ..self }
+        let mut builder = self;
+        builder.config = config;
+        builder
     }
 
-    /// Disables the `Tracing`: it starts no spans, generates no ids and takes no memory. Contexts
-    /// are attached, received and sent as ever.
+    /// Disables the value: it starts no spans, generates no ids and takes no memory. Contexts are
+    /// attached, received and sent as ever.
     pub fn disabled(self) -> Self
         ensures { result ≡ record self { is_disabled = true } }
     {
         self.disabled_if(true)
     }
 
-    /// Disables the `Tracing` on the condition.
+    /// Disables the value on the condition.
     pub(super) fn disabled_if(self, condition: bool) -> Self
         ensures { result ≡ record self { is_disabled = self.is_disabled || condition } }
     {
-        let is_disabled = self.is_disabled || condition;
-        TracingBuilder {
+        let mut builder = self;
+        builder.is_disabled = builder.is_disabled || condition;
+        builder
+    }
+}
+
+/// Adds a processor to a builder.
+///
+/// A trait of a final call, and not a method: the borrow checker covers no call of a method of a
+/// builder whose processors hold lifetimes beside the `'static` of a span's strings.
+pub trait WithProcessor<Q>: Sized {
+    /// The builder with one more processor.
+    type With;
+
+    ghost has_no_spans: { Q → Type 0 };
+
+    ghost may_give: { Self → Q → Self.With → Type 0 };
+
+    /// Adds the processor, as [`WithProcessor::with_processor`].
+    fn push_processor(self, processor: Q) -> Self::With
+        requires { has_no_spans processor }
+        ensures { may_give self processor result };
+
+    /// Adds the processor after the ones before. It is told of each span that begins and ends. No
+    /// span may have ended there.
+    final fn with_processor(self, processor: Q) -> Self::With
+        requires { has_no_spans processor }
+        ensures { may_give self processor result }
+    {
+        self.push_processor(processor)
+    }
+}
+
+impl<S, G, C, X, Q> WithProcessor<Q> for TracingBuilder<S, G, C, X>
+where
+    S: ShouldSample,
+    G: IdGenerator,
+    C: Clock,
+    X: SpanProcessor,
+    Q: SpanProcessor,
+{
+    type With = TracingBuilder<S, G, C, (X, Q)>;
+
+    ghost has_no_spans = { λ processor. Q.calls.AccountsFor processor [] };
+
+    ghost may_give = { λ builder processor made. made ≡ with_last processor builder };
+
+    fn push_processor(self, processor: Q) -> TracingBuilder<S, G, C, (X, Q)> {
+        let TracingBuilder {
+            alloc,
+            provider,
+            processors,
+            config,
             is_disabled,
-            ..self
+        } = self;
+        TracingBuilder {
+            alloc,
+            provider,
+            processors: (processors, processor),
+            config,
+            is_disabled,
         }
     }
 }
 
-impl<S: ShouldSample, G: IdGenerator, C: Clock, E: SpanExporter> TracingBuilder<S, G, C, E> {
-    /// Returns the `Tracing` of the given parts, whose spans have the scope named `name`. Tells the
-    /// exporter the resource.
+/// Adds an exporter to a builder. See [`WithProcessor`] for why it is a trait.
+pub trait WithExporter<E>: Sized {
+    /// The builder with one more exporter.
+    type With;
+
+    ghost may_give: { Self → E → Self.With → Type 0 };
+
+    /// Adds the exporter, as [`WithExporter::with_exporter`].
+    fn push_exporter(self, exporter: E) -> Self::With
+        ensures { may_give self exporter result };
+
+    /// Adds a [`BatchSpanProcessor`] with the exporter after the processors before, with the sizes
+    /// that the builder has now.
+    final fn with_exporter(self, exporter: E) -> Self::With
+        ensures { may_give self exporter result }
+    {
+        self.push_exporter(exporter)
+    }
+}
+
+impl<S, G, C, X, E> WithExporter<E> for TracingBuilder<S, G, C, X>
+where
+    S: ShouldSample,
+    G: IdGenerator,
+    C: Clock,
+    X: SpanProcessor,
+    E: SpanExporter,
+{
+    ghost use Rattle.std.specs.Prelude.{◌∷◌, []};
+    ghost use Rattle.otel_sdk_base.specs.Queue as queue;
+
+    type With = TracingBuilder<S, G, C, (X, BatchSpanProcessor<E>)>;
+
+    ghost may_give = { λ builder exporter made. made ≡ with_last (record {
+      queue = queue.new exporter builder.config;
+      given = exporter ∷ [];
+    }) builder };
+
+    fn push_exporter(self, exporter: E) -> TracingBuilder<S, G, C, (X, BatchSpanProcessor<E>)> {
+        let TracingBuilder {
+            alloc,
+            provider,
+            processors,
+            config,
+            is_disabled,
+        } = self;
+        TracingBuilder {
+            alloc,
+            provider,
+            processors: (processors, BatchSpanProcessor::new(alloc, exporter, config)),
+            config,
+            is_disabled,
+        }
+    }
+}
+
+/// Is made over a source of spans. See [`WithProcessor`] for why it is a trait.
+trait OverSource<B>: Sized {
+    ghost can_make: { B → Type 0 };
+
+    ghost may_make: { B → Self → Type 0 };
+
+    /// Returns the value over the source.
+    ///
+    /// # Errors
+    ///
+    /// `AllocError` if out of memory. The source is dropped.
+    fn make(alloc: Global, source: B) -> Result<Self, AllocError>
+        requires { can_make source }
+        ensures { IfOk result (may_make source) };
+}
+
+impl<B: SpanSource> OverSource<B> for LocalTracing<B> {
+    ghost use Rattle.std.specs.Prelude.{◌≡◌, IsPermutation, map};
+    ghost use Rattle.opentelemetry.specs.Tracing as tracing;
+
+    ghost can_make = { λ source. IsPermutation (map B.calls.ids_of (B.calls.taken source))
+        (map B.calls.ids_of (B.calls.begun source)) };
+
+    ghost may_make = { λ source made. made ≡ tracing.at_start source };
+
+    fn make(alloc: Global, source: B) -> Result<LocalTracing<B>, AllocError> {
+        LocalTracing::new(alloc, source)
+    }
+}
+
+/// Returns a value over the source.
+///
+/// # Errors
+///
+/// `AllocError` if out of memory. The source is dropped.
+fn over<T: OverSource<B>, B>(alloc: Global, source: B) -> Result<T, AllocError>
+    requires { T.can_make source }
+    ensures { IfOk result (T.may_make source) }
+{
+    T::make(alloc, source)
+}
+
+/// Builds a value that traces. See [`WithProcessor`] for why it is a trait.
+pub trait Build: Sized {
+    ghost use Rattle.std.specs.Prelude.{ℕ, List};
+
+    /// The value.
+    type Built;
+
+    ghost may_build: { Self → List ℕ → Self.Built → Type 0 };
+
+    /// Builds the value, as [`Build::build`].
+    ///
+    /// # Errors
+    ///
+    /// As [`Build::build`].
+    fn build_named(self, alloc: Global, name: StringValue) -> Result<Self::Built, AllocError>
+        ensures { IfOk result (may_build self name) };
+
+    /// Returns the value of the given parts, whose spans have the scope named `name`. Tells the
+    /// exporters the resource.
     ///
     /// # Errors
     ///
     /// `AllocError` if out of memory. The parts are dropped.
-    pub fn build(
+    final fn build<N>(self, alloc: Global, name: N) -> Result<Self::Built, AllocError>
+    where
+        StringValue: From<N>,
+        ensures { IfOk result (λ made. (text : List ℕ)
+            × ⟦<StringValue as From<N>>⟧.from_gives name text × may_build self text made) }
+    {
+        self.build_named(alloc, StringValue::from(name))
+    }
+}
+
+impl<S, G, C, X> Build for TracingBuilder<S, G, C, X>
+where
+    S: ShouldSample,
+    G: IdGenerator,
+    C: Clock,
+    X: SpanProcessor,
+{
+    type Built = SdkTracing<OpenPipeline<S, G, C>, X>;
+
+    ghost may_build = { λ builder name made.
+        IsBuilt X.calls builder (scope_of_name name) made };
+
+    fn build_named(
         self,
         alloc: Global,
-        name: &'static str,
-    ) -> Result<Tracing<OpenPipeline<S, G, C>, E>, AllocError>
-        ensures { IfOk result (IsBuilt E.accepted E.calls self (scope_of_name name.now)) }
-    {
+        name: StringValue,
+    ) -> Result<SdkTracing<OpenPipeline<S, G, C>, X>, AllocError> {
         let TracingBuilder {
+            alloc: _,
             provider,
-            mut exporter,
-            config,
+            mut processors,
+            config: _,
             is_disabled,
         } = self;
         let (resource, start) = provider.into_parts(alloc)?;
-        exporter.set_resource(Rc::new(alloc, resource)?);
-        let scope = InstrumentationScope::builder(StringValue::from(name)).build(alloc)?;
+        processors.set_resource(&Rc::new(alloc, resource)?)?;
+        let scope = InstrumentationScope::builder(name).build(alloc)?;
         let pipeline = OpenPipeline {
             config: start,
             scope: Rc::new(alloc, scope)?,
         };
-        Ok(Tracing {
-            alloc,
-            tracer: SdkTracer { pipeline },
-            stack: ContextStack::new(alloc)?,
-            journal: Journal::new(alloc, exporter, config),
-            moments: Moments::new(),
-            unrecorded: 0,
-            is_disabled,
-        })
+        over(alloc, SdkSource::new(pipeline, processors, is_disabled))
     }
 }

@@ -1,22 +1,22 @@
-//! The last export of a `Tracing`, which is tried again for some time.
-ghost use Rattle.std.specs.Prelude.{◌≡◌, ◌≢◌, ◌-◌, ◌<◌, ◌≤◌, IsTrue, OnOk, false};
+//! The last export of a value that traces, which is tried again for some time.
+ghost use Rattle.std.specs.Prelude.{◌≡◌, ◌≢◌, ◌-◌, ◌<◌, ◌≤◌, IsTrue, Ok, OnOk, [], false, true};
 ghost use Rattle.otel_sdk.specs.LastExport as spec;
 ghost use Rattle.otel_sdk.specs.LastExport.{Finishes, HasGivenUp, HasWaited, IsLast, with_moment};
-ghost use Rattle.otel_sdk.specs.Tracing.{HasArrived, IsDone};
+ghost use Rattle.otel_sdk.specs.Exports.{ShutsDown};
 
-use super::Tracing;
+use super::Exports;
 use crate::env::EnvBatches;
-use crate::trace::tracer::Pipeline;
+use crate::trace::processor::SpanProcessor;
+use opentelemetry::trace::Tracing;
 use otel_sdk_base::Clock;
 use otel_sdk_base::error::OTelSdkError;
-use otel_sdk_span::SpanExporter;
 use std::marker::Model;
 use thiserror::Error;
 
 /// The time between two tries, in nanoseconds.
 const PAUSE: u64 = 100_000_000;
 
-/// A clock that shows no later moment so often in a row has stopped.
+/// A clock that shows no later timestamp so often in a row has stopped.
 const STILL: u32 = 10_000_000;
 
 /// Why [`finish`] lost spans.
@@ -25,7 +25,7 @@ pub enum Unfinished {
     /// The last try failed, for this reason.
     #[error("some spans are lost: {0}")]
     Refused(OTelSdkError),
-    /// This many spans met a full queue. The others were exported.
+    /// This many spans were dropped: by a full queue, or out of memory. The others were exported.
     #[error("{0} spans are lost: the queue was full")]
     Dropped(u64),
 }
@@ -34,7 +34,7 @@ pub enum Unfinished {
 /// or stops.
 #[derive(Drop)]
 struct Timer {
-    /// The moment that the clock showed last, in nanoseconds since 1970.
+    /// The timestamp that the clock showed last, in nanoseconds since 1970.
     last: u64,
     /// The time that is left, in nanoseconds.
     left: u64,
@@ -60,7 +60,7 @@ impl Timer {
         }
     }
 
-    /// Reads the clock. Returns `true` if it shows a later moment than before.
+    /// Reads the clock. Returns `true` if it shows a later timestamp than before.
     fn read<C: Clock>(&mut self, clock: &C) -> bool
         ensures shown { C.reads clock.now self.new.last }
         ensures passed { self.new ≡ with_moment self.new.last self.old }
@@ -95,28 +95,43 @@ impl Timer {
     }
 }
 
-/// Shuts the `Tracing` down, again and again while that leaves it open and the timer allows it.
-fn shut_down<P: Pipeline, E: SpanExporter, C: Clock>(
-    tracing: &mut Tracing<P, E>,
+/// Shuts the value down, again and again while that leaves a processor open and the timer allows it.
+fn shut_down<T: Exports, C: Clock>(
+    tracing: &mut T,
     clock: &C,
     mut timer: Timer,
 ) -> Result<usize, OTelSdkError>
-    ensures last { IsLast E.accepted E.calls (C.reads clock.now) timer result
+    ensures last { IsLast (λ answer old new. ShutsDown T.Source.calls T.Processors.calls
+        T.processors_of T.Source.Span.after_end answer (T.Tracing.held old)
+        (T.Tracing.held new)) (λ t. T.Processors.calls.is_shut_down
+        (T.processors_of (T.Tracing.held t).source)) (C.reads clock.now) timer result
         tracing.old tracing.new }
-    ensures done { OnOk result (IsDone tracing.new) }
-    ensures arrived { OnOk result (HasArrived E.accepted E.calls tracing.new) }
+    ensures none_open { (T.Tracing.held tracing.new).places ≡ [] }
+    ensures closed { OnOk result (T.Processors.calls.is_shut_down
+        (T.processors_of (T.Tracing.held tracing.new).source) ≡ true) }
 {
     let mut answer = tracing.shutdown();
-    while answer.is_err() && !tracing.is_shut_down() && timer.wait(clock) {
+    while answer.is_err() && !tracing.processors().is_shut_down() && timer.wait(clock) {
         answer = tracing.shutdown();
     }
     answer
 }
 
-/// Shuts the `Tracing` down at the end of a program: ends every open span, exports every span, and
-/// shuts the exporter down. While the exporter fails, tries again every 100 ms, for as long as an
-/// export may take by the clock: `OTEL_BSP_EXPORT_TIMEOUT`. Nothing sleeps here: the clock is read
-/// all the time. Not in the Rust crate, whose processor has a thread.
+/// Returns `Ok` if no span was dropped, otherwise an error with their number.
+fn unless_dropped(dropped: u64) -> Result<(), Unfinished>
+    ensures outcome { result ≡ spec.outcome_of (Ok 0) dropped }
+    ensures none { OnOk result (dropped ≡ 0) }
+{
+    match dropped {
+        0 => Ok(()),
+        dropped => Err(Unfinished::Dropped(dropped)),
+    }
+}
+
+/// Shuts a value that traces down at the end of a program: ends every open span, exports every
+/// span, and shuts the exporters down. While an exporter fails, tries again every 100 ms, for as
+/// long as an export may take by the clock: `OTEL_BSP_EXPORT_TIMEOUT`. Nothing sleeps here: the
+/// clock is read all the time. Not in the Rust crate, whose processor has a thread.
 ///
 /// ```
 /// finish(&mut tracing, &SystemClock::new(rt), &config.span_batches)?;
@@ -124,26 +139,30 @@ fn shut_down<P: Pipeline, E: SpanExporter, C: Clock>(
 ///
 /// # Errors
 ///
-/// - `Refused` with the error of the last try, as [`Tracing::shutdown`]: some spans weren't
-///   exported. If the exporter wasn't shut down, a later try may still export them.
-/// - `Dropped` if all went well but for the number of spans that a full queue dropped before.
-pub fn finish<P: Pipeline, E: SpanExporter, C: Clock>(
-    tracing: &mut Tracing<P, E>,
+/// - `Refused` with the error of the last try, as [`Exports::shutdown`]: some spans weren't
+///   exported. If an exporter wasn't shut down, a later try may still export them. The error of an
+///   exporter's own shutdown isn't told if another exporter is tried again after it.
+/// - `Dropped` if all went well but for the number of spans that were dropped before.
+pub fn finish<T: Exports, C: Clock>(
+    tracing: &mut T,
     clock: &C,
     batches: &EnvBatches,
 ) -> Result<(), Unfinished>
-    ensures finishes { Finishes E.accepted E.calls (C.reads clock.now)
+    ensures finishes { Finishes (λ answer old new. ShutsDown T.Source.calls
+        T.Processors.calls T.processors_of T.Source.Span.after_end answer
+        (T.Tracing.held old) (T.Tracing.held new)) (λ t. T.Processors.calls.is_shut_down
+        (T.processors_of (T.Tracing.held t).source)) (C.reads clock.now)
+        (λ t. T.Processors.calls.dropped (T.processors_of (T.Tracing.held t).source))
         batches.now.export_timeout_millis result tracing.old tracing.new }
-    ensures done { OnOk result (IsDone tracing.new) }
-    ensures arrived { OnOk result (HasArrived E.accepted E.calls tracing.new) }
-    ensures none_dropped { OnOk result (tracing.new.processor.dropped ≡ 0) }
+    ensures none_open { (T.Tracing.held tracing.new).places ≡ [] }
+    ensures closed { OnOk result (T.Processors.calls.is_shut_down
+        (T.processors_of (T.Tracing.held tracing.new).source) ≡ true) }
+    ensures none_dropped { OnOk result (T.Processors.calls.dropped
+        (T.processors_of (T.Tracing.held tracing.new).source) ≡ 0) }
 {
     let timer = Timer::new(clock, batches.export_timeout_millis);
-    if let Err(error) = shut_down(tracing, clock, timer) {
-        return Err(Unfinished::Refused(error));
-    }
-    match tracing.dropped_spans() {
-        0 => Ok(()),
-        dropped => Err(Unfinished::Dropped(dropped)),
+    match shut_down(tracing, clock, timer) {
+        Ok(_) => unless_dropped(tracing.processors().dropped_spans()),
+        Err(error) => Err(Unfinished::Refused(error)),
     }
 }

@@ -1,11 +1,11 @@
 //! Spans that reach an exporter.
-use opentelemetry::trace::{Span, TraceId, Tracer, TracerProvider};
+use opentelemetry::trace::{TraceId, TracerProvider, Tracing};
 use opentelemetry::{Context, Key, KeyValue, StringValue, Value};
 use otel_examples::sdk::traced::{export, price};
 use otel_sdk::trace::{
-    BatchConfig, BatchSpanProcessor, CountedIdGenerator, FinishedSpans, InMemorySpanExporter,
-    LiveSpans, ManualClock, Sampler, SdkTracer, SdkTracerProvider, SimpleSpanProcessor,
-    TracerPipeline,
+    Build, CountedIdGenerator, Exports, FinishedSpans, InMemorySpanExporter, ManualClock, Sampler,
+    SdkTracer, SdkTracerProvider, SimpleSpanProcessor, TracerPipeline, TracingBuilder,
+    WithExporter,
 };
 use std::alloc::AllocError;
 use std::test::Fail;
@@ -53,21 +53,18 @@ fn an_unsampled_span_is_not(rt: HostRuntime) -> Result<(), Fail> {
 #[test]
 fn ended_spans_are_exported_and_others_stay(rt: HostRuntime) -> Result<(), Fail> {
     let alloc = rt.alloc();
-    let tracer = tracer(rt, Sampler::AlwaysOn)?;
-    let mut live = LiveSpans::new(alloc);
-    for name in ["serve", "price"] {
-        let name = StringValue::from(name);
-        let span = tracer.start_with_context(alloc, name, &Context::new())?;
-        assert!(rt; live.start(span).is_ok());
-    }
-    live.end(1, 9);
-    let exporter = InMemorySpanExporter::new(alloc);
-    let mut processor = BatchSpanProcessor::new(alloc, exporter, BatchConfig::default());
-    export(&mut live, &mut processor)?;
-    let spans = processor.exporter().get_finished_spans()?;
+    let mut tracing = TracingBuilder::new(rt)
+        .counted(1)
+        .with_exporter(InMemorySpanExporter::new(alloc))
+        .build(alloc, "cart")?;
+    tracing.start("serve")?;
+    let price = tracing.start("price")?;
+    tracing.end(&price);
+    export(&mut tracing)?;
+    let spans = tracing.processors().1.exporter().get_finished_spans()?;
     assert_eq!(rt; spans.len(), 1);
     assert_eq!(rt; spans[0].name.as_str(), "price");
     assert_eq!(rt; spans[0].span_context.trace_id(), TraceId::from(2));
-    assert!(rt; live.spans().get(0).is_some_and(|span| span.is_recording()));
+    assert_eq!(rt; tracing.open_spans(), 1);
     Ok(())
 }

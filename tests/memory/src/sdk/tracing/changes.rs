@@ -3,9 +3,9 @@ use crate::context::contexts::remote;
 use crate::lines::Lines;
 use crate::sdk::tracing::exports::has_exported;
 use crate::sdk::tracing::{App, app, builder, enter};
-use opentelemetry::trace::{Run, SpanBuilder, Status, TraceState};
+use opentelemetry::trace::{SpanBuilder, Status, TraceState, Tracing};
 use opentelemetry::{Key, KeyValue, StringValue, Value};
-use otel_sdk::trace::Traces;
+use otel_sdk::trace::{Build, Exports};
 use std::alloc::{AllocError, Global};
 
 pub fn play<R: Print>(rt: HostRuntime, lines: &Lines<'_, R>) {
@@ -46,7 +46,7 @@ fn attribute() -> KeyValue {
 }
 
 /// Makes this call on the current span.
-fn add(alloc: Global, app: &mut impl Traces, call: Call) -> Result<(), AllocError> {
+fn add(alloc: Global, app: &mut impl Tracing, call: Call) -> Result<(), AllocError> {
     match call {
         Call::SetAttribute => app.set_attribute(attribute()),
         Call::AddEvent => app.add_event(StringValue::from("e"), Vec::new(alloc)),
@@ -71,9 +71,9 @@ fn set_status<R: Print>(rt: HostRuntime, lines: &Lines<'_, R>) -> Result<(), All
     let mut app = app(rt)?;
     enter(&mut app)?;
     let status = Status::error(StringValue::from("x"));
-    lines.free_ok("Tracing::set_status", Traces::set_status(&mut app, status));
+    lines.free_ok("Tracing::set_status", app.set_status(status));
     let name = StringValue::from("renamed");
-    lines.free_ok("Tracing::update_name", Traces::update_name(&mut app, name));
+    lines.free_ok("Tracing::update_name", app.update_name(name));
     lines.due(app.open_spans() == 1 && has_exported(&mut app, 1, 0));
     Ok(())
 }
@@ -98,9 +98,9 @@ fn disabled<R: Print>(rt: HostRuntime, lines: &Lines<'_, R>) -> Result<(), Alloc
     lines.free_ok("Tracing::enter_with", app.enter_with(builder));
     let answer = add(alloc, &mut app, Call::RecordError);
     lines.free_ok("Tracing::record_error", answer);
-    let failed = app.try_in_span("s", Run(|_: &mut App| -> Result<u8, u16> { Err(402) }));
-    lines.free_ok("Tracing::flush", app.flush());
-    lines.free_of("Tracing::shutdown", app.shutdown());
+    let failed = app.try_in_span("s", |_: &mut App| -> Result<u8, u16> { Err(402) });
+    lines.free_ok("Exports::flush", app.flush());
+    lines.free_of("Exports::shutdown", app.shutdown());
     lines.due(failed == Err(402) && app.unrecorded() == 0);
     Ok(())
 }

@@ -1,10 +1,13 @@
 //! The way of spans to an exporter.
 use crate::lines::Lines;
-use crate::sdk::tracing::{App, app, enter};
+use crate::sdk::tracing::{App, enter, kept};
+use opentelemetry::trace::Tracing;
 use otel_sdk::env::EnvBatches;
 use otel_sdk::error::OTelSdkResult;
 use otel_sdk::resource::Resource;
-use otel_sdk::trace::{Exporter, ManualClock, SpanData, Traces, Unfinished, finish};
+use otel_sdk::trace::{
+    Exporter, Exports, ManualClock, SpanData, SpanProcessor, Unfinished, finish,
+};
 use otel_sdk_base::Accepted;
 use std::alloc::AllocError;
 use std::rc::Rc;
@@ -71,43 +74,42 @@ pub fn play<R: Print>(rt: HostRuntime, lines: &Lines<'_, R>) {
 }
 
 /// Shuts down. Returns whether no span is open then, and whether so many spans with so many parts
-/// were exported in all, or none if out of memory again.
+/// were exported in all, and none was dropped. Takes no memory.
 pub fn has_exported(app: &mut App, spans: usize, parts: usize) -> bool {
     let is_done = app.shutdown().is_ok();
-    let tally = app.exporter();
+    let tally = app.processors().1.exporter();
     let is_whole = tally.spans == spans && tally.parts == parts;
-    app.open_spans() == 0 && if is_done { is_whole } else { tally.spans == 0 }
+    is_done && is_whole && app.open_spans() == 0 && app.processors().dropped_spans() == 0
 }
 
-/// A flush of an ended span, while another one is open.
+/// A flush of an ended span, while another one is open. After an error the ended one stays queued.
 fn flush<R: Print>(rt: HostRuntime, lines: &Lines<'_, R>) -> Result<(), AllocError> {
-    let mut app = app(rt)?;
+    let mut app = kept(rt)?;
     let ended = enter(&mut app)?;
     app.exit(ended);
     enter(&mut app)?;
-    let answer = Traces::flush(&mut app);
-    let exported = if answer.is_ok() { 1 } else { 0 };
+    let answer = app.flush();
+    let queued = if answer.is_ok() { 0 } else { 1 };
     lines.answer_named("flushed", answer);
-    let is_due = app.open_spans() == 1 && app.exporter().spans == exported;
-    let is_done = app.shutdown().is_ok();
-    let spans = if is_done { 2 } else { exported };
-    lines.due(is_due && app.exporter().spans == spans);
+    let is_due = app.open_spans() == 1 && app.processors().queued_spans() == queued;
+    lines.due(is_due && app.processors().dropped_spans() == 0);
     Ok(())
 }
 
-/// A shutdown with two open spans. After an error, another one exports them.
+/// A shutdown with two open spans. After an error they have ended, and another shutdown exports
+/// them.
 fn shutdown<R: Print>(rt: HostRuntime, lines: &Lines<'_, R>) -> Result<(), AllocError> {
-    let mut app = app(rt)?;
+    let mut app = kept(rt)?;
     enter(&mut app)?;
     enter(&mut app)?;
     let answer = app.shutdown();
-    let exported = if answer.is_ok() { 2 } else { 0 };
+    let is_done = answer.is_ok();
     lines.answer_of(answer);
-    let is_due = app.open_spans() == 0 && app.exporter().spans == exported;
-    let is_first = app.shutdown().is_ok();
-    let spans = if is_first { 2 } else { exported };
-    let is_closed = exported == 0 || !is_first;
-    lines.due(is_due && is_closed && app.exporter().spans == spans);
+    let queued = if is_done { 0 } else { 2 };
+    let is_due = app.open_spans() == 0 && app.processors().queued_spans() == queued;
+    let is_again = app.shutdown().is_ok();
+    let is_closed = app.processors().is_shut_down() == (is_done || is_again);
+    lines.due(is_due && is_closed && app.processors().dropped_spans() == 0);
     Ok(())
 }
 
@@ -121,15 +123,15 @@ const NO_TIME: EnvBatches = EnvBatches {
 
 /// A last export of two open spans.
 fn last_export<R: Print>(rt: HostRuntime, lines: &Lines<'_, R>) -> Result<(), AllocError> {
-    let mut app = app(rt)?;
+    let mut app = kept(rt)?;
     enter(&mut app)?;
     enter(&mut app)?;
     let answer = finish(&mut app, &ManualClock::new(1), &NO_TIME);
-    let exported = if answer.is_ok() { 2 } else { 0 };
+    let queued = if answer.is_ok() { 0 } else { 2 };
     match answer {
         Err(Unfinished::Refused(error)) => lines.answer(&error),
         answer => lines.answer_named("finished", answer),
     }
-    lines.due(app.open_spans() == 0 && app.exporter().spans == exported);
+    lines.due(app.open_spans() == 0 && app.processors().queued_spans() == queued);
     Ok(())
 }

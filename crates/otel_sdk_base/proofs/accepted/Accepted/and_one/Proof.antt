@@ -32,7 +32,7 @@ use denote.Triple.Spec.{Meets, triple_of}
 use denote.Triple.Table.{entered}
 use denote.Triple.Walked.{says, Stays, stay_dropped, walk_of, ends_at, walk_Meets, Goes-dropped}
 use Rattle.std.specs.contracts.marker.PhantomData as Mark
-use Rattle.otel_sdk_base.proofs.GhostSteps.{none, one, one_made}
+use Rattle.opentelemetry.proofs.shared.GhostSteps.{none, one, one_made}
 use Rattle.otel_sdk_base.specs.contracts.accepted.Accepted as Log
 use Rattle.otel_sdk_base.specs.contracts.accepted.Accepted.and_one as F
 use Rattle.otel_sdk_base.specs.contracts.accepted.Accepted.and_one.Key.{name as #self}

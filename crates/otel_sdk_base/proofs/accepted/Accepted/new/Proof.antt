@@ -28,7 +28,7 @@ use denote.Triple.Spec.{Meets, triple_of}
 use denote.Triple.Table.{entered}
 use denote.Triple.Walked.{says, Stays, walk_of, ends_at, walk_Meets}
 use Rattle.std.specs.contracts.marker.PhantomData as Mark
-use Rattle.otel_sdk_base.proofs.GhostSteps.{none, one, one_made}
+use Rattle.opentelemetry.proofs.shared.GhostSteps.{none, one, one_made}
 use Rattle.otel_sdk_base.specs.contracts.accepted.Accepted as Log
 use Rattle.otel_sdk_base.specs.contracts.accepted.Accepted.new as F
 use Rattle.otel_sdk_base.specs.contracts.accepted.Accepted.new.Key.{name as #self}

@@ -1,27 +1,17 @@
-use Rattle.std.proofs.Common.{◌∙◌, not, Result, Ok, Err, ap, subst}
-use Rattle.otel_sdk.specs.Processor.{ProcessorState}
-use Rattle.otel_sdk_base.specs.Queue.{IsExportersAnswer, IsFlushed}
-use Rattle.otel_sdk_base.specs.declared.error.OTelSdkError.{OTelSdkError}
-use Rattle.otel_sdk.proofs.trace.processor.simple.SimpleSpanProcessorSpanProcessor.on_end.Goals.{in-Ok, in-Err}
+use Rattle.std.proofs.Common.{◌≡◌, ◌∙◌, [], ◌∷◌, ◌++◌, rules, subst}
+use Rattle.otel_sdk.specs.Processor.{BatchState, HasReceived, simple_calls}
+use Rattle.otel_sdk.proofs.Received.{account_from}
 use Rattle.otel_sdk.proofs.trace.processor.simple.SimpleSpanProcessorSpanProcessor.on_end.Goals as goal
 
-pub returns-clause-flushed : goal.returns-clause-flushed
-returns-clause-flushed g c = elim c.match-force_flush.branch [
-  | in-Ok w ↦
-      let was_open = c.in_ok-on_end.ensures.stays ∙ ap not c.in_ok-on_end.ensures.open in
-      let answered = subst (λ (r : Result (Unit {0}) OTelSdkError). IsExportersAnswer g.E.Exporter.accepted (g.E.Exporter.calls) r c.on_end.new.self c.force_flush.new.self) w.in-Ok.is (c.force_flush.ensures.4 was_open) in
-      rw w.result-is (rw (← c.self.view_is) (subst (λ (p : ProcessorState g.row.E.Denot). IsExportersAnswer g.E.Exporter.accepted (g.E.Exporter.calls) (Ok tt) p c.force_flush.new.self) c.in_ok-on_end.ensures.ok answered))
-  | in-Err w ↦ rw w.result-is tt
-]
+pub returns-clause-ends : goal.returns-clause-ends
+returns-clause-ends g c =
+    let ended = c.on_end.ensures.ends in
+    let flushed = c.force_flush.ensures.flushes in
+    let same : c.self.inside.inner ≡ c.args.self.now = search rules in
+    subst (λ (p : BatchState _). (simple_calls g.E.Exporter.accepted g.E.Exporter.calls).ends p c.args.span c.force_flush.new.self) same
+    (c.on_end.new.self.queue, ended.0, (c.force_flush.result, flushed.0), flushed.1 ∙ ended.1)
 
-pub returns-clause-refused : goal.returns-clause-refused
-returns-clause-refused g c = elim c.match-force_flush.branch [
-  | in-Ok w ↦ rw w.result-is tt
-  | in-Err w ↦
-      let was_open = c.in_ok-on_end.ensures.stays ∙ ap not c.in_ok-on_end.ensures.open in
-      let answered = subst (λ (r : Result (Unit {0}) OTelSdkError). IsExportersAnswer g.E.Exporter.accepted (g.E.Exporter.calls) r c.on_end.new.self c.force_flush.new.self) w.in-Err.is (c.force_flush.ensures.4 was_open) in
-      rw w.result-is (rw (← c.self.view_is) (
-        subst (λ (p : ProcessorState g.row.E.Denot). IsFlushed g.E.Exporter.accepted p c.force_flush.new.self) c.in_ok-on_end.ensures.ok c.force_flush.ensures.0,
-        subst (λ (p : ProcessorState g.row.E.Denot). IsExportersAnswer g.E.Exporter.accepted (g.E.Exporter.calls) (Err w.in-Err.error) p c.force_flush.new.self) c.in_ok-on_end.ensures.ok answered,
-      ))
-]
+pub returns-clause-account : goal.returns-clause-account
+returns-clause-account g c = account_from (HasReceived g.E.Exporter.accepted g.E.Exporter.calls)
+    (λ ended. HasReceived g.E.Exporter.accepted g.E.Exporter.calls c.force_flush.new.self (ended ++ c.args.span ∷ [])) _
+    c.self.inside.inner (search rules) (λ spans h. c.force_flush.ensures.account _ (c.on_end.ensures.account spans h))
