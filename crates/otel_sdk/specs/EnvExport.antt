@@ -1,13 +1,11 @@
 -- What the environment says of the whole SDK, of resources and of exporters.
 use Rattle.std.specs.Prelude.{◌≡◌, ℕ, Bool, true, false, not, ◌||◌, List, [], ◌∷◌, ◌++◌}
-use Rattle.std.specs.Prelude.{Option, Some, None, is_some, map, codes, refl, if◌then◌else◌}
-use Rattle.std.specs.Char.{to_ascii_lowercase}
+use Rattle.std.specs.Prelude.{Option, Some, None, is_some, codes, refl, if◌then◌else◌}
 use Rattle.std.specs.Option.{unwrap_or}
-use Rattle.std.specs.Str.{bytes_eq}
 use Rattle.otel_sdk_base.specs.ResourceTexts.{fault}
 use Rattle.otel_sdk.specs.EnvHeaders.{headers_in}
-use Rattle.otel_sdk.specs.EnvTexts.{Variables, is_unset, text_of, warned, warning, number_or}
-use Rattle.otel_sdk.specs.EnvTexts.{number_warnings}
+use Rattle.otel_sdk.specs.EnvTexts.{Variables, is_named, is_unset, text_of, warned, warning}
+use Rattle.otel_sdk.specs.EnvTexts.{number_or, number_warnings}
 use Rattle.otel_sdk_base.specs.declared.otlp.EnvEndpoint.{EnvEndpoint}
 use Rattle.otel_sdk_base.specs.declared.otlp.EnvEndpoint.TheVariants.{Base, Exact}
 use Rattle.otel_sdk.specs.declared.env.export.EnvExporter.{EnvExporter}
@@ -20,10 +18,10 @@ use Rattle.otel_sdk.specs.declared.env.warning.Instead.TheVariants.{Nothing, Fal
 
 -- whether the text is `true`, or `false`, in any case
 abbrev pub is_true : List ℕ → Bool
-is_true text = bytes_eq (map to_ascii_lowercase text) (codes "true")
+is_true text = is_named text (codes "true")
 
 abbrev pub is_false : List ℕ → Bool
-is_false text = bytes_eq (map to_ascii_lowercase text) (codes "false")
+is_false text = is_named text (codes "false")
 
 abbrev pub is_switch : List ℕ → Bool
 is_switch text = is_true text || is_false text
@@ -50,12 +48,12 @@ resource_warnings vars = warned (not (is_some (fault (resource_attributes vars))
 
 -- ---- exporters
 
--- the exporter of the name
+-- the exporter of the name, in any case
 abbrev pub named : List ℕ → Option EnvExporter
 named text =
-    if bytes_eq text (codes "otlp") then Some to.Otlp
-    else (if bytes_eq text (codes "console") then Some to.Console
-    else (if bytes_eq text (codes "none") then Some to.Nothing else None))
+    if is_named text (codes "otlp") then Some to.Otlp
+    else (if is_named text (codes "console") then Some to.Console
+    else (if is_named text (codes "none") then Some to.Nothing else None))
 
 -- the exporter that the variable names, or OTLP
 abbrev pub exporter : List ℕ → Variables → EnvExporter
@@ -110,7 +108,7 @@ timeout_warnings vars = number_warnings (codes "OTEL_EXPORTER_OTLP_TIMEOUT") 0 1
 abbrev pub protocol_warnings : Variables → List EnvWarning
 protocol_warnings vars =
     let text = text_of (codes "OTEL_EXPORTER_OTLP_PROTOCOL") vars in
-    warned (bytes_eq text (codes "http/json")) (codes "OTEL_EXPORTER_OTLP_PROTOCOL") text HttpJson
+    warned (is_named text (codes "http/json")) (codes "OTEL_EXPORTER_OTLP_PROTOCOL") text HttpJson
 
 -- the warnings about the time and the protocol
 abbrev pub otlp_warnings : Variables → List EnvWarning

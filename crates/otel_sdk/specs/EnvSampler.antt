@@ -5,8 +5,7 @@ use Rattle.std.specs.Prelude.{if◌then◌else◌}
 use Rattle.std.specs.Float.{Float, binary64}
 use Rattle.std.specs.Float.Parse.{parse_float}
 use Rattle.std.specs.Option.{unwrap_or, option_and_then}
-use Rattle.std.specs.Str.{bytes_eq}
-use Rattle.otel_sdk.specs.EnvTexts.{Variables, text_of, warned, warning}
+use Rattle.otel_sdk.specs.EnvTexts.{Variables, is_named, text_of, warned, warning}
 use Rattle.otel_sdk.specs.Ratio.{one}
 use Rattle.otel_sdk.specs.Sampler.{Asked, Answer, decision_of, parent_based, unchanged}
 use Rattle.otel_sdk.specs.Sampler.{IsDescription, DescribesParentBased}
@@ -53,17 +52,17 @@ ratio text = option_and_then as_ratio (parse_float binary64 text)
 -- whether the name is of a sampler with a ratio
 abbrev pub takes_ratio : List ℕ → Bool
 takes_ratio name =
-    bytes_eq name (codes "traceidratio") || bytes_eq name (codes "parentbased_traceidratio")
+    is_named name (codes "traceidratio") || is_named name (codes "parentbased_traceidratio")
 
--- the sampler of the name, with the ratio
+-- the sampler of the name, in any case, with the ratio
 abbrev pub named : List ℕ → Float → Option EnvSampler
 named name share =
-    if bytes_eq name (codes "always_on") then Some (Plain AlwaysOn)
-    else (if bytes_eq name (codes "always_off") then Some (Plain AlwaysOff)
-    else (if bytes_eq name (codes "traceidratio") then Some (Plain (TraceIdRatioBased share))
-    else (if bytes_eq name (codes "parentbased_always_on") then Some (ParentBased AlwaysOn)
-    else (if bytes_eq name (codes "parentbased_always_off") then Some (ParentBased AlwaysOff)
-    else (if bytes_eq name (codes "parentbased_traceidratio")
+    if is_named name (codes "always_on") then Some (Plain AlwaysOn)
+    else (if is_named name (codes "always_off") then Some (Plain AlwaysOff)
+    else (if is_named name (codes "traceidratio") then Some (Plain (TraceIdRatioBased share))
+    else (if is_named name (codes "parentbased_always_on") then Some (ParentBased AlwaysOn)
+    else (if is_named name (codes "parentbased_always_off") then Some (ParentBased AlwaysOff)
+    else (if is_named name (codes "parentbased_traceidratio")
     then Some (ParentBased (TraceIdRatioBased share)) else None)))))
 
 -- the texts of the name and of its argument
@@ -100,9 +99,8 @@ unset_example = (refl, refl)
 abbrev name_warning : List ℕ → List EnvWarning
 name_warning text = warning (codes "OTEL_TRACES_SAMPLER") text ParentBasedAlwaysOn ∷ []
 
-case_example : (sampler_in (codes "ParentBased_Always_On") [] ≡ ParentBased AlwaysOn)
-    × (warnings_in (codes "ParentBased_Always_On") []
-    ≡ name_warning (codes "ParentBased_Always_On"))
+case_example : (sampler_in (codes "ALWAYS_OFF") [] ≡ Plain AlwaysOff)
+    × (warnings_in (codes "ALWAYS_OFF") [] ≡ [])
 case_example = (refl, refl)
 
 unknown_example : (sampler_in (codes "sometimes") [] ≡ ParentBased AlwaysOn)

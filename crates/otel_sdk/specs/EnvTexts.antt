@@ -1,11 +1,11 @@
 -- The texts of environment variables, and warnings about them.
-use Rattle.std.specs.Prelude.{◌≡◌, ℕ, ◌^◌, ◌==◌, Bool, not, ◌&&◌, ◌||◌, List, [], ◌∷◌}
+use Rattle.std.specs.Prelude.{◌≡◌, ℕ, ◌^◌, ◌==◌, Bool, true, false, not, ◌&&◌, ◌||◌, List, [], ◌∷◌}
 use Rattle.std.specs.Prelude.{Option, Some, None, is_some, map, length, codes, refl, nat_lt, nat_le}
 use Rattle.std.specs.Prelude.{if◌then◌else◌, string_bytes}
 use Rattle.std.specs.Option.{unwrap_or, option_or}
 use Rattle.std.specs.Char.{is_ascii_digit}
 use Rattle.std.specs.List.{list_all}
-use Rattle.std.specs.Str.{bytes_eq}
+use Rattle.std.specs.Str.{bytes_eq, str_eq_ignore_ascii_case}
 use Rattle.std.specs.Str.Parse.{digits_value}
 use Rattle.std.specs.declared.string.String.{String}
 use Rattle.otel_base.specs.Blanks.{cut_blanks}
@@ -26,6 +26,10 @@ variables_of given = map (λ v. (string_bytes v.0, string_bytes v.1)) given
 abbrev pub text_of : List ℕ → Variables → List ℕ
 text_of name [] = []
 text_of name (v ∷ vs) = if bytes_eq v.0 name then cut_blanks v.1 else text_of name vs
+
+-- whether the text is the name, in any case of ASCII letters
+abbrev pub is_named : List ℕ → List ℕ → Bool
+is_named text name = str_eq_ignore_ascii_case text name
 
 -- ---- warnings
 
@@ -93,6 +97,10 @@ first_counts = refl
 
 unset_example : text_of (codes "C") some_vars ≡ []
 unset_example = refl
+
+case_example : (is_named (codes "HTTP/json") (codes "http/json") ≡ true)
+    × (is_named (codes "http/jso") (codes "http/json") ≡ false)
+case_example = (refl, refl)
 
 number_examples : (number 0 (codes "0") ≡ Some 0) × (number 0 (codes "007") ≡ Some 7)
     × (number 0 (codes "4294967295") ≡ Some 4294967295)

@@ -15,6 +15,7 @@ instead_text to.False = codes "false counts instead"
 instead_text to.ParentBasedAlwaysOn = codes "parentbased_always_on counts instead"
 instead_text to.Otlp = codes "otlp counts instead"
 instead_text to.HttpJson = codes "http/json counts instead"
+instead_text to.W3cPropagators = codes "tracecontext,baggage counts instead"
 
 -- the variable's name, its text, quoted and escaped, and what counts instead; it says nothing of a
 -- text that isn't ASCII

@@ -40,15 +40,16 @@ pub use warning::{EnvWarning, Instead};
 /// The configuration that environment variables give.
 ///
 /// A variable that is empty counts as one that isn't set, and blanks at the ends of a text don't
-/// count. A text that isn't understood is never an error: the default counts, and a warning is in
-/// `warnings`. Numbers are written as ASCII digits, and are at most 4294967295.
+/// count. Names of samplers, propagators, exporters and protocols have any case. A text that isn't
+/// understood is never an error: the default counts, and a warning is in `warnings`. Numbers are
+/// written as ASCII digits, and are at most 4294967295.
 ///
 /// The variables, with the defaults in parentheses:
 ///
 /// - `OTEL_SDK_DISABLED`: `true` or `false`, in any case (`false`).
 /// - `OTEL_SERVICE_NAME`, `OTEL_RESOURCE_ATTRIBUTES`: see [`Resource::from_texts`].
 /// - `OTEL_PROPAGATORS`: a list of `tracecontext`, `baggage`, `b3` and `b3multi`, or `none`
-///   (`tracecontext,baggage`).
+///   (`tracecontext,baggage`). Of a list, what is understood counts.
 /// - `OTEL_TRACES_SAMPLER`: `always_on`, `always_off`, `traceidratio`, or one of these after
 ///   `parentbased_` (`parentbased_always_on`).
 /// - `OTEL_TRACES_SAMPLER_ARG`: the ratio, from 0 to 1 (1).

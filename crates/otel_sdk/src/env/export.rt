@@ -4,7 +4,7 @@ ghost use Rattle.otel_sdk.specs.EnvExport as spec;
 ghost use Rattle.otel_sdk.specs.EnvTexts.{variables_of};
 
 use super::headers::listed_headers;
-use super::texts::{number_or, text_of};
+use super::texts::{is_named, number_or, text_of};
 use super::warning::{EnvWarning, Instead, warn};
 use opentelemetry::StringValue;
 use otel_sdk_base::otlp::{EnvEndpoint, EnvOtlp};
@@ -37,14 +37,14 @@ fn kept(alloc: Global, text: &str) -> Result<StringValue, AllocError>
 fn is_true(text: &str) -> bool
     ensures { result ≡ spec.is_true text.now }
 {
-    text.eq_ignore_ascii_case("true")
+    is_named(text, "true")
 }
 
 /// Returns whether the text is `false`, in any case.
 fn is_false(text: &str) -> bool
     ensures { result ≡ spec.is_false text.now }
 {
-    text.eq_ignore_ascii_case("false")
+    is_named(text, "false")
 }
 
 /// Returns whether the text is `true` or `false`, in any case.
@@ -121,11 +121,11 @@ pub(super) fn resource_attributes(
 fn named(text: &str) -> Option<EnvExporter>
     ensures { result ≡ spec.named text.now }
 {
-    if text == "otlp" {
+    if is_named(text, "otlp") {
         Some(EnvExporter::Otlp)
-    } else if text == "console" {
+    } else if is_named(text, "console") {
         Some(EnvExporter::Console)
-    } else if text == "none" {
+    } else if is_named(text, "none") {
         Some(EnvExporter::Nothing)
     } else {
         None
@@ -237,7 +237,7 @@ pub(super) fn timeout_millis(
     warn(
         alloc,
         warnings,
-        text == "http/json",
+        is_named(text, "http/json"),
         name,
         text,
         Instead::HttpJson,

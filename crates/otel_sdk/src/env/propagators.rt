@@ -1,9 +1,9 @@
 //! Reads the list of propagators.
 ghost use Rattle.std.specs.Prelude.{◌≡◌, ◌++◌, IfOk, OnOk};
 ghost use Rattle.otel_sdk.specs.EnvPropagators as spec;
-ghost use Rattle.otel_sdk.specs.EnvTexts.{is_unset, variables_of};
+ghost use Rattle.otel_sdk.specs.EnvTexts.{variables_of};
 
-use super::texts::text_of;
+use super::texts::{is_named, text_of};
 use super::warning::{EnvWarning, Instead, warn};
 use otel_base::cut_blanks;
 use std::alloc::{AllocError, Global};
@@ -27,13 +27,13 @@ const NAME: &str = "OTEL_PROPAGATORS";
 fn named(text: &str) -> Option<EnvPropagator>
     ensures { result ≡ spec.named text.now }
 {
-    if text == "tracecontext" {
+    if is_named(text, "tracecontext") {
         Some(EnvPropagator::TraceContext)
-    } else if text == "baggage" {
+    } else if is_named(text, "baggage") {
         Some(EnvPropagator::Baggage)
-    } else if text == "b3" {
+    } else if is_named(text, "b3") {
         Some(EnvPropagator::B3)
-    } else if text == "b3multi" {
+    } else if is_named(text, "b3multi") {
         Some(EnvPropagator::B3Multi)
     } else {
         None
@@ -95,33 +95,46 @@ fn listed(alloc: Global, text: &str) -> Result<Vec<EnvPropagator>, AllocError>
     Ok(known)
 }
 
-/// Returns whether the piece is neither empty nor `none`.
-fn is_other(piece: &str) -> bool
-    ensures { result ≡ spec.is_other piece.now }
+/// Returns whether the piece is `none`, but for blanks.
+fn is_none(piece: &str) -> bool
+    ensures { result ≡ spec.is_none piece.now }
 {
-    let piece = cut_blanks(piece);
-    !piece.is_empty() && piece != "none"
+    is_named(cut_blanks(piece), "none")
 }
 
-/// Returns whether there is a piece other than `none`.
-fn has_others(text: &str) -> bool
-    ensures { result ≡ spec.has_others text.now }
+/// Returns whether a piece is `none`.
+fn has_none(text: &str) -> bool
+    ensures { result ≡ spec.has_none text.now }
 {
-    text.split(',').any(|piece| is_other(piece))
+    text.split(',').any(|piece| is_none(piece))
+}
+
+/// Returns whether the piece has more than blanks.
+fn is_given(piece: &str) -> bool
+    ensures { result ≡ spec.is_given piece.now }
+{
+    !cut_blanks(piece).is_empty()
+}
+
+/// Returns whether a piece has more than blanks.
+fn has_given(text: &str) -> bool
+    ensures { result ≡ spec.has_given text.now }
+{
+    text.split(',').any(|piece| is_given(piece))
 }
 
 /// Returns whether the piece names a propagator, or is `none` without others beside it.
 fn is_understood(others: bool, piece: &str) -> bool
     ensures { result ≡ spec.is_understood others piece.now }
 {
-    if piece == "none" {
+    if is_none(piece) {
         !others
     } else {
-        named(piece).is_some()
+        named(cut_blanks(piece)).is_some()
     }
 }
 
-/// Adds a warning for each piece that doesn't count.
+/// Adds a warning for each piece that isn't understood.
 ///
 /// # Errors
 ///
@@ -129,17 +142,56 @@ fn is_understood(others: bool, piece: &str) -> bool
 fn warn_of_pieces(
     alloc: Global,
     warnings: &mut Vec<EnvWarning>,
+    others: bool,
+    instead: Instead,
     text: &str,
 ) -> Result<(), AllocError>
     ensures { OnOk result (warnings.new.items
-        ≡ warnings.old.items ++ spec.list_warnings text.now) }
+        ≡ warnings.old.items ++ spec.pieces_warnings others instead text.now) }
 {
-    let others = has_others(text);
     for piece in text.split(',') {
-        let piece = cut_blanks(piece);
         let understood = is_understood(others, piece);
-        warn(alloc, warnings, understood, NAME, piece, Instead::Nothing)?;
+        warn(
+            alloc,
+            warnings,
+            understood,
+            NAME,
+            cut_blanks(piece),
+            instead,
+        )?;
     }
+    Ok(())
+}
+
+/// Returns what counts in place of a piece that isn't understood, of a list that counts or not.
+fn instead_of(counts: bool) -> Instead
+    ensures { result ≡ spec.instead_of counts }
+{
+    if counts {
+        Instead::Nothing
+    } else {
+        Instead::W3cPropagators
+    }
+}
+
+/// Adds the warnings about the list, which names a propagator or not, and counts or not.
+///
+/// # Errors
+///
+/// `AllocError` if out of memory.
+fn warn_of_list(
+    alloc: Global,
+    warnings: &mut Vec<EnvWarning>,
+    others: bool,
+    counts: bool,
+    text: &str,
+) -> Result<(), AllocError>
+    ensures { OnOk result (warnings.new.items
+        ≡ warnings.old.items ++ spec.list_warnings others counts text.now) }
+{
+    warn_of_pieces(alloc, warnings, others, instead_of(counts), text)?;
+    let given = has_given(text);
+    warn(alloc, warnings, given, NAME, text, Instead::W3cPropagators)?;
     Ok(())
 }
 
@@ -154,7 +206,7 @@ fn defaults(alloc: Global) -> Result<Vec<EnvPropagator>, AllocError>
     Ok(vec![in alloc; EnvPropagator::TraceContext, EnvPropagator::Baggage]?)
 }
 
-/// Returns the propagators that the variables list.
+/// Returns the propagators that the variables list: the defaults if none of the list is understood.
 ///
 /// # Errors
 ///
@@ -170,10 +222,9 @@ pub(super) fn propagators(
         ++ spec.propagator_warnings (variables_of vars.now)) }
 {
     let text = text_of(vars, NAME);
-    warn_of_pieces(alloc, warnings, text)?;
-    if text.is_empty() {
-        defaults(alloc)
-    } else {
-        listed(alloc, text)
-    }
+    let known = listed(alloc, text)?;
+    let others = !known.is_empty();
+    let counts = others || has_none(text);
+    warn_of_list(alloc, warnings, others, counts, text)?;
+    if counts { Ok(known) } else { defaults(alloc) }
 }

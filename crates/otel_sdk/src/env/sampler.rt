@@ -3,7 +3,7 @@ ghost use Rattle.std.specs.Prelude.{◌≡◌, ◌++◌, IfOk, OnOk};
 ghost use Rattle.otel_sdk.specs.EnvSampler as spec;
 ghost use Rattle.otel_sdk.specs.EnvTexts.{variables_of};
 
-use super::texts::text_of;
+use super::texts::{is_named, text_of};
 use super::warning::{EnvWarning, Instead, warn};
 use crate::trace::{ParentBased, Sampler, SamplingResult, ShouldSample};
 use opentelemetry::trace::{Link, SpanKind, TraceId};
@@ -104,24 +104,24 @@ fn ratio(text: &str) -> Option<f64>
 fn takes_ratio(name: &str) -> bool
     ensures { result ≡ spec.takes_ratio name.now }
 {
-    name == "traceidratio" || name == "parentbased_traceidratio"
+    is_named(name, "traceidratio") || is_named(name, "parentbased_traceidratio")
 }
 
 /// Returns the sampler of the name, with the ratio.
 fn named(name: &str, ratio: f64) -> Option<EnvSampler>
     ensures { result ≡ spec.named name.now ratio }
 {
-    if name == "always_on" {
+    if is_named(name, "always_on") {
         Some(EnvSampler::Plain(Sampler::AlwaysOn))
-    } else if name == "always_off" {
+    } else if is_named(name, "always_off") {
         Some(EnvSampler::Plain(Sampler::AlwaysOff))
-    } else if name == "traceidratio" {
+    } else if is_named(name, "traceidratio") {
         Some(EnvSampler::Plain(Sampler::TraceIdRatioBased(ratio)))
-    } else if name == "parentbased_always_on" {
+    } else if is_named(name, "parentbased_always_on") {
         Some(EnvSampler::ParentBased(Sampler::AlwaysOn))
-    } else if name == "parentbased_always_off" {
+    } else if is_named(name, "parentbased_always_off") {
         Some(EnvSampler::ParentBased(Sampler::AlwaysOff))
-    } else if name == "parentbased_traceidratio" {
+    } else if is_named(name, "parentbased_traceidratio") {
         Some(EnvSampler::ParentBased(Sampler::TraceIdRatioBased(ratio)))
     } else {
         None

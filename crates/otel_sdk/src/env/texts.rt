@@ -20,6 +20,13 @@ pub(super) fn text_of<'a>(vars: &'a [(String, String)], name: &str) -> &'a str
     ""
 }
 
+/// Returns whether the text is the name, in any case.
+pub(super) fn is_named(text: &str, name: &str) -> bool
+    ensures { result ≡ spec.is_named text.now name.now }
+{
+    text.eq_ignore_ascii_case(name)
+}
+
 /// Returns whether the text has only ASCII digits.
 fn has_digits(text: &str) -> bool
     ensures { result ≡ spec.has_digits text.now }

@@ -23,6 +23,8 @@ pub enum Instead {
     Otlp,
     /// The text `http/json`.
     HttpJson,
+    /// The text `tracecontext,baggage`.
+    W3cPropagators,
 }
 
 impl fmt::Display for Instead {
@@ -40,6 +42,7 @@ impl fmt::Display for Instead {
             Instead::ParentBasedAlwaysOn => f.write_str("parentbased_always_on counts instead"),
             Instead::Otlp => f.write_str("otlp counts instead"),
             Instead::HttpJson => f.write_str("http/json counts instead"),
+            Instead::W3cPropagators => f.write_str("tracecontext,baggage counts instead"),
         }
     }
 }

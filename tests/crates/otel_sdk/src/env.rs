@@ -126,6 +126,31 @@ fn propagators_are_listed_once(rt: HostRuntime) -> Result<(), Fail> {
     Ok(())
 }
 
+#[test]
+fn propagators_have_any_case_and_defaults(rt: HostRuntime) -> Result<(), Fail> {
+    let alloc = rt.alloc();
+    let w3c = "[TraceContext, Baggage]";
+    let default = "tracecontext,baggage counts instead\n";
+    for (text, wanted, faulty, instead) in [
+        ("TraceContext", "[TraceContext]", "", ""),
+        ("B3,b3Multi", "[B3, B3Multi]", "", ""),
+        ("None", "[]", "", ""),
+        ("jaeger", w3c, "jaeger", default),
+        (",", w3c, ",", default),
+        ("jaeger,b3", "[B3]", "jaeger", "it is left out\n"),
+        ("NONE,jaeger", "[]", "jaeger", "it is left out\n"),
+    ] {
+        let config = config(alloc, &[("OTEL_PROPAGATORS", text)])?;
+        let propagators = &config.propagators;
+        let named = format!(in alloc; "{propagators:?}")?;
+        assert!(rt; named.as_str() == wanted);
+        let line = format!(in alloc; "OTEL_PROPAGATORS can't be {faulty:?}: {instead}")?;
+        let lines = if faulty.is_empty() { "" } else { line.as_str() };
+        assert!(rt; warns(alloc, &config, lines)?);
+    }
+    Ok(())
+}
+
 /// The sampler of the name and the argument, and the number of warnings.
 fn sampler(alloc: Global, name: &str, arg: &str) -> Result<(EnvSampler, usize), Fail> {
     let vars = [
@@ -175,7 +200,8 @@ fn sampler_has_its_name(rt: HostRuntime) -> Result<(), Fail> {
             EnvSampler::ParentBased(Sampler::AlwaysOff),
             0,
         ),
-        ("ParentBased_Always_On", default, 1),
+        ("ALWAYS_OFF", EnvSampler::Plain(Sampler::AlwaysOff), 0),
+        ("ParentBased_Always_On", default, 0),
         ("sometimes", default, 1),
     ] {
         let (sampler, warned) = sampler(alloc, name, "x")?;

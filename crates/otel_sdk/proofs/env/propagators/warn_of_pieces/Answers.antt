@@ -10,13 +10,13 @@ pub loop-piece-preserved : goal.loop-piece-preserved
 loop-piece-preserved c =
     let road = YieldsList-at c.into_iter-piece-iterator.ensures.into_iter_gives (YieldsList-from_str_split 44 c.args.text.now (lit< tt) c.split-piece-items.ensures.text c.split-piece-items.ensures.has_more c.split-piece-items.ensures.pattern) in
     let turn = YieldsList-turn road c.loop-piece.yielded _ c.loop-piece.yielded_by _ _ c.in-Some.piece c.in-Some.is c.next.ensures.steps in
-    let others = spec.has_others c.args.text.now in
-    let step : c.warn.new.warnings.items ≡ c.loop-piece.warnings.items ++ spec.piece_warnings others c.in-Some.piece.now =
-    rw (← c.has_others-others.ensures, ← c.cut_blanks-piece.ensures, ← c.is_understood-understood.ensures) c.in_ok-warn.ensures in
-    warned_more (spec.piece_warnings others) (spec.pieces c.args.text.now) (length c.loop-piece.yielded) _ c.in-Some.piece.now c.args.warnings.now.items c.loop-piece.warnings.items _ (length_push c.loop-piece.yielded c.in-Some.piece) turn step c.loop-piece.invariant
+    let warnings = spec.piece_warnings c.args.others c.args.instead in
+    let step : c.warn.new.warnings.items ≡ c.loop-piece.warnings.items ++ warnings c.in-Some.piece.now =
+    rw (← c.is_understood-understood.ensures, ← c.cut_blanks.ensures) c.in_ok-warn.ensures in
+    warned_more warnings (spec.pieces c.args.text.now) (length c.loop-piece.yielded) _ c.in-Some.piece.now c.args.warnings.now.items c.loop-piece.warnings.items _ (length_push c.loop-piece.yielded c.in-Some.piece) turn step c.loop-piece.invariant
 
 pub returns : goal.returns
 returns c =
     let road = YieldsList-at c.into_iter-piece-iterator.ensures.into_iter_gives (YieldsList-from_str_split 44 c.args.text.now (lit< tt) c.split-piece-items.ensures.text c.split-piece-items.ensures.has_more c.split-piece-items.ensures.pattern) in
     let t = YieldsList-end road c.loop-piece.yielded _ c.loop-piece.yielded_by _ _ c.in-None.is c.next.ensures.steps in
-    warned_all (spec.piece_warnings (spec.has_others c.args.text.now)) (spec.pieces c.args.text.now) (length c.loop-piece.yielded) c.args.warnings.now.items c.loop-piece.warnings.items (omega (arith, t.1)) c.loop-piece.invariant
+    warned_all (spec.piece_warnings c.args.others c.args.instead) (spec.pieces c.args.text.now) (length c.loop-piece.yielded) c.args.warnings.now.items c.loop-piece.warnings.items (omega (arith, t.1)) c.loop-piece.invariant

@@ -7,4 +7,4 @@ use Rattle.otel_sdk.proofs.env.propagators.warn_of_pieces.Given as goal
 abbrev pub invariant-loop-piece : goal.invariant-loop-piece
 invariant-loop-piece l =
     l.warnings.items ≡ l.initial.warnings.items
-    ++ flat_map (spec.piece_warnings (spec.has_others l.text)) (take (length l.yielded) (spec.pieces l.text))
+    ++ flat_map (spec.piece_warnings l.others l.instead) (take (length l.yielded) (spec.pieces l.text))

@@ -1,11 +1,11 @@
 use Rattle.std.proofs.Common.{rules, tests, lit<}
 use Rattle.std.proofs.lemmas.Iterator.Search.{any_from_yields_List}
 use Rattle.std.proofs.lemmas.Iterator.Splits.{YieldsList-from_str_split}
-use Rattle.otel_sdk.specs.EnvPropagators.{is_other}
-use Rattle.otel_sdk.proofs.env.propagators.has_others.Goals as goal
+use Rattle.otel_sdk.specs.EnvPropagators.{is_given}
+use Rattle.otel_sdk.proofs.env.propagators.has_given.Goals as goal
 
 pub returns : goal.returns
 returns c =
-    any_from_yields_List is_other _ _ _ c.any.ensures.ran
+    any_from_yields_List is_given _ _ _ c.any.ensures.ran
     (YieldsList-from_str_split 44 c.args.text.now (lit< tt) c.split.ensures.text c.split.ensures.has_more c.split.ensures.pattern)
     (λ x b q k. search (rules, tests))
