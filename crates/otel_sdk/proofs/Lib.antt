@@ -1,3 +1,4 @@
+mod BaggageProcessorLemmas
 mod DrawLemmas
 mod EnvLemmas
 mod EnvVariableLemmas

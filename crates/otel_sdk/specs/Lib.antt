@@ -1,3 +1,4 @@
+pub mod BaggageProcessor
 pub mod ConfiguredPropagator
 pub mod EnvConfig
 pub mod EnvExport

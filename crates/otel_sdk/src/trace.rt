@@ -21,6 +21,7 @@ pub use otel_sdk_base::{
 };
 pub use otel_sdk_span::{SdkSpan, SpanData, SpanEvents, SpanExporter, SpanLimits, SpanLinks};
 pub use processor::SpanProcessor;
+pub use processor::baggage::BaggageSpanProcessor;
 pub use processor::batch::BatchSpanProcessor;
 pub use processor::simple::SimpleSpanProcessor;
 pub use provider::{SdkTracerProvider, TracerProviderBuilder};

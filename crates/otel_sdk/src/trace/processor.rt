@@ -4,6 +4,7 @@ ghost use Rattle.std.specs.Rc.{rc_value};
 ghost use Rattle.otel_sdk.specs.Processor.{AddsToAccount, KeepsAccount, ids_of};
 ghost use Rattle.otel_sdk_span.specs.SpanData.{SpanRecord};
 
+pub(crate) mod baggage;
 pub(crate) mod batch;
 mod list;
 pub(crate) mod simple;

@@ -2,8 +2,9 @@
 //! calls succeed, printed texts, and worked cases.
 #![tactic(auto)]
 
-// Depends on: anyhow test_support
+// Depends on: anyhow otel_otlp otel_waterfall test_support
 
+mod baggage_processor;
 mod builders;
 mod calls;
 mod disabled;
@@ -19,6 +20,7 @@ mod processor;
 mod processors;
 mod propagator;
 mod ratio;
+mod recipes;
 mod runs;
 mod sampler;
 mod shown;
