@@ -1,5 +1,6 @@
-//! Texts, values, scopes, trace states and baggage.
+//! Texts, values, scopes, trace states, baggage, and values in Protocol Buffers.
 mod baggages;
+mod protos;
 pub mod scopes;
 mod texts;
 mod trace_states;
@@ -12,4 +13,5 @@ pub fn play<R: Print>(alloc: Global, lines: &Lines<'_, R>) {
     texts::play(alloc, lines);
     scopes::play(alloc, lines);
     baggages::play(alloc, lines);
+    protos::play(alloc, lines);
 }

@@ -3,9 +3,12 @@ use crate::lines::Lines;
 use crate::sdk::export::{child, span};
 use crate::sdk::tracer::resource;
 use crate::sdk::tracing::exports::Tally;
+use opentelemetry::baggage::Baggage;
+use opentelemetry::{Context, Key, StringValue};
 use otel_sdk::error::OTelSdkResult;
 use otel_sdk::trace::{
-    BatchSpanProcessor, InMemorySpanExporter, SimpleSpanProcessor, SpanProcessor,
+    BaggageSpanProcessor, BatchSpanProcessor, InMemorySpanExporter, SdkSpan, SimpleSpanProcessor,
+    SpanLimits, SpanProcessor,
 };
 use std::alloc::{AllocError, Global};
 use std::rc::Rc;
@@ -26,6 +29,12 @@ pub fn play<R: Print>(alloc: Global, lines: &Lines<'_, R>) {
     }
     if lines.begin("processors-on-end") {
         lines.end(end_in_two(alloc, lines));
+    }
+    if lines.begin("baggage-processor-on-start") {
+        lines.end(copy_baggage(alloc, lines));
+    }
+    if lines.begin("baggage-processor-flush") {
+        lines.end(flush_baggage(alloc, lines));
     }
 }
 
@@ -213,5 +222,46 @@ fn set_resource<R: Print, P: SpanProcessor>(
 ) -> Result<(), AllocError> {
     let resource = Rc::new(alloc, resource(alloc)?)?;
     lines.free_ok(call, processor.set_resource(&resource));
+    Ok(())
+}
+
+/// A context with two members whose keys and values are owned.
+fn with_members(alloc: Global) -> Result<Context, AllocError> {
+    let mut baggage = Baggage::new(alloc);
+    for (key, value) in [("tenant", "acme"), ("region", "eu")] {
+        let key = Key::from(String::from_str(alloc, key)?);
+        let value = StringValue::from(String::from_str(alloc, value)?);
+        drop(baggage.insert(key, value)?);
+    }
+    Context::new().with_baggage(alloc, baggage)
+}
+
+/// The start of a span under two members: each is copied, or counted as missed.
+fn copy_baggage<R: Print>(alloc: Global, lines: &Lines<'_, R>) -> Result<(), AllocError> {
+    let parent = with_members(alloc)?;
+    let mut span = SdkSpan::new(alloc, span(alloc)?, SpanLimits::default())?;
+    let mut processor = BaggageSpanProcessor::all();
+    processor.on_start(alloc, &mut span, &parent);
+    let missed = processor.missed_members();
+    if missed == 0 {
+        lines.answer(&"copied");
+    } else {
+        lines.answer(&AllocError);
+    }
+    let copied = span.data().map_or(0, |data| data.attributes.len());
+    lines.due(copied as u64 + missed == 2);
+    Ok(())
+}
+
+/// The calls that do nothing.
+fn flush_baggage<R: Print>(alloc: Global, lines: &Lines<'_, R>) -> Result<(), AllocError> {
+    let resource = Rc::new(alloc, resource(alloc)?)?;
+    let mut processor = BaggageSpanProcessor::all();
+    let told = processor.set_resource(&resource);
+    lines.free_ok("BaggageSpanProcessor::set_resource", told);
+    let flushed = processor.force_flush();
+    lines.free_ok("BaggageSpanProcessor::force_flush", flushed);
+    let closed = processor.shutdown();
+    lines.free_ok("BaggageSpanProcessor::shutdown", closed);
     Ok(())
 }

@@ -1,0 +1,12 @@
+use Rattle.std.proofs.Common.{◌≡◌, ◌++◌, List, ℤ}
+use Rattle.otel_proto.specs.Common.{integer_value}
+use Rattle.otel_proto.specs.Output.{put}
+use Rattle.otel_proto.specs.Written.{messages}
+use Rattle.otel_proto.proofs.common.integer_values.Given as goal
+
+abbrev pub invariant-loop-item : goal.invariant-loop-item
+invariant-loop-item l = record {
+  done : List (ℤ);
+  whole : l.item-iterator.iter.rest.now ++ done ≡ l.items;
+  put : l.out ≡ put (messages 1 integer_value done) l.initial.out;
+}

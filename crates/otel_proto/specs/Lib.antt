@@ -1,0 +1,6 @@
+pub mod Common
+pub mod Laws
+pub mod Output
+pub mod Trees
+pub mod Wire
+pub mod Written
