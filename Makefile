@@ -19,6 +19,7 @@
 #   make edit CRATE=C EDIT=E        checks that the prover refuses one wrong body, in seconds after a check of the crate
 #   make mutants                    the same for all wrong bodies, from nothing; CRATE=C of one crate
 #   make untried                    the same for the ones that may have become right
+#   make budgets                    measures the processor minutes and the memory of each crate's proof, from nothing
 #   make vectors                    compares answers with recorded ones of the Rust crate
 #   make otlp                       reads lines of JSON with another implementation
 #   make b3                         exchanges headers of B3 with Zipkin's libraries
@@ -52,7 +53,7 @@ GIVEN := $(if $(filter -,$(INPUT)),,< "$(INPUT)")
 CRATES := $(patsubst crates/%/src,%,$(wildcard crates/*/src))
 IS_CRATE = @$(if $(filter $(CRATE),$(CRATES)),true,echo 'make $@: name a crate, as in `make $@ CRATE=otel_ids`: $(CRATES)' >&2; exit 2)
 
-.PHONY: run prove example example-collector view example-c install test check tests edit mutants untried vectors otlp b3 page collector c fuzz-c misuse memory viewer long calls new-crate fuzz documents bench
+.PHONY: run prove example example-collector view example-c install test check tests edit mutants untried budgets vectors otlp b3 page collector c fuzz-c misuse memory viewer long calls new-crate fuzz documents bench
 
 run:
 	@program=$$(tests/tools/programs.py path otel_carry) && "$$program" $(GIVEN)
@@ -101,6 +102,9 @@ mutants:
 
 untried:
 	@tests/tools/edits --untried
+
+budgets:
+	@tests/tools/progress.py 'each proof' tests/tools/costs.py
 
 vectors:
 	@tests/tools/progress.py --part vectors tests/vectors/run

@@ -10,10 +10,16 @@ def words(text, dropped):
     return "".join("Ref" if it == "&" else it[0].upper() + it[1:] for it in found if it not in dropped)
 
 
+def tuple_of(text):
+    """The name of a tuple of type parameters in the name of an `impl`: Unit, or Tuple2 for `(A, B)`."""
+    inside = re.fullmatch(r"\((.*)\)", text.strip())
+    return inside and (f"Tuple{inside[1].count(',') + 1}" if inside[1] else "Unit")
+
+
 def owner_of(header):
     """The name of a trait or an `impl` in the path of its functions, such as TraceState, TraceStateClone or
-    HashMapStringInjector. An `impl` of a trait for a type parameter is AnyStampedRecord, and an `impl` of some instances of a type
-    is SdkLoggerProvider+SystemClock+R."""
+    HashMapStringInjector. An `impl` of a trait for a type parameter is AnyStampedRecord, for a pair of them Tuple2SpanProcessor, and
+    an `impl` of some instances of a type is SdkLoggerProvider+SystemClock+R."""
     kind, rest = re.match(r"(?:pub(?:\(\w+\))? )?(impl|trait)\b\s*(.*)", header, re.S).groups()
     if kind == "trait":
         return re.match(r"\w+", rest)[0]
@@ -24,7 +30,7 @@ def owner_of(header):
         dropped, rest = re.findall(r"[<,]\s*(?:const )?(\w+)", rest[:end]), rest[end:]
     trait, is_for, of = re.split(r"\bwhere\b|\{", rest)[0].partition(" for ")
     if is_for and trait.strip() != "Drop":
-        return (words(of, dropped) or "Any") + words(trait, dropped)
+        return (tuple_of(of) or words(of, dropped) or "Any") + words(trait, dropped)
     name, *given = re.findall(r"\w+", re.sub(r"'\w+|\w+::", "", of or trait).replace("()", "unit"))
     return "+".join((name, *given)) if set(given) - {*dropped} else name
 

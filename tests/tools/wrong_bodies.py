@@ -89,6 +89,7 @@ def wrong_bodies(crate):
     return {it.name: it for it in sorted(found, key=lambda it: it.name)}
 
 
+@functools.cache
 def by_source(crate):
     """The wrong bodies of the crate, by the first source that each changes."""
     found = {}
