@@ -1,5 +1,3 @@
-pub mod Outputs
-pub mod ReadBack
-pub mod Readable
+pub mod shared
 pub mod TreeFields
 pub mod Varints

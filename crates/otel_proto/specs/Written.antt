@@ -57,6 +57,13 @@ boolean number b = (number, varint (if b then 1 else 0))
 abbrev pub bytes_unless_empty : ℕ → List ℕ → List Field
 bytes_unless_empty number s = if length s == 0 then [] else (number, bytes s) ∷ []
 
+-- left out if it is 0
+abbrev pub number_unless_zero : ℕ → ℕ → List Field
+number_unless_zero number v = if v == 0 then [] else (number, varint v) ∷ []
+
+abbrev pub fixed64_unless_zero : ℕ → ℕ → List Field
+fixed64_unless_zero number v = if v == 0 then [] else (number, fixed64 v) ∷ []
+
 -- ---- worked rows
 small_example : varint_bytes 127 ≡ 0x7f ∷ []
 unfolding varint_bytes

@@ -111,8 +111,12 @@ fn key_value(out: &mut Output, attribute: &KeyValue) -> Result<(), AllocError>
     put_bytes_unless_empty(out, 1, attribute.key.as_str().as_bytes())
 }
 
-/// Puts each attribute, as a field of the number.
-pub(crate) fn put_attributes(
+/// Puts each attribute, as a field of the number (the protocol's `KeyValue`).
+///
+/// # Errors
+///
+/// `AllocError` if the bytes don't fit the output, which may then hold some of them.
+pub fn put_attributes(
     out: &mut Output,
     number: u32,
     attributes: &[KeyValue],

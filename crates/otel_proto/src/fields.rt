@@ -1,7 +1,7 @@
 //! The fields of a message, which are put before the fields after them.
 ghost use Rattle.std.specs.Prelude.{◌≡◌, ◌<◌, ◌∷◌, [], OnOk};
 ghost use Rattle.otel_proto.specs.Output.{Puts, put_bytes, put_head};
-ghost use Rattle.otel_proto.specs.Wire.{varint, bytes};
+ghost use Rattle.otel_proto.specs.Wire.{varint, fixed32, bytes};
 ghost use Rattle.otel_proto.specs.Written as spec;
 ghost use Rattle.otel_proto.specs.Written.{varint_bytes};
 
@@ -10,8 +10,12 @@ use std::alloc::AllocError;
 
 /// The wire type of a varint.
 const VARINT: u64 = 0;
+/// The wire type of 8 bytes.
+const FIXED64: u64 = 1;
 /// The wire type of bytes after their length.
 const BYTES: u64 = 2;
+/// The wire type of 4 bytes.
+const FIXED32: u64 = 5;
 
 /// Puts a varint, which has 7 bits a byte, the lowest first.
 fn put_varint(out: &mut Output, value: u64) -> Result<(), AllocError>
@@ -32,12 +36,57 @@ fn put_tag(out: &mut Output, number: u32, kind: u64) -> Result<(), AllocError>
     put_varint(out, u64::from(number) * 8 + kind)
 }
 
-/// Puts a varint.
-pub(crate) fn put_number(out: &mut Output, number: u32, value: u64) -> Result<(), AllocError>
+/// Puts a number (the protocol's `enum`, `uint32`, `uint64`).
+///
+/// # Errors
+///
+/// `AllocError` if the bytes don't fit the output, which may then hold some of them.
+pub fn put_number(out: &mut Output, number: u32, value: u64) -> Result<(), AllocError>
     ensures { Puts result out.old out.new ((number, varint value) ∷ []) }
 {
     put_varint(out, value)?;
     put_tag(out, number, VARINT)
+}
+
+/// Puts a number, unless it is 0.
+///
+/// # Errors
+///
+/// `AllocError` if the bytes don't fit the output, which may then hold some of them.
+pub fn put_number_unless_zero(out: &mut Output, number: u32, value: u32) -> Result<(), AllocError>
+    ensures { Puts result out.old out.new (spec.number_unless_zero number value) }
+{
+    if value == 0 {
+        return Ok(());
+    }
+    put_number(out, number, value as u64)
+}
+
+/// Puts 8 bytes, the lowest first, unless the number is 0 (the protocol's `fixed64`).
+///
+/// # Errors
+///
+/// `AllocError` if the bytes don't fit the output, which may then hold some of them.
+pub fn put_fixed64_unless_zero(out: &mut Output, number: u32, value: u64) -> Result<(), AllocError>
+    ensures { Puts result out.old out.new (spec.fixed64_unless_zero number value) }
+{
+    if value == 0 {
+        return Ok(());
+    }
+    out.put(&u64::to_le_bytes(value))?;
+    put_tag(out, number, FIXED64)
+}
+
+/// Puts 4 bytes, the lowest first (the protocol's `fixed32`).
+///
+/// # Errors
+///
+/// `AllocError` if the bytes don't fit the output, which may then hold some of them.
+pub fn put_fixed32(out: &mut Output, number: u32, value: u32) -> Result<(), AllocError>
+    ensures { Puts result out.old out.new ((number, fixed32 value) ∷ []) }
+{
+    out.put(&u32::to_le_bytes(value))?;
+    put_tag(out, number, FIXED32)
 }
 
 /// Puts a boolean.
@@ -55,7 +104,11 @@ pub(crate) fn put_integer(out: &mut Output, number: u32, value: i64) -> Result<(
 }
 
 /// Puts the tag of bytes, and the length of the bytes that were put since the count was `end`.
-pub(crate) fn put_head(out: &mut Output, number: u32, end: usize) -> Result<(), AllocError>
+///
+/// # Errors
+///
+/// `AllocError` if the bytes don't fit the output, which may then hold some of them.
+pub fn put_head(out: &mut Output, number: u32, end: usize) -> Result<(), AllocError>
     ensures { OnOk result (out.new ≡ put_head number end out.old) }
 {
     let length = out.count().saturating_sub(end);
@@ -64,7 +117,11 @@ pub(crate) fn put_head(out: &mut Output, number: u32, end: usize) -> Result<(), 
 }
 
 /// Puts bytes.
-pub(crate) fn put_bytes(out: &mut Output, number: u32, value: &[u8]) -> Result<(), AllocError>
+///
+/// # Errors
+///
+/// `AllocError` if the bytes don't fit the output, which may then hold some of them.
+pub fn put_bytes(out: &mut Output, number: u32, value: &[u8]) -> Result<(), AllocError>
     ensures { Puts result out.old out.new ((number, bytes value.now) ∷ []) }
 {
     let end = out.count();
@@ -73,15 +130,26 @@ pub(crate) fn put_bytes(out: &mut Output, number: u32, value: &[u8]) -> Result<(
 }
 
 /// Puts bytes, unless there are none.
-pub(crate) fn put_bytes_unless_empty(
-    out: &mut Output,
-    number: u32,
-    value: &[u8],
-) -> Result<(), AllocError>
+///
+/// # Errors
+///
+/// `AllocError` if the bytes don't fit the output, which may then hold some of them.
+pub fn put_bytes_unless_empty(out: &mut Output, number: u32, value: &[u8]) -> Result<(), AllocError>
     ensures { Puts result out.old out.new (spec.bytes_unless_empty number value.now) }
 {
     if value.is_empty() {
         return Ok(());
     }
     put_bytes(out, number, value)
+}
+
+/// Puts a string, unless it is empty.
+///
+/// # Errors
+///
+/// `AllocError` if the bytes don't fit the output, which may then hold some of them.
+pub fn put_text_unless_empty(out: &mut Output, number: u32, text: &str) -> Result<(), AllocError>
+    ensures { Puts result out.old out.new (spec.bytes_unless_empty number text.now) }
+{
+    put_bytes_unless_empty(out, number, text.as_bytes())
 }

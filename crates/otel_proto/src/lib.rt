@@ -8,5 +8,10 @@ pub mod laws;
 mod output;
 mod trees;
 
-pub use common::key_value_list_bytes;
-pub use trees::any_value_bytes;
+pub use common::{key_value_list_bytes, put_attributes};
+pub use fields::{
+    put_bytes, put_bytes_unless_empty, put_fixed32, put_fixed64_unless_zero, put_head, put_number,
+    put_number_unless_zero, put_text_unless_empty,
+};
+pub use output::Output;
+pub use trees::{MAX_LEVELS, any_value_bytes, put_entry, put_value};

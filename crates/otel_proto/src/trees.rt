@@ -19,7 +19,7 @@ use std::collections::BTreeMap;
 
 /// The maximum number of lists and maps within each other that are written. Readers take 100
 /// messages within each other, and a map within a map is three.
-const MAX_LEVELS: u32 = 30;
+pub const MAX_LEVELS: u32 = 30;
 
 /// Puts the value of the tree (the protocol's `AnyValue`), with the string `..` for each list and
 /// map within `levels` others.
@@ -110,6 +110,31 @@ fn put_pair(out: &mut Output, key: &Key, value: &AnyValue, levels: u32) -> Resul
     tree_value(out, value, levels)?;
     put_head(out, 2, end)?;
     put_bytes_unless_empty(out, 1, key.as_str().as_bytes())
+}
+
+/// Puts the fields of a value (the protocol's `AnyValue`). Each list or map inside 30 others is the
+/// string `..`.
+///
+/// # Errors
+///
+/// `AllocError` if the bytes don't fit the output, which may then hold some of them.
+pub fn put_value(out: &mut Output, value: &AnyValue) -> Result<(), AllocError>
+    ensures { Puts result out.old out.new (spec.tree_value spec.max_levels (tree value.now)) }
+{
+    tree_value(out, value, MAX_LEVELS)
+}
+
+/// Puts the fields of a key with its value (the protocol's `KeyValue`). Each list or map inside 30
+/// others is the string `..`.
+///
+/// # Errors
+///
+/// `AllocError` if the bytes don't fit the output, which may then hold some of them.
+pub fn put_entry(out: &mut Output, key: &Key, value: &AnyValue) -> Result<(), AllocError>
+    ensures { Puts result out.old out.new
+        (common.pair key.now (spec.tree_value spec.max_levels (tree value.now))) }
+{
+    put_pair(out, key, value, MAX_LEVELS)
 }
 
 /// Returns a value as the bytes of the protocol's `AnyValue`.

@@ -1,7 +1,11 @@
 //! Calls that write values in Protocol Buffers.
 use crate::lines::Lines;
 use otel_base::{AnyValue, Key, KeyValue, Value};
-use otel_proto::{any_value_bytes, key_value_list_bytes};
+use otel_proto::{
+    Output, any_value_bytes, key_value_list_bytes, put_attributes, put_bytes,
+    put_bytes_unless_empty, put_entry, put_fixed32, put_fixed64_unless_zero, put_head, put_number,
+    put_number_unless_zero, put_text_unless_empty, put_value,
+};
 use std::alloc::{AllocError, Global};
 
 pub fn play<R: Print>(alloc: Global, lines: &Lines<'_, R>) {
@@ -10,6 +14,9 @@ pub fn play<R: Print>(alloc: Global, lines: &Lines<'_, R>) {
     }
     if lines.begin("proto-attributes") {
         lines.end(attributes(alloc, lines));
+    }
+    if lines.begin("proto-output") {
+        lines.end(output(alloc, lines));
     }
 }
 
@@ -37,5 +44,33 @@ fn attributes<R: Print>(alloc: Global, lines: &Lines<'_, R>) -> Result<(), Alloc
         KeyValue::new(Key::from("a"), Value::from("b")),
     ];
     answer_bytes(lines, key_value_list_bytes(alloc, &pairs));
+    Ok(())
+}
+
+/// Fields before each other in one buffer, which is allocated first.
+fn output<R: Print>(alloc: Global, lines: &Lines<'_, R>) -> Result<(), AllocError> {
+    let mut out = Output::with_size(alloc, 49)?;
+    let given = [KeyValue::new(Key::from("k"), Value::from(7))];
+    let value = AnyValue::Int(7);
+    lines.free_ok("put_number", put_number(&mut out, 1, 300));
+    let some = put_number_unless_zero(&mut out, 2, 1);
+    lines.free_ok("put_number_unless_zero", some);
+    let time = put_fixed64_unless_zero(&mut out, 3, 1);
+    lines.free_ok("put_fixed64_unless_zero", time);
+    lines.free_ok("put_fixed32", put_fixed32(&mut out, 4, 1));
+    lines.free_ok("put_bytes", put_bytes(&mut out, 5, b"a"));
+    let some = put_bytes_unless_empty(&mut out, 6, b"a");
+    lines.free_ok("put_bytes_unless_empty", some);
+    let text = put_text_unless_empty(&mut out, 7, "a");
+    lines.free_ok("put_text_unless_empty", text);
+    lines.free_ok("put_attributes", put_attributes(&mut out, 8, &given));
+    lines.free_ok("put_value", put_value(&mut out, &value));
+    let entry = put_entry(&mut out, &Key::from("k"), &value);
+    lines.free_ok("put_entry", entry);
+    let end = out.count();
+    lines.free_ok("put_head", put_head(&mut out, 9, end));
+    lines.free_ok("Output::put", out.put(b"z"));
+    let bytes = out.into_bytes();
+    lines.free_ok("Output::into_bytes", bytes);
     Ok(())
 }

@@ -2,7 +2,7 @@ use Rattle.std.proofs.Common.{◌≡◌, OnOk, ap, ◌∙◌, subst}
 use Rattle.otel_base.specs.View.{array_of}
 use Rattle.otel_proto.specs.Common.{array_values}
 use Rattle.otel_proto.specs.Output.{Output, put_head}
-use Rattle.otel_proto.proofs.Outputs.{put_message}
+use Rattle.otel_proto.proofs.shared.Outputs.{put_message}
 use Rattle.otel_proto.proofs.common.array_value.Goals as goal
 
 pub returns : goal.returns

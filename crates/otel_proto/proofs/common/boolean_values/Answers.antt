@@ -2,7 +2,7 @@ use Rattle.std.proofs.Common.{[], ◌∷◌, append-nil, sym, ap, ◌∙◌}
 use Rattle.otel_proto.specs.Common.{boolean_value}
 use Rattle.otel_proto.specs.Output.{put}
 use Rattle.otel_proto.specs.Written.{messages}
-use Rattle.otel_proto.proofs.Outputs.{put_none, put_more, one_less, all_done}
+use Rattle.otel_proto.proofs.shared.Outputs.{put_none, put_more, one_less, all_done}
 use Rattle.otel_proto.proofs.common.boolean_values.Goals as goal
 
 pub loop-item-init : goal.loop-item-init

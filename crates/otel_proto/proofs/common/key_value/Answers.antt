@@ -3,7 +3,7 @@ use Rattle.otel_base.specs.View.{attribute_of}
 use Rattle.otel_proto.specs.Common.{any_value}
 use Rattle.otel_proto.specs.Output.{Output, put, put_head}
 use Rattle.otel_proto.specs.Written.{message, bytes_unless_empty}
-use Rattle.otel_proto.proofs.Outputs.{put_message, put_both}
+use Rattle.otel_proto.proofs.shared.Outputs.{put_message, put_both}
 use Rattle.otel_proto.proofs.common.key_value.Goals as goal
 
 pub returns : goal.returns

@@ -3,7 +3,7 @@ use Rattle.otel_base.specs.View.{attribute_of}
 use Rattle.otel_base.specs.declared.key_value.KeyValue.{KeyValue}
 use Rattle.otel_proto.specs.Common.{key_value, attributes}
 use Rattle.otel_proto.specs.Output.{put}
-use Rattle.otel_proto.proofs.Outputs.{put_none, put_more, one_less, all_done}
+use Rattle.otel_proto.proofs.shared.Outputs.{put_none, put_more, one_less, all_done}
 use Rattle.otel_proto.proofs.common.put_attributes.Goals as goal
 
 pub loop-attribute-init : goal.loop-attribute-init

@@ -1,7 +1,7 @@
 use Rattle.std.proofs.Common.{◌≡◌, ◌∷◌, [], ◌%◌, ◌/◌, ◌+◌, OnOk, ℕ, List, sym, ap, ◌∙◌, subst}
 use Rattle.otel_proto.specs.Output.{Output, put_bytes}
 use Rattle.otel_proto.specs.Written.{varint_bytes}
-use Rattle.otel_proto.proofs.Outputs.{bytes_twice}
+use Rattle.otel_proto.proofs.shared.Outputs.{bytes_twice}
 use Rattle.otel_proto.proofs.Varints.{varint_small, varint_large}
 use Rattle.otel_proto.proofs.fields.+put_varint.Goals as goal
 

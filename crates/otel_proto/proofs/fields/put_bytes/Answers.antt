@@ -1,6 +1,6 @@
 use Rattle.std.proofs.Common.{◌≡◌, OnOk, ap, ◌∙◌, subst}
 use Rattle.otel_proto.specs.Output.{Output, put_head}
-use Rattle.otel_proto.proofs.Outputs.{put_bytes_field}
+use Rattle.otel_proto.proofs.shared.Outputs.{put_bytes_field}
 use Rattle.otel_proto.proofs.fields.put_bytes.Goals as goal
 
 pub returns : goal.returns

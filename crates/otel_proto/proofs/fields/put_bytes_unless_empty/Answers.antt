@@ -1,5 +1,5 @@
 use Rattle.std.proofs.Common.{sym, ◌∙◌}
-use Rattle.otel_proto.proofs.Outputs.{put_empty}
+use Rattle.otel_proto.proofs.shared.Outputs.{put_empty}
 use Rattle.otel_proto.proofs.fields.put_bytes_unless_empty.Goals as goal
 
 pub returns-then-is_empty : goal.returns-then-is_empty

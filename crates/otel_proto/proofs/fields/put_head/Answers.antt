@@ -1,7 +1,7 @@
 use Rattle.std.proofs.Common.{◌≡◌, ◌-◌, OnOk, ap, ◌∙◌, subst}
 use Rattle.otel_proto.specs.Output.{Output, put_bytes}
 use Rattle.otel_proto.specs.Written.{tag}
-use Rattle.otel_proto.proofs.Outputs.{put_head_parts}
+use Rattle.otel_proto.proofs.shared.Outputs.{put_head_parts}
 use Rattle.otel_proto.proofs.fields.put_head.Goals as goal
 
 pub returns : goal.returns

@@ -1,7 +1,7 @@
 use Rattle.std.proofs.Common.{◌≡◌, OnOk, ap, ◌∙◌, subst}
 use Rattle.otel_proto.specs.Output.{Output, put_bytes}
 use Rattle.otel_proto.specs.Written.{tag}
-use Rattle.otel_proto.proofs.Outputs.{put_varint_field}
+use Rattle.otel_proto.proofs.shared.Outputs.{put_varint_field}
 use Rattle.otel_proto.proofs.fields.put_number.Goals as goal
 
 pub returns : goal.returns

@@ -7,7 +7,7 @@ use Rattle.otel_proto.specs.Output.{Output, put, put_head, Puts}
 use Rattle.otel_proto.specs.Trees.{tree_value, list_values, map_values}
 use Rattle.otel_proto.specs.Wire.{Field}
 use Rattle.otel_proto.specs.Written.{message, messages, bytes_unless_empty}
-use Rattle.otel_proto.proofs.Outputs.{put_none, put_more, put_both, put_message, one_less, all_done}
+use Rattle.otel_proto.proofs.shared.Outputs.{put_none, put_more, put_both, put_message, one_less, all_done}
 use Rattle.otel_proto.proofs.TreeFields.{Entry, value_fields, entry_fields, list_view, map_view}
 use Rattle.otel_proto.proofs.trees.+tree.Goals as goal
 

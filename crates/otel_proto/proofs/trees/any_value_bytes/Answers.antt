@@ -1,10 +1,10 @@
 use Rattle.std.proofs.Common.{◌≡◌, ◌∙◌, ap}
 use Rattle.std.proofs.lemmas.Result.{IfOk-weaker}
 use Rattle.otel_proto.specs.Output.{put, writing}
-use Rattle.otel_proto.proofs.Outputs.{whole_bytes}
+use Rattle.otel_proto.proofs.shared.Outputs.{whole_bytes}
 use Rattle.otel_base.specs.View.{tree}
 use Rattle.otel_proto.specs.Trees.{tree_value, max_levels}
-use Rattle.otel_proto.proofs.Readable.{bytes_read, both}
+use Rattle.otel_proto.proofs.shared.Readable.{bytes_read, both}
 use Rattle.otel_proto.proofs.trees.any_value_bytes.Goals as goal
 
 pub returns : goal.returns

@@ -1,19 +1,20 @@
 -- Bytes in a buffer, read.
-use Rattle.std.proofs.Common.{◌≡◌, ◌<◌, ◌^◌, ℕ, List, [], ◌∷◌, length, Some, Result, Ok, Err, IfOk, refl, ap, ◌∙◌, subst, arith}
+use Rattle.std.proofs.Common.{◌≡◌, ◌<◌, ◌^◌, ℕ, List, [], ◌∷◌, length, Some, Result, Ok, Err, IfOk, true, ap, ◌∙◌, subst, arith}
 use Rattle.std.specs.List.{All}
 use Rattle.std.proofs.lemmas.List.Elements.{All-cons}
 use Rattle.otel_proto.specs.Laws.{IsField}
-use Rattle.otel_proto.specs.Wire.{Field, read}
+use Rattle.otel_proto.specs.Wire.{Field, is_number, read}
 use Rattle.otel_proto.specs.Written.{messages, bytes_of}
-use Rattle.otel_proto.proofs.ReadBack.{fields_read_back}
+use Rattle.otel_proto.proofs.shared.ReadBack.{fields_read_back}
 
 none : All IsField []
 none k d h = absurd (omega arith)
 
-pub messages_are_fields : {A : Type 0} (value : A → List Field) (xs : List A) → All IsField (messages 1 value xs)
-messages_are_fields value [] = none
-messages_are_fields value (x ∷ xs) =
-    All-cons IsField _ (messages 1 value xs) (record { number = refl; content = tt }) (messages_are_fields value xs)
+-- messages are fields of any number
+pub messages_are_fields : {A : Type 0} (number : ℕ) (value : A → List Field) (xs : List A) → is_number number ≡ true → All IsField (messages number value xs)
+messages_are_fields number value [] known = none
+messages_are_fields number value (x ∷ xs) known =
+    All-cons IsField _ (messages number value xs) (record { number = known; content = tt }) (messages_are_fields number value xs known)
 
 -- bytes in a buffer are read as the fields that were written
 pub bytes_read : (fs : List Field) (bs : List ℕ) → All IsField fs → length bs < 2 ^ 64 → bs ≡ bytes_of fs → read bs ≡ Some fs

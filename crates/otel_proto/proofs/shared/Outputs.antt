@@ -1,10 +1,13 @@
 -- Fields that are put before others.
 use Rattle.std.proofs.Common.{◌≡◌, ℕ, ◌+◌, ◌-◌, List, [], ◌∷◌, ◌++◌, length, Option, Some, None, refl, sym, ap, ◌∙◌, append_assoc, append-nil, length-append, zero-add, arith}
+use Rattle.std.proofs.Common.{Result, OnOk, subst, eq-eqb}
+use Rattle.std.specs.Int.{w32, w64, to_le_bytes}
 use Rattle.std.specs.Prelude.{option_map, ◌==◌, Bool, true, if◌then◌else◌}
+use Rattle.std.specs.declared.alloc.AllocError.{AllocError}
 use Rattle.std.proofs.lemmas.Grind.{flat_map-append}
 use Rattle.std.proofs.lemmas.List.{nil_from_length}
-use Rattle.otel_proto.specs.Output.{Output, put_bytes, put, put_head, writing}
-use Rattle.otel_proto.specs.Wire.{Field, varint, bytes}
+use Rattle.otel_proto.specs.Output.{Output, put_bytes, put, put_head, writing, Puts}
+use Rattle.otel_proto.specs.Wire.{Field, varint, fixed64, fixed32, bytes}
 use Rattle.otel_proto.specs.Written.{bytes_of, field_bytes, message, messages, head, tag, varint_bytes, bytes_unless_empty}
 
 both_in : (a b : List ℕ) (x : Option (List ℕ)) → option_map (λ (t : List ℕ). a ++ t) (option_map (λ (t : List ℕ). b ++ t) x) ≡ option_map (λ (t : List ℕ). (a ++ b) ++ t) x
@@ -40,6 +43,31 @@ put_field f a b o h =
 pub put_varint_field : (number v : ℕ) (o : Output) → put_bytes (tag number 0) (put_bytes (varint_bytes v) o) ≡ put ((number, varint v) ∷ []) o
 put_varint_field number v o = put_field (number, varint v) (tag number 0) (varint_bytes v) o refl
 
+pub put_fixed64_field : (number v : ℕ) (o : Output) → put_bytes (tag number 1) (put_bytes (to_le_bytes w64 v) o) ≡ put ((number, fixed64 v) ∷ []) o
+put_fixed64_field number v o = put_field (number, fixed64 v) (tag number 1) (to_le_bytes w64 v) o refl
+
+pub put_fixed32_field : (number v : ℕ) (o : Output) → put_bytes (tag number 5) (put_bytes (to_le_bytes w32 v) o) ≡ put ((number, fixed32 v) ∷ []) o
+put_fixed32_field number v o = put_field (number, fixed32 v) (tag number 5) (to_le_bytes w32 v) o refl
+
+-- a number that is left out
+pub put_zero : (v : ℕ) (fs : List Field) (o : Output) → v ≡ 0 → o ≡ put (if v == 0 then [] else fs) o
+put_zero v fs o none = sym (put_none o) ∙ ap (λ (b : Bool). put (if b then [] else fs) o) (sym (eq-eqb v 0 none))
+
+-- fields before those that were put
+pub put_then : (f g : List Field) (o : Output) {mid new : Output} → mid ≡ put g o → new ≡ put f mid → new ≡ put (f ++ g) o
+put_then f g o a b = b ∙ ap (put f) a ∙ put_both f g o
+
+-- the same by the last call
+pub puts_then : (r : Result Unit AllocError) (f g : List Field) (o new : Output) {mid : Output} → mid ≡ put g o → Puts r mid new f → Puts r o new (f ++ g)
+puts_then r f g o new a h = subst (λ (p : Output). OnOk r (new ≡ p)) (ap (put f) a ∙ put_both f g o) h
+
+-- fields of a value that is another's
+pub same_put : {A : Type 0} (f : A → List Field) (old : Output) {new : Output} {a b : A} → a ≡ b → new ≡ put (f a) old → new ≡ put (f b) old
+same_put f old e h = h ∙ ap (λ x. put (f x) old) e
+
+pub same_puts : {A : Type 0} (f : A → List Field) (r : Result Unit AllocError) (old new : Output) {a b : A} → a ≡ b → Puts r old new (f a) → Puts r old new (f b)
+same_puts f r old new e h = subst (λ x. Puts r old new (f x)) e h
+
 -- the tag and the length of bytes
 pub put_head_parts : (number end n : ℕ) (o : Output) → n ≡ o.count - end → put_bytes (tag number 2) (put_bytes (varint_bytes n) o) ≡ put_head number end o
 unfolding put_head
@@ -58,6 +86,12 @@ put_bytes_field number end s o h =
 pub put_message : (number end : ℕ) (fs : List Field) (o : Output) → end ≡ o.count → put_head number end (put fs o) ≡ put (message number fs ∷ []) o
 unfolding put
 put_message number end fs o h = put_bytes_field number end (bytes_of fs) o h
+
+-- the same by the last call
+pub puts_message : (r : Result Unit AllocError) (number end : ℕ) (fs : List Field) (o new : Output) {mid : Output} → end ≡ o.count → mid ≡ put fs o → OnOk r (new ≡ put_head number end mid)
+    → Puts r o new (message number fs ∷ [])
+puts_message r number end fs o new counted a h =
+    subst (λ (p : Output). OnOk r (new ≡ p)) (ap (put_head number end) a ∙ put_message number end fs o counted) h
 
 -- one more message in a list that is put from its end
 pub put_more : {A : Type 0} (number end : ℕ) (g : A → List Field) (x : A) (done : List A) (init old mid new : Output) → end ≡ old.count → old ≡ put (messages number g done) init

@@ -1,0 +1,4 @@
+-- Lemmas that crates above use too.
+pub mod Outputs
+pub mod ReadBack
+pub mod Readable

@@ -1,0 +1,9 @@
+pub mod GroupFields
+pub mod Scopes
+pub mod SortedEntries
+pub mod Sorting
+pub mod TraceStates
+pub mod Pieces
+pub mod SameAttributes
+pub mod SameSpans
+pub mod SameBatches

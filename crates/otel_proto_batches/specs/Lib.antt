@@ -1,0 +1,9 @@
+pub mod Common
+pub mod Facts
+pub mod GroupView
+pub mod Groups
+pub mod InRange
+pub mod Laws
+pub mod Sorted
+pub mod SortedView
+pub mod Traces

@@ -1,0 +1,6 @@
+//! The bytes of batches, which are those of protobuf 3.21 for Python.
+// Depends on: hex test_support
+#![tactic(auto)]
+
+mod rows;
+mod traces;
