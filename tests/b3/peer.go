@@ -1,7 +1,7 @@
 // Does with Zipkin's own library what src/main.rs does, for multiple headers. Lines of standard input:
 //
 //	inject TRACE SPAN PARENT SAMPLED DEBUG    prints the headers; PARENT is - for none, SAMPLED - if deferred
-//	extract NAME=VALUE ..                     prints TRACE SPAN SAMPLED DEBUG, none, or the error
+//	extract NAME=VALUE ..                     prints TRACE SPAN SAMPLED DEBUG, none, or the error; SAMPLED as above
 package main
 
 import (
@@ -68,9 +68,14 @@ func extract(words []string) string {
 	if context.TraceID.Empty() || context.ID == 0 {
 		return "none"
 	}
-	sampled := context.Debug || context.Sampled != nil && *context.Sampled
-	return fmt.Sprintf("%016x%016x %016x %d %d", context.TraceID.High, context.TraceID.Low, uint64(context.ID),
-		bit(sampled), bit(context.Debug))
+	sampled := "-"
+	if context.Debug {
+		sampled = "1"
+	} else if context.Sampled != nil {
+		sampled = strconv.Itoa(bit(*context.Sampled))
+	}
+	return fmt.Sprintf("%016x%016x %016x %s %d", context.TraceID.High, context.TraceID.Low, uint64(context.ID), sampled,
+		bit(context.Debug))
 }
 
 func main() {

@@ -1,5 +1,5 @@
--- The three headers of a span, set one after the other.
-use Rattle.std.proofs.Common.{◌≡◌, ℕ, ◌+◌, false, List, [], ◌∷◌, refl, sym, ap, subst, ◌∙◌, arith, Result, Ok, Err, inr, if◌then◌else◌, true≢false}
+-- The multiple headers of a span, set one after the other.
+use Rattle.std.proofs.Common.{◌≡◌, ℕ, ◌+◌, false, List, [], ◌∷◌, ◌++◌, refl, sym, ap, subst, ◌∙◌, arith, Result, Ok, Err, inr, if◌then◌else◌, true≢false}
 use Rattle.std.specs.Prelude.{OnOk, OnErr}
 use Rattle.otel_ids.specs.Ids.{id_text}
 use Rattle.opentelemetry.specs.declared.propagation.error.PropagationError.{PropagationError}
@@ -7,7 +7,7 @@ use Rattle.opentelemetry.specs.declared.propagation.error.PropagationError.TheVa
 use Rattle.opentelemetry.specs.Carrier.{CarrierState, Pairs, Sets, TextMap}
 use Rattle.opentelemetry.specs.Injection.{Injects}
 use Rattle.opentelemetry.specs.Refusal.{is_refused}
-use Rattle.otel_propagators.specs.B3.{B3Span, span_id_key, span_pairs, state_pair, trace_id_key}
+use Rattle.otel_propagators.specs.B3.{B3Span, id_pairs, span_id_key, span_pairs, state_pairs, trace_id_key}
 use Rattle.otel_propagators.proofs.Both.{fails_first, goes_on}
 use Rattle.otel_propagators.specs.declared.b3.form.Form.TheVariants.{Multi}
 
@@ -31,29 +31,36 @@ one_set (Err Refused) a b p s same m = record {
   count = omega arith;
 }
 
-pairs_are : (p : B3Span) (t s : List ℕ) (state : List ℕ × List ℕ) → t ≡ id_text 32 p.trace_id → s ≡ id_text 16 p.span_id → state ≡ state_pair p.sampling
-    → (trace_id_key, t) ∷ (span_id_key, s) ∷ state ∷ [] ≡ span_pairs Multi p
-pairs_are p t s state e f g =
-    ap (λ (x : List ℕ). (trace_id_key, x) ∷ (span_id_key, s) ∷ state ∷ []) e
-    ∙ ap (λ (x : List ℕ). (trace_id_key, id_text 32 p.trace_id) ∷ (span_id_key, x) ∷ state ∷ []) f
-    ∙ ap (λ (x : List ℕ × List ℕ). (trace_id_key, id_text 32 p.trace_id) ∷ (span_id_key, id_text 16 p.span_id) ∷ x ∷ []) g
+pairs_are : (p : B3Span) (t s : List ℕ) → t ≡ id_text 32 p.trace_id → s ≡ id_text 16 p.span_id
+    → (trace_id_key, t) ∷ (span_id_key, s) ∷ [] ≡ id_pairs p
+pairs_are p t s e f =
+    ap (λ (x : List ℕ). (trace_id_key, x) ∷ (span_id_key, s) ∷ []) e
+    ∙ ap (λ (x : List ℕ). (trace_id_key, id_text 32 p.trace_id) ∷ (span_id_key, x) ∷ []) f
 
--- the second fails
-pub stops : {T U : Type 0} (a b c : CarrierState) (p : B3Span) (t s : List ℕ) (e : PropagationError) (u : U)
+-- the first id is set, and the second is set or fails
+pub ids_set : {T U : Type 0} (r : Result T PropagationError) (a b c : CarrierState) (p : B3Span) (t s : List ℕ) (x : U)
     → t ≡ id_text 32 p.trace_id → s ≡ id_text 16 p.span_id
-    → Injects {T = U} ((trace_id_key, t) ∷ []) false a b (Ok u) → Injects {T = U} ((span_id_key, s) ∷ []) false b c (Err e)
-    → Injects {T = T} (span_pairs Multi p) false a c (Err e)
-stops {T = T} {U = U} a b c p t s e u x y g h =
-    subst (λ (ps : Pairs). Injects {T = T} ps false a c (Err e)) (pairs_are p t s (state_pair p.sampling) x y refl)
-    (goes_on {T = U} {U = T} (Err e) ((trace_id_key, t) ∷ []) ((span_id_key, s) ∷ state_pair p.sampling ∷ []) a b c u g
-    (fails_first {T = U} {U = T} ((span_id_key, s) ∷ []) (state_pair p.sampling ∷ []) b c e h))
+    → Injects {T = U} ((trace_id_key, t) ∷ []) false a b (Ok x) → Injects ((span_id_key, s) ∷ []) false b c r
+    → Injects (id_pairs p) false a c r
+ids_set {T = T} {U = U} r a b c p t s x e f g h =
+    subst (λ (ps : Pairs). Injects ps false a c r) (pairs_are p t s e f)
+    (goes_on {T = U} {U = T} r ((trace_id_key, t) ∷ []) ((span_id_key, s) ∷ []) a b c x g h)
 
--- the third is set or fails
-pub ends : {T U V : Type 0} (r : Result T PropagationError) (a b c d : CarrierState) (p : B3Span) (t s key v w : List ℕ) (x : U) (y : V)
-    → t ≡ id_text 32 p.trace_id → s ≡ id_text 16 p.span_id → v ≡ w → (key, w) ≡ state_pair p.sampling
-    → Injects {T = U} ((trace_id_key, t) ∷ []) false a b (Ok x) → Injects {T = V} ((span_id_key, s) ∷ []) false b c (Ok y) → Injects ((key, v) ∷ []) false c d r
-    → Injects (span_pairs Multi p) false a d r
-ends {T = T} {U = U} {V = V} r a b c d p t s key v w x y et es ev ek g h i =
-    subst (λ (ps : Pairs). Injects ps false a d r) (pairs_are p t s (key, v) et es (ap (λ (z : List ℕ). (key, z)) ev ∙ ek))
-    (goes_on {T = U} {U = T} r ((trace_id_key, t) ∷ []) ((span_id_key, s) ∷ (key, v) ∷ []) a b d x g
-    (goes_on {T = V} {U = T} r ((span_id_key, s) ∷ []) ((key, v) ∷ []) b c d y h i))
+-- an id fails
+pub stops : {T U : Type 0} (a b : CarrierState) (p : B3Span) (e : PropagationError)
+    → Injects {T = U} (id_pairs p) false a b (Err e) → Injects {T = T} (span_pairs Multi p) false a b (Err e)
+stops {T = T} {U = U} a b p e h = fails_first {T = U} {U = T} (id_pairs p) (state_pairs p.sampling) a b e h
+
+-- both ids are set, and the state is set or fails
+pub ends : {T U : Type 0} (r : Result T PropagationError) (a b c : CarrierState) (p : B3Span) (key v w : List ℕ) (x : U)
+    → v ≡ w → (key, w) ∷ [] ≡ state_pairs p.sampling
+    → Injects {T = U} (id_pairs p) false a b (Ok x) → Injects ((key, v) ∷ []) false b c r
+    → Injects (span_pairs Multi p) false a c r
+ends {T = T} {U = U} r a b c p key v w x ev ek g h =
+    subst (λ (ps : Pairs). Injects (id_pairs p ++ ps) false a c r) (ap (λ (z : List ℕ). (key, z) ∷ []) ev ∙ ek)
+    (goes_on {T = U} {U = T} r (id_pairs p) ((key, v) ∷ []) a b c x g h)
+
+-- both ids are all
+pub ends_undecided : {T : Type 0} (r : Result T PropagationError) (a b : CarrierState) (p : B3Span)
+    → [] ≡ state_pairs p.sampling → Injects (id_pairs p) false a b r → Injects (span_pairs Multi p) false a b r
+ends_undecided r a b p e h = subst (λ (ps : Pairs). Injects (id_pairs p ++ ps) false a b r) e h

@@ -1,5 +1,5 @@
 -- Two injections, one after the other.
-use Rattle.std.proofs.Common.{◌++◌, false, true, Result, Ok, Err, sym, ap, append_assoc, ◌∙◌, inl, inr, IsTrue, ◌⊎◌, ◌<◌, ℕ, ◌≤◌, arith, true≢false}
+use Rattle.std.proofs.Common.{◌++◌, false, Result, Ok, Err, sym, ap, append_assoc, ◌∙◌, inl, inr, IsTrue, ◌⊎◌, ◌<◌, ℕ, ◌≤◌, arith, true≢false}
 use Rattle.opentelemetry.specs.Carrier.{CarrierState, Pairs}
 use Rattle.opentelemetry.specs.Injection.{Injects}
 use Rattle.opentelemetry.specs.declared.propagation.error.PropagationError.{PropagationError}

@@ -9,4 +9,5 @@ pub mod Carried
 pub mod Kept
 pub mod B3Reads
 pub mod B3Setting
+pub mod B3Entries
 pub mod B3Back

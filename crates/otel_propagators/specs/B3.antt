@@ -1,7 +1,7 @@
 -- The pairs that the propagator of B3 sets, and the contexts that it extracts [openzipkin,
 -- "b3-propagation"].
 use Rattle.std.specs.Prelude.{◌≡◌, ℕ, ◌==◌, Bool, true, false, ◌&&◌, ◌||◌, List, [], ◌∷◌, ◌++◌}
-use Rattle.std.specs.Prelude.{length, Option, Some, None, if◌then◌else◌, codes, refl}
+use Rattle.std.specs.Prelude.{length, Option, Some, None, is_none, if◌then◌else◌, codes, refl}
 use Rattle.std.specs.Char.{is_ascii_hexdigit}
 use Rattle.std.specs.List.{list_all, slice_split}
 use Rattle.std.specs.Option.{option_and_then, option_map_or, option_or}
@@ -20,7 +20,7 @@ use Rattle.otel_propagators.specs.declared.b3.form.Form.{Form}
 use Rattle.otel_propagators.specs.declared.b3.form.Form.TheVariants.{Single, Multi}
 use Rattle.otel_propagators.specs.declared.b3.sampling.Sampling.{Sampling}
 use Rattle.otel_propagators.specs.declared.b3.sampling.Sampling.TheVariants.{Denied, Accepted}
-use Rattle.otel_propagators.specs.declared.b3.sampling.Sampling.TheVariants.{Debug}
+use Rattle.otel_propagators.specs.declared.b3.sampling.Sampling.TheVariants.{Debug, Deferred}
 
 -- the name of the single header
 abbrev pub b3_key : List ℕ
@@ -85,15 +85,87 @@ with_debug debug context =
 abbrev pub is_debug_state : Sampling → Bool
 is_debug_state Denied = false
 is_debug_state Accepted = false
+is_debug_state Deferred = false
 is_debug_state Debug = true
+
+-- ---- the text of a span
+
+-- -0, -1 or -d, or nothing if the decision is deferred
+abbrev pub state_text : Sampling → List ℕ
+state_text Denied = codes "-0"
+state_text Accepted = codes "-1"
+state_text Deferred = []
+state_text Debug = codes "-d"
+
+-- 32 lower-case hexadecimal digits of the trace id, -, 16 of the span id, and the state. The id of
+-- the parent is never written.
+abbrev pub single_text : B3Span → List ℕ
+single_text span =
+    id_text 32 span.trace_id ++ (45 ∷ (id_text 16 span.span_id ++ state_text span.sampling))
+
+-- ---- the deferred decision of a context
+
+-- the name of the entry that keeps the span whose decision is deferred
+abbrev pub deferred_key : List ℕ
+deferred_key = codes "b3-deferred"
+
+-- whether a value is a string
+abbrev pub is_string : Option Tree → Bool
+is_string None = false
+is_string (Some (text_tree t)) = true
+is_string (Some (boolean b)) = false
+is_string (Some (integer n)) = false
+is_string (Some (bytes bs)) = false
+is_string (Some (list ts)) = false
+is_string (Some (map_tree es)) = false
+
+-- whether a value is this string
+abbrev pub is_this_string : List ℕ → Option Tree → Bool
+is_this_string string None = false
+is_this_string string (Some (text_tree t)) = bytes_eq t string
+is_this_string string (Some (boolean b)) = false
+is_this_string string (Some (integer n)) = false
+is_this_string string (Some (bytes bs)) = false
+is_this_string string (Some (list ts)) = false
+is_this_string string (Some (map_tree es)) = false
+
+-- the text TRACE-SPAN of a span context
+abbrev pub deferred_text : SpanContextRecord → List ℕ
+deferred_text context = single_text (span_with context.trace_id context.span_id Deferred)
+
+-- Whether the decision is deferred: the span context is a remote one, and the entry names it. A
+-- span that was started here has decided.
+abbrev pub is_deferred : ContextRecord → Bool
+is_deferred context =
+    (span_context context).is_remote
+    && is_this_string (deferred_text (span_context context)) (get context deferred_key)
+
+-- whether the state is deferred
+abbrev pub is_deferred_state : Sampling → Bool
+is_deferred_state Denied = false
+is_deferred_state Accepted = false
+is_deferred_state Deferred = true
+is_deferred_state Debug = false
+
+-- The context that keeps the span if its decision is deferred, and otherwise keeps none. A context
+-- that keeps none stays as it is if it is to keep none.
+abbrev pub with_deferred : B3Span → ContextRecord → ContextRecord
+with_deferred span context =
+    if is_deferred_state span.sampling
+    then with_value context deferred_key (text_tree (single_text span))
+    else if is_string (get context deferred_key)
+    then with_value context deferred_key (boolean false)
+    else context
 
 -- ---- injection
 
--- debug if the context says so, or else as the span context is sampled
+-- Debug if the context says so, or else accepted if the span context is sampled. An unsampled one
+-- is deferred if the context says so.
 abbrev pub sampling_of : ContextRecord → Sampling
 sampling_of context =
     if is_debug context then Debug
     else if is_sampled (span_context context).trace_flags then Accepted
+    else if is_deferred context then Deferred
     else Denied
 
 -- the ids and the state that are sent for a context
@@ -102,32 +174,23 @@ sent context =
     span_with (span_context context).trace_id (span_context context).span_id
     (sampling_of context)
 
--- 0, 1 or d
-abbrev pub state_text : Sampling → List ℕ
-state_text Denied = codes "0"
-state_text Accepted = codes "1"
-state_text Debug = codes "d"
+-- the header of the state among multiple headers: `x-b3-flags` for debug, or else `x-b3-sampled`,
+-- or none if the decision is deferred
+abbrev pub state_pairs : Sampling → Pairs
+state_pairs Denied = (sampled_key, codes "0") ∷ []
+state_pairs Accepted = (sampled_key, codes "1") ∷ []
+state_pairs Deferred = []
+state_pairs Debug = (flags_key, codes "1") ∷ []
 
--- 32 lower-case hexadecimal digits of the trace id, -, 16 of the span id, -, and the state. The id
--- of the parent is never written.
-abbrev pub single_text : B3Span → List ℕ
-single_text span =
-    id_text 32 span.trace_id
-    ++ (45 ∷ (id_text 16 span.span_id ++ (45 ∷ state_text span.sampling)))
-
--- the header of the state among multiple headers: `x-b3-flags` for debug, or else `x-b3-sampled`
-abbrev pub state_pair : Sampling → List ℕ × List ℕ
-state_pair Denied = (sampled_key, codes "0")
-state_pair Accepted = (sampled_key, codes "1")
-state_pair Debug = (flags_key, codes "1")
+-- the headers of the ids among multiple headers
+abbrev pub id_pairs : B3Span → Pairs
+id_pairs span =
+    (trace_id_key, id_text 32 span.trace_id) ∷ (span_id_key, id_text 16 span.span_id) ∷ []
 
 -- the pairs of a span, in this form
 abbrev pub span_pairs : Form → B3Span → Pairs
 span_pairs Single span = (b3_key, single_text span) ∷ []
-span_pairs Multi span =
-    (trace_id_key, id_text 32 span.trace_id)
-    ∷ (span_id_key, id_text 16 span.span_id)
-    ∷ state_pair span.sampling ∷ []
+span_pairs Multi span = id_pairs span ++ state_pairs span.sampling
 
 -- the pairs of a context, in this form: none if its span context isn't valid
 abbrev pub b3_pairs : Form → ContextRecord → Pairs
@@ -168,10 +231,9 @@ span_of trace_id span_id sampling =
 abbrev pub dashed : List ℕ → List (List ℕ)
 dashed text = slice_split (λ b. b == 45) text
 
--- the state after the ids, which the id of the parent may follow. Without a state the decision is
--- deferred, which counts as denied.
+-- the state after the ids, which the id of the parent may follow: deferred if there is none
 abbrev pub state_after_ids : List (List ℕ) → Option Sampling
-state_after_ids [] = Some Denied
+state_after_ids [] = Some Deferred
 state_after_ids (state ∷ []) = state_in state
 state_after_ids (state ∷ parent ∷ []) = option_and_then (λ _. state_in state) (span_id_in parent)
 state_after_ids (state ∷ parent ∷ other ∷ others) = None
@@ -191,10 +253,12 @@ single_in text = span_in (dashed (cut_blanks text))
 abbrev pub is_value : List ℕ → Option (List ℕ) → Bool
 is_value value header = option_map_or (λ text. bytes_eq text value) header false
 
--- debug if `x-b3-flags` is 1, or else accepted if `x-b3-sampled` is 1 or true
+-- Debug if `x-b3-flags` is 1, which is all that it can say. Otherwise deferred if there is no
+-- `x-b3-sampled`, accepted if it is 1 or true, and denied if it is anything else.
 abbrev pub multi_state : Option (List ℕ) → Option (List ℕ) → Sampling
 multi_state flags sampled =
     if is_value (codes "1") flags then Debug
+    else if is_none sampled then Deferred
     else if is_value (codes "1") sampled || is_value (codes "true") sampled then Accepted
     else Denied
 
@@ -222,6 +286,7 @@ b3_in texts = option_or (option_and_then single_in (at texts b3_key)) (multi_in 
 abbrev pub flags_of : Sampling → ℕ
 flags_of Denied = 0
 flags_of Accepted = 1
+flags_of Deferred = 0
 flags_of Debug = 1
 
 -- the remote span context with these ids and flags, and an empty trace state
@@ -234,13 +299,13 @@ remote_of span = record {
   trace_state = [];
 }
 
--- the context with the remote span context and the debug flag of the span, or the context itself if
--- an id is 0
+-- the context with the debug flag of the span, that it is deferred if it is, and the remote span
+-- context, or the context itself if an id is 0
 abbrev pub with_b3 : ContextRecord → B3Span → ContextRecord
 with_b3 context span =
     if is_valid (remote_of span)
-    then with_remote_span_context (with_debug (is_debug_state span.sampling) context)
-    (remote_of span)
+    then with_remote_span_context
+    (with_deferred span (with_debug (is_debug_state span.sampling) context)) (remote_of span)
     else context
 
 -- the context that is extracted from a carrier's texts into a context
@@ -259,7 +324,7 @@ short : span_in (codes "64fe8b2a57d3eff7" ∷ codes "e457b5a2e4d86bd1" ∷ codes
 short = refl
 
 deferred : span_in (codes "64fe8b2a57d3eff7" ∷ codes "e457b5a2e4d86bd1" ∷ [])
-    ≡ Some (span_with 0x64fe8b2a57d3eff7 0xe457b5a2e4d86bd1 Denied)
+    ≡ Some (span_with 0x64fe8b2a57d3eff7 0xe457b5a2e4d86bd1 Deferred)
 deferred = refl
 
 cut : dashed (codes "80-e4-1") ≡ codes "80" ∷ codes "e4" ∷ codes "1" ∷ []
@@ -288,7 +353,15 @@ spelled_out = refl
 other_sampled : multi_state None (Some (codes "2")) ≡ Denied
 other_sampled = refl
 
+not_debugged : multi_state (Some (codes "0")) None ≡ Deferred
+not_debugged = refl
+
 written : single_text (span_with 0x64fe8b2a57d3eff7 0xe457b5a2e4d86bd1 Accepted)
     ≡ codes "000000000000000064fe8b2a57d3eff7-e457b5a2e4d86bd1-1"
 unfolding id_text
 written = refl
+
+undecided : single_text (span_with 0x64fe8b2a57d3eff7 0xe457b5a2e4d86bd1 Deferred)
+    ≡ codes "000000000000000064fe8b2a57d3eff7-e457b5a2e4d86bd1"
+unfolding id_text
+undecided = refl

@@ -5,11 +5,13 @@ use Rattle.otel_ids.specs.SpanContext.{SpanContextRecord, IsValidSpanContext}
 use Rattle.otel_ids.specs.TraceFlags.{is_sampled}
 use Rattle.otel_context.specs.Context.{ContextRecord, get, span_context}
 use Rattle.opentelemetry.specs.Carrier.{Pairs, TextMap, Sets, at, lower}
-use Rattle.otel_propagators.specs.B3.{b3_extracted, b3_key, b3_pairs, debug_key, flags_key}
-use Rattle.otel_propagators.specs.B3.{is_debug, sampled_key, span_id_key, trace_id_key}
+use Rattle.otel_propagators.specs.B3.{b3_extracted, b3_key, b3_pairs, debug_key, deferred_key}
+use Rattle.otel_propagators.specs.B3.{flags_key, is_debug, sampled_key, sampling_of}
+use Rattle.otel_propagators.specs.B3.{span_id_key, trace_id_key}
 use Rattle.otel_propagators.specs.Laws.{IsContext}
 use Rattle.otel_propagators.specs.declared.b3.form.Form.{Form}
 use Rattle.otel_propagators.specs.declared.b3.form.Form.TheVariants.{Single, Multi}
+use Rattle.otel_propagators.specs.declared.b3.sampling.Sampling.TheVariants.{Deferred}
 
 -- ---- there
 
@@ -48,8 +50,11 @@ pub record B3ComesBack (context given back : ContextRecord) : Type 0 where
   pub span : back.span ≡ Some (record { context = b3_received context; number = None })
   -- the same debug flag, whatever the flag of the given context
   pub debug : is_debug back ≡ is_debug context
-  -- the given entries stay, but for the debug flag
-  pub entries : (key : List ℕ) → key ≢ debug_key → get back key ≡ get given key
+  -- the same state is sent on, so a deferred decision stays deferred
+  pub state : sampling_of back ≡ sampling_of context
+  -- the given entries stay, but for the debug flag and the deferred span
+  pub entries : (key : List ℕ) → key ≢ debug_key → key ≢ deferred_key
+      → get back key ≡ get given key
   -- nothing else changes: the given baggage, and whether telemetry is suppressed
   pub nothing_else : back ≡ record given { span = back.span; entries = back.entries }
 
@@ -62,11 +67,13 @@ SingleComesBack = (context given : ContextRecord) (old new : TextMap) → IsCont
     → B3ComesBack context given (b3_extracted given new)
 
 -- a context whose valid span context was injected as multiple headers is restored, if the carrier
--- had no `b3` and no `x-b3-flags`, which this injection doesn't replace
+-- had no `b3` and no `x-b3-flags`, which this injection doesn't replace, nor an `x-b3-sampled` if the
+-- decision is deferred
 abbrev pub MultiComesBack : Type 0
 MultiComesBack = (context given : ContextRecord) (old new : TextMap) → IsContext context
     → IsValidSpanContext (span_context context) → B3Injects Multi context old new
     → at old b3_key ≡ None → at old flags_key ≡ None
+    → (sampling_of context ≡ Deferred → at old sampled_key ≡ None)
     → B3ComesBack context given (b3_extracted given new)
 
 -- a context without a valid span context doesn't change what is extracted

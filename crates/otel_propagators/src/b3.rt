@@ -29,15 +29,23 @@ const B3: &str = "b3";
 /// A propagator injects in one form, and extracts both:
 ///
 /// - single: the header `b3`, with the value `TRACE-SPAN-STATE-PARENT`, of which `-PARENT` and
-///   `-STATE-PARENT` may be missing, or `STATE` alone. A state is `0`, `1` or, for debug, `d`.
+///   `-STATE-PARENT` may be missing. A state is `0`, `1` or, for debug, `d`. A `STATE` alone is read
+///   too, but names no span: the given context is extracted, even beside headers of the other form.
 /// - multi: the headers `x-b3-traceid`, `x-b3-spanid`, `x-b3-sampled`, which is `0` or `1`
 ///   (`false` and `true` are read too), and `x-b3-flags`, which is `1` for debug.
 ///
 /// Ids are hexadecimal digits, 32 or 16 of the trace id and 16 of the others. 32 and 16 lower-case
 /// digits are written. The id of the parent is never written.
 ///
-/// The debug flag is the entry `b3-debug` of a context, `AnyValue::Boolean(true)`. Contracts see
-/// the form in which a propagator injects.
+/// Without a state the decision to sample is deferred: the caller leaves it to this process. Then
+/// the remote span context isn't sampled, so a parent-based sampler asks its sampler for remote
+/// parents that aren't, which by default drops the span. A span that starts here decides, so its
+/// own decision is injected. If none starts, the decision is injected as deferred again.
+///
+/// The debug flag is the entry `b3-debug` of a context, `AnyValue::Boolean(true)`, which spans that
+/// start under it keep. A deferred span is the entry `b3-deferred`, the string `TRACE-SPAN`, which
+/// counts only for the remote span context with these ids. Contracts see the form in which a
+/// propagator injects.
 ///
 /// ```
 /// let propagator = B3Propagator::single(alloc)?;
@@ -130,14 +138,16 @@ fn read(alloc: Global, extractor: &dyn Extractor) -> Result<Option<B3Span>, Allo
 
 /// Sets the headers of a valid span context: `b3`, or `x-b3-traceid`, `x-b3-spanid` and then
 /// `x-b3-flags` for debug and otherwise `x-b3-sampled`. The state is debug if the context's debug
-/// flag is set, and otherwise `1` or `0` as the flag `sampled`. Sets nothing if the span context
-/// isn't valid. Older headers of the other form stay in the carrier.
+/// flag is set, and otherwise `1` if the flag `sampled` is set. If it isn't, a deferred decision has
+/// no state, and another is `0`. Sets nothing if the span context isn't valid. Older headers that
+/// aren't set stay in the carrier.
 ///
 /// Extracts a copy of the given context with the remote span context of `b3`, ignoring blanks at
 /// the ends of its value, or of the other headers if `b3` is absent or doesn't have this form. The
-/// trace state is empty, only the flag `sampled` may be set, and the debug flag is set or unset as
-/// in the headers. A missing state counts as `0`, and so does an `x-b3-sampled` that can't be read.
-/// Without ids, or if one is 0, the result is a copy of the given context. Never refuses.
+/// trace state is empty, only the flag `sampled` may be set, and the debug flag and the deferred
+/// span are set or unset as in the headers. An `x-b3-flags` other than `1` is ignored, and an
+/// `x-b3-sampled` that can't be read counts as `0`. Without ids, or if one is 0, the result is a
+/// copy of the given context. Never refuses.
 impl TextMapPropagator for B3Propagator {
     ghost use Rattle.std.specs.Prelude.{false};
     ghost use Rattle.otel_propagators.specs.B3.{b3_extracted, b3_fields, b3_pairs};
@@ -158,7 +168,7 @@ impl TextMapPropagator for B3Propagator {
         if !context.span_context().is_valid() {
             return Ok(());
         }
-        let span = B3Span::sent(context);
+        let span = B3Span::sent(self.alloc, context)?;
         match self.form {
             Form::Single => inject_single(self.alloc, span, injector),
             Form::Multi => multi::inject(self.alloc, span, injector),

@@ -65,13 +65,14 @@ pub fn baggage_reading()
 
 /// States that a context with a valid span context that is injected as B3, in either form, is
 /// restored if it is extracted again, into any context: a remote span context with the same ids and
-/// the same flag `sampled`, and the same debug flag, which sets `sampled` too. Other flags and the
-/// trace state are lost. The propagator may be a member of a composite, beside members with other
-/// keys.
+/// the same flag `sampled`, and the same debug flag, which sets `sampled` too. A deferred decision
+/// stays deferred. Other flags and the trace state are lost. The propagator may be a member of a
+/// composite, beside members with other keys.
 pub fn b3_there_and_back()
     // The header `b3` is read whatever the carrier had.
     ensures single { SingleComesBack }
-    // An older `b3` or `x-b3-flags` of the carrier would count instead.
+    // An older `b3` or `x-b3-flags` of the carrier would count instead, and an older `x-b3-sampled`
+    // if the decision is deferred.
     ensures multi { MultiComesBack }
     // Without a valid span context nothing is set.
     ensures no_span { NoSpanIsSent }

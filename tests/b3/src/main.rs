@@ -3,7 +3,8 @@
 //!     inject FORM TRACE SPAN SAMPLED DEBUG     prints the headers, as NAME=VALUE ..
 //!     extract NAME=VALUE ..                    prints TRACE SPAN SAMPLED DEBUG, or none
 //!
-//! FORM is `single` or `multi`, ids are hexadecimal, and flags are 0 or 1.
+//! FORM is `single` or `multi`, ids are hexadecimal, and flags are 0 or 1. SAMPLED is `-` if the
+//! decision is deferred; then the injected context is one that was extracted.
 #![tactic(auto)]
 
 use opentelemetry::logs::AnyValue;
@@ -48,7 +49,14 @@ fn inject(alloc: Global, words: &[&str]) -> Result<HashMap<String, String>, Allo
         false,
         TraceState::NONE,
     );
-    let mut context = Context::new().with_remote_span_context(alloc, span_context)?;
+    let mut context = if *sampled == "-" {
+        let ids = format!(in alloc; "{}-{}", span_context.trace_id(), span_context.span_id())?;
+        let mut received: HashMap<String, String> = HashMap::new(alloc);
+        received.insert(String::from_str(alloc, "b3")?, ids)?;
+        ample(propagator.extract_with_context(alloc, &Context::new(), &received))?
+    } else {
+        Context::new().with_remote_span_context(alloc, span_context)?
+    };
     if *debug == "1" {
         context = context.with_value(alloc, Key::from("b3-debug"), AnyValue::Boolean(true))?;
     }
@@ -92,7 +100,12 @@ fn answer<W: Write + Drop>(alloc: Global, line: &str, output: &mut W) -> io::Res
         return writeln!(output, "none");
     }
     let (trace_id, span_id) = (span_context.trace_id(), span_context.span_id());
-    let sampled = u8::from(span_context.trace_flags().is_sampled());
+    let is_deferred = matches!(context.get("b3-deferred"), Some(AnyValue::String(_)));
+    let sampled = match (is_deferred, span_context.trace_flags().is_sampled()) {
+        (_, true) => "1",
+        (true, false) => "-",
+        (false, false) => "0",
+    };
     let debug = matches!(context.get("b3-debug"), Some(AnyValue::Boolean(true)));
     writeln!(output, "{trace_id} {span_id} {sampled} {}", u8::from(debug))
 }

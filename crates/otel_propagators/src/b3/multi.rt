@@ -1,6 +1,6 @@
 //! Reads and writes the headers `x-b3-traceid`, `x-b3-spanid`, `x-b3-sampled` and `x-b3-flags`.
-ghost use Rattle.std.specs.Prelude.{◌≡◌, IfOk, false, option_copied, string_bytes};
-ghost use Rattle.std.specs.Option.{option_and_then};
+ghost use Rattle.std.specs.Prelude.{◌≡◌, ◌∷◌, [], IfOk, false, option_copied, string_bytes};
+ghost use Rattle.std.specs.Option.{option_and_then, option_map_or};
 ghost use Rattle.otel_ids.specs.Ids.{id_text};
 ghost use Rattle.opentelemetry.specs.Injection.{Injects};
 ghost use Rattle.otel_propagators.specs.B3 as spec;
@@ -33,15 +33,31 @@ fn span_id_text(alloc: Global, span: B3Span) -> Result<String, AllocError>
     format!(in alloc; "{}", span.span_id)
 }
 
-/// Returns the name of the header for a span's state, and its value.
-fn state_pair(span: B3Span) -> (&'static str, &'static str)
-    ensures { (result.0.now, result.1.now) ≡ spec.state_pair span.sampling }
+/// Returns the name of the header for a span's state, and its value, unless it is deferred.
+fn state_pair(span: B3Span) -> Option<(&'static str, &'static str)>
+    ensures { option_map_or (λ p. (p.0.now, p.1.now) ∷ []) result []
+        ≡ spec.state_pairs span.sampling }
 {
     match span.sampling {
-        Sampling::Denied => (SAMPLED, "0"),
-        Sampling::Accepted => (SAMPLED, "1"),
-        Sampling::Debug => (FLAGS, "1"),
+        Sampling::Denied => Some((SAMPLED, "0")),
+        Sampling::Accepted => Some((SAMPLED, "1")),
+        Sampling::Deferred => None,
+        Sampling::Debug => Some((FLAGS, "1")),
     }
+}
+
+/// Sets the headers of a span's ids. Both texts are made before the first is set.
+fn inject_ids(
+    alloc: Global,
+    span: B3Span,
+    injector: &mut dyn Injector,
+) -> Result<(), PropagationError>
+    ensures { Injects (spec.id_pairs span) false (state injector.old) (state injector.new) result }
+{
+    let trace_id = trace_id_text(alloc, span)?;
+    let span_id = span_id_text(alloc, span)?;
+    injector.set(TRACE_ID, trace_id)?;
+    injector.set(SPAN_ID, span_id)
 }
 
 /// Sets the headers of a span. All texts are made before the first is set.
@@ -53,12 +69,11 @@ pub(crate) fn inject(
     ensures { Injects (spec.span_pairs Multi span) false (state injector.old)
         (state injector.new) result }
 {
-    let (key, value) = state_pair(span);
-    let trace_id = trace_id_text(alloc, span)?;
-    let span_id = span_id_text(alloc, span)?;
+    let Some((key, value)) = state_pair(span) else {
+        return inject_ids(alloc, span, injector);
+    };
     let value = String::from_str(alloc, value)?;
-    injector.set(TRACE_ID, trace_id)?;
-    injector.set(SPAN_ID, span_id)?;
+    inject_ids(alloc, span, injector)?;
     injector.set(key, value)
 }
 
@@ -91,6 +106,9 @@ fn read_state(flags: Option<&str>, sampled: Option<&str>) -> Sampling
 {
     if is_value("1", flags) {
         return Sampling::Debug;
+    }
+    if sampled.is_none() {
+        return Sampling::Deferred;
     }
     if is_value("1", sampled) || is_value("true", sampled) {
         Sampling::Accepted

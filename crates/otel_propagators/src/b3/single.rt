@@ -10,14 +10,15 @@ use opentelemetry::trace::{SpanId, TraceId};
 use otel_base::cut_blanks;
 use std::alloc::{AllocError, Global};
 
-/// Returns the digit or letter of a state.
+/// Returns the state as it follows the ids.
 fn state_text(sampling: Sampling) -> &'static str
     ensures { result.now ≡ spec.state_text sampling }
 {
     match sampling {
-        Sampling::Denied => "0",
-        Sampling::Accepted => "1",
-        Sampling::Debug => "d",
+        Sampling::Denied => "-0",
+        Sampling::Accepted => "-1",
+        Sampling::Deferred => "",
+        Sampling::Debug => "-d",
     }
 }
 
@@ -26,7 +27,7 @@ pub(crate) fn write(alloc: Global, span: B3Span) -> Result<String, AllocError>
     ensures { IfOk result (λ text. string_bytes text ≡ spec.single_text span) }
 {
     let state = state_text(span.sampling);
-    format!(in alloc; "{}-{}-{state}", span.trace_id, span.span_id)
+    format!(in alloc; "{}-{}{state}", span.trace_id, span.span_id)
 }
 
 /// Splits a text at its first `-`, if it has one.
@@ -58,7 +59,7 @@ fn state_after_ids(rest: Option<&str>) -> Option<Sampling>
         ≡ spec.state_after_ids (option_map_or spec.dashed (option_copied rest.entry) []) }
 {
     let Some(rest) = rest else {
-        return Some(Sampling::Denied);
+        return Some(Sampling::Deferred);
     };
     let (state, rest) = split_dash(rest);
     if let Some(rest) = rest {

@@ -1,4 +1,5 @@
 //! The propagator of B3: the contexts that it extracts from both forms of its headers.
+mod deferred;
 mod injection;
 
 use opentelemetry::logs::AnyValue;
@@ -14,8 +15,26 @@ use test_support::map_of;
 /// A trace id, a span id, and the flags.
 pub type Ids = (u128, u64, u8);
 
-/// The extracted ids, flags and debug flag.
-type Read = Option<(u128, u64, u8, bool)>;
+/// The sampling state that is extracted.
+#[derive(Clone, Copy, PartialEq)]
+pub enum State {
+    Denied,
+    Accepted,
+    Deferred,
+    Debug,
+}
+
+impl State {
+    fn flags(self) -> u8 {
+        match self {
+            State::Denied | State::Deferred => 0,
+            State::Accepted | State::Debug => 1,
+        }
+    }
+}
+
+/// The extracted ids and state.
+type Read = Option<(u128, u64, State)>;
 
 /// Headers: names and values.
 pub type Headers = &'static [(&'static str, &'static str)];
@@ -27,11 +46,13 @@ pub const TRACE: &str = "80f198ee56343ba864fe8b2a57d3eff7";
 
 pub const SPAN: &str = "e457b5a2e4d86bd1";
 
-const SAMPLED: Read = Some((IDS.0, IDS.1, 1, false));
+const SAMPLED: Read = Some((IDS.0, IDS.1, State::Accepted));
 
-const NOT_SAMPLED: Read = Some((IDS.0, IDS.1, 0, false));
+const NOT_SAMPLED: Read = Some((IDS.0, IDS.1, State::Denied));
 
-const DEBUGGED: Read = Some((IDS.0, IDS.1, 1, true));
+const DEFERRED: Read = Some((IDS.0, IDS.1, State::Deferred));
+
+const DEBUGGED: Read = Some((IDS.0, IDS.1, State::Debug));
 
 pub fn span_context(ids: Ids, is_remote: bool) -> SpanContext {
     SpanContext::new(
@@ -63,6 +84,14 @@ fn is_debug(context: &Context) -> bool {
     matches!(context.get("b3-debug"), Some(AnyValue::Boolean(true)))
 }
 
+/// The span that the context keeps as deferred.
+pub fn kept(context: &Context) -> Option<&str> {
+    match context.get("b3-deferred") {
+        Some(AnyValue::String(text)) => Some(text.as_str()),
+        _ => None,
+    }
+}
+
 pub fn ample<T>(outcome: Result<T, PropagationError>) -> Result<T, AllocError> {
     match outcome {
         Ok(value) => Ok(value),
@@ -75,8 +104,8 @@ pub fn both(alloc: Global) -> Result<[B3Propagator; 2], AllocError> {
     Ok([B3Propagator::single(alloc)?, B3Propagator::multi(alloc)?])
 }
 
-/// Asserts that both forms extract from the headers the ids, the flags and the debug flag or, if
-/// there are none, the given context.
+/// Asserts that both forms extract from the headers the ids and the state or, if there are none,
+/// the given context.
 pub fn assert_extracted(
     rt: &impl Abort,
     alloc: Global,
@@ -90,14 +119,21 @@ pub fn assert_extracted(
         let name = context.get("name");
         assert!(rt; matches!(name, Some(AnyValue::String(name)) if name.as_str() == "given"));
         match expected {
-            Some((trace_id, span_id, flags, debug)) => {
-                let remote = span_context((trace_id, span_id, flags), true);
+            Some((trace_id, span_id, state)) => {
+                let remote = span_context((trace_id, span_id, state.flags()), true);
                 assert!(rt; *context.span_context() == remote, "of {headers:?}");
+                let debug = state == State::Debug;
                 assert!(rt;
                     context.get("b3-debug").is_some() == debug,
                     "of {headers:?}"
                 );
                 assert!(rt; is_debug(&context) == debug, "of {headers:?}");
+                let left = state == State::Deferred;
+                assert!(rt;
+                    context.get("b3-deferred").is_some() == left,
+                    "of {headers:?}"
+                );
+                assert!(rt; kept(&context).is_some() == left, "of {headers:?}");
             }
             None => {
                 assert!(rt;
@@ -105,6 +141,7 @@ pub fn assert_extracted(
                     "of {headers:?}"
                 );
                 assert!(rt; context.get("b3-debug").is_none(), "of {headers:?}");
+                assert!(rt; context.get("b3-deferred").is_none(), "of {headers:?}");
             }
         }
     }
@@ -139,7 +176,7 @@ const SINGLE: &[(&str, Read)] = &[
     ),
     (
         "80f198ee56343ba864fe8b2a57d3eff7-e457b5a2e4d86bd1",
-        NOT_SAMPLED,
+        DEFERRED,
     ),
     // Digits of either case, and blanks at the ends.
     (
@@ -153,7 +190,7 @@ const SINGLE: &[(&str, Read)] = &[
     // A short trace id.
     (
         "64fe8b2a57d3eff7-e457b5a2e4d86bd1-1",
-        Some((0x64fe8b2a57d3eff7, 0xe457b5a2e4d86bd1, 1, false)),
+        Some((0x64fe8b2a57d3eff7, 0xe457b5a2e4d86bd1, State::Accepted)),
     ),
     // A parent of 0 isn't used.
     (
@@ -220,9 +257,15 @@ fn the_single_header_is_read(rt: HostRuntime) -> Result<(), Fail> {
 
 /// Multiple headers, with what is extracted.
 const MULTI: &[(Headers, Read)] = &[
+    (&[("x-b3-traceid", TRACE), ("x-b3-spanid", SPAN)], DEFERRED),
+    // The flags say nothing but debug.
     (
-        &[("x-b3-traceid", TRACE), ("x-b3-spanid", SPAN)],
-        NOT_SAMPLED,
+        &[
+            ("x-b3-traceid", TRACE),
+            ("x-b3-spanid", SPAN),
+            ("x-b3-flags", "0"),
+        ],
+        DEFERRED,
     ),
     (
         &[
@@ -307,7 +350,7 @@ const MULTI: &[(Headers, Read)] = &[
             ("x-b3-spanid", "E457B5A2E4D86BD1"),
             ("x-b3-sampled", "1"),
         ],
-        Some((0x64fe8b2a57d3eff7, 0xe457b5a2e4d86bd1, 1, false)),
+        Some((0x64fe8b2a57d3eff7, 0xe457b5a2e4d86bd1, State::Accepted)),
     ),
     // An id is missing, 0, or has another form.
     (&[("x-b3-traceid", TRACE), ("x-b3-sampled", "1")], None),
@@ -346,14 +389,14 @@ fn the_multiple_headers_are_read(rt: HostRuntime) -> Result<(), Fail> {
 const BESIDE: &[(&str, Read)] = &[
     (
         "80f198ee56343ba864fe8b2a57d3eff7-e457b5a2e4d86bd1",
-        NOT_SAMPLED,
+        DEFERRED,
     ),
     (
         "80f198ee56343ba864fe8b2a57d3eff7-e457b5a2e4d86bd1-2",
-        Some((1, 1, 1, false)),
+        Some((1, 1, State::Accepted)),
     ),
-    ("", Some((1, 1, 1, false))),
-    ("2", Some((1, 1, 1, false))),
+    ("", Some((1, 1, State::Accepted))),
+    ("2", Some((1, 1, State::Accepted))),
     // These have the form of a `b3`, which names no span.
     ("0", None),
     ("1", None),
@@ -386,7 +429,12 @@ fn an_extracted_span_has_its_own_debug_flag(rt: HostRuntime) -> Result<(), Fail>
         let carrier = map_of(alloc, &[("b3", *value)])?;
         let context = ample(propagator.extract_with_context(alloc, &debugged, &carrier))?;
         match expected {
-            Some((_, _, _, debug)) => assert!(rt; is_debug(&context) == *debug, "of {value}"),
+            Some((_, _, state)) => {
+                assert!(rt;
+                    is_debug(&context) == (*state == State::Debug),
+                    "of {value}"
+                );
+            }
             None => assert!(rt; is_debug(&context), "of {value}"),
         }
     }

@@ -1,6 +1,7 @@
 //! The headers that the propagator of B3 sets in both forms, alone and in a composite.
 use crate::b3::{
-    Headers, IDS, Ids, SPAN, TRACE, ample, assert_extracted, both, given, span_context, with_debug,
+    Headers, IDS, Ids, SPAN, State, TRACE, ample, assert_extracted, both, given, span_context,
+    with_debug,
 };
 use opentelemetry::Context;
 use opentelemetry::propagation::{
@@ -117,11 +118,15 @@ fn a_span_goes_there_and_back_in_both_forms(rt: HostRuntime) -> Result<(), Fail>
             ample(propagator.inject_context(&sent, &mut carrier))?;
             assert_headers(&rt, &carrier, *headers);
             let (trace_id, span_id, flags) = *ids;
-            let flags = if debug { 1 } else { flags % 2 };
+            let state = match (debug, flags % 2) {
+                (true, _) => State::Debug,
+                (false, 0) => State::Denied,
+                (false, _) => State::Accepted,
+            };
             let back = if headers.is_empty() {
                 None
             } else {
-                Some((trace_id, span_id, flags, debug))
+                Some((trace_id, span_id, state))
             };
             assert_extracted(&rt, alloc, *headers, back)?;
         }
