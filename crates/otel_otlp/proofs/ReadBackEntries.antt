@@ -1,5 +1,5 @@
 -- What the log records that the exporter writes are read as.
-use Rattle.std.proofs.Common.{◌≡◌, refl, sym, ap, subst, ◌∙◌, ℕ, ◌+◌, ◌<◌, ◌^◌, arith}
+use Rattle.std.proofs.Common.{◌≤◌, ◌≡◌, refl, sym, ap, subst, ◌∙◌, ℕ, ◌+◌, ◌<◌, ◌^◌, arith}
 use Rattle.std.proofs.Common.{Bool, true, false, if◌then◌else◌, List, [], ◌∷◌, map, codes, nat_lt}
 use Rattle.std.proofs.Common.{Option, Some, None, IfSome, option_map}
 use Rattle.std.proofs.lemmas.Grind.{common_steps}
@@ -30,16 +30,12 @@ use Rattle.otel_otlp.proofs.ReadBackValues.{only_there}
 use Rattle.otel_otlp.proofs.ReadErrors.{some_same}
 
 -- ---- trees
-read_levels : levels ≡ max_levels
+enough_levels : max_levels ≤ levels
 unfolding levels
-read_levels = refl
-
-tree_at : (m n : ℕ) (t : Tree) → m ≡ n → IsHeldTree t
-    → Only (IsTree m (tree_value (cut n t))) (cut n t)
-tree_at m n t e h = subst (λ k. Only (IsTree k (tree_value (cut n t))) (cut n t)) (sym e) (only_tree n t h)
+enough_levels = omega arith
 
 read_whole : (t : Tree) → IsHeldTree t → Only (IsTree levels (tree_value (read_tree t))) (read_tree t)
-read_whole t h = tree_at levels max_levels t read_levels h
+read_whole t h = only_tree levels max_levels t enough_levels h
 
 -- ---- bodies
 abbrev IsBody : Data → Option Tree → Type 0

@@ -2,7 +2,7 @@
 use Rattle.std.proofs.Common.{refl}
 use Rattle.otel_otlp.specs.Json.{IsTextOf}
 use Rattle.otel_otlp.specs.Logs as logs
-use Rattle.otel_otlp.specs.LogsReadBack.{IsReadableTextOf, RecordBatchesReadBack, RecordsReadBack}
+use Rattle.otel_otlp.specs.LogsReadBack.{RecordBatchesReadBack, RecordsReadBack}
 use Rattle.otel_otlp.specs.ReadBack.{IsHeld, read_span, BatchesReadBack, SpansReadBack}
 use Rattle.otel_otlp.specs.ReadBackLogs.{IsHeldEntry, read_entry}
 use Rattle.otel_otlp.specs.ReadLogs.{IsEntry}
@@ -14,6 +14,7 @@ use Rattle.otel_otlp.proofs.OneText.{is_read}
 use Rattle.otel_otlp.proofs.ReadBackEntries.{entry_says, entry_only}
 use Rattle.otel_otlp.proofs.ReadBackGroups as groups
 use Rattle.otel_otlp.proofs.ReadBackSpans.{span_says, span_only}
+use Rattle.otel_otlp.proofs.RecordNesting.{record_batches_are_shallow}
 
 -- ---- spans
 pub batches_read_back : BatchesReadBack
@@ -36,9 +37,9 @@ records_named = record {
 pub record_batches_read_back : RecordBatchesReadBack
 record_batches_read_back =
     groups.groups_read_back logs.form read_entry IsEntry IsHeldEntry records_named (λ e h. h.scope_in_range)
-    (λ scope e. refl) entry_says entry_only IsReadableTextOf (λ line r es text. text.is_text.reads_back text.nests)
+    (λ scope e. refl) entry_says entry_only IsTextOf (λ line r es text. text.reads_back (record_batches_are_shallow r es))
 
 pub records_read_back : RecordsReadBack
 records_read_back =
     groups.items_read_back logs.form read_entry IsEntry IsHeldEntry records_named (λ e h. h.scope_in_range)
-    (λ scope e. refl) entry_says entry_only IsReadableTextOf (λ line r es text. text.is_text.reads_back text.nests)
+    (λ scope e. refl) entry_says entry_only IsTextOf (λ line r es text. text.reads_back (record_batches_are_shallow r es))

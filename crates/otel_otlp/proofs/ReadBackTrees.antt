@@ -1,5 +1,5 @@
 -- What the value trees that the exporter writes are read as.
-use Rattle.std.proofs.Common.{◌≡◌, refl, sym, ap, subst, ◌∙◌, ℕ, zero, suc, ◌-◌, ◌==◌, arith}
+use Rattle.std.proofs.Common.{◌≡◌, refl, sym, ap, subst, ◌∙◌, ℕ, zero, suc, ◌-◌, ◌≤◌, ◌==◌, arith}
 use Rattle.std.proofs.Common.{Bool, List, [], ◌∷◌, codes, if◌then◌else◌, Some}
 use Rattle.std.specs.List.{AllZip}
 use Rattle.std.specs.List.Sorted.{IsStrictlySortedBy}
@@ -123,12 +123,12 @@ above_none : (n : ℕ) (t : Tree) → (if suc n == 0 then any.text (codes "..") 
 above_none n t =
     ap (λ (b : Bool). if b then any.text (codes "..") else t) (ne_eqb (suc n) 0 (λ e. omega (arith, e)))
 
-cut_list : (n : ℕ) (ts : Trees) → cut (suc n) (any.list ts) ≡ any.list (cut_trees n ts)
+pub cut_list : (n : ℕ) (ts : Trees) → cut (suc n) (any.list ts) ≡ any.list (cut_trees n ts)
 cut_list n ts =
     let e : suc n - 1 ≡ n = omega arith in
     above_none n (any.list (cut_trees (suc n - 1) ts)) ∙ ap (λ m. any.list (cut_trees m ts)) e
 
-cut_map : (n : ℕ) (es : Entries) → cut (suc n) (any.map es) ≡ any.map (cut_entries n es)
+pub cut_map : (n : ℕ) (es : Entries) → cut (suc n) (any.map es) ≡ any.map (cut_entries n es)
 cut_map n es =
     let e : suc n - 1 ≡ n = omega arith in
     above_none n (any.map (cut_entries (suc n - 1) es)) ∙ ap (λ m. any.map (cut_entries m es)) e
@@ -155,36 +155,41 @@ read_text : (n : ℕ) (s : List ℕ) → ReadsAs n (any.text s)
 read_text n s = ((refl, (s, refl, refl)), λ t k. k.1.1 ∙ ap any.text (some_same _ _ (sym k.1.2)))
 
 mutual
-  pub only_tree : (n : ℕ) (t : Tree) → IsHeldTree t → Only (IsTree n (tree_value (cut n t))) (cut n t)
-  only_tree n (any.integer z) h =
+  -- m levels are read, and at most as many were written
+  pub only_tree : (m n : ℕ) (t : Tree) → n ≤ m → IsHeldTree t
+      → Only (IsTree m (tree_value (cut n t))) (cut n t)
+  only_tree m n (any.integer z) e h =
       let one = integer_is z h in
       ((refl, (z, refl, one.0)), λ t k. k.1.1 ∙ ap any.integer (one.1 k.1.0 k.1.2))
-  only_tree n (any.text s) h = read_text n s
-  only_tree n (any.boolean b) h =
+  only_tree m n (any.text s) e h = read_text m s
+  only_tree m n (any.boolean b) e h =
       ((refl, (b, refl, refl)), λ t k. k.1.1 ∙ ap any.boolean (some_same _ _ (sym k.1.2)))
-  only_tree n (any.bytes bs) h =
+  only_tree m n (any.bytes bs) e h =
       let one = only_bytes bs h in ((refl, one.0), λ t k. one.1 t k.1)
-  only_tree zero (any.list ts) h = read_text zero (codes "..")
-  only_tree (suc n) (any.list ts) h =
-      subst (ReadsAs (suc n)) (sym (cut_list n ts)) (read_list n (cut_trees n ts) (only_trees n ts h))
-  only_tree zero (any.map es) h = read_text zero (codes "..")
-  only_tree (suc n) (any.map es) h =
-      subst (ReadsAs (suc n)) (sym (cut_map n es))
-      (read_map n (cut_entries n es) (subst (IsStrictlySortedBy by_bytes) (sym (same_keys n es)) h.0)
-      (only_entries n es h.1))
+  only_tree m zero (any.list ts) e h = read_text m (codes "..")
+  only_tree zero (suc n) (any.list ts) e h = absurd (omega (arith, e))
+  only_tree (suc m) (suc n) (any.list ts) e h =
+      subst (ReadsAs (suc m)) (sym (cut_list n ts))
+      (read_list m (cut_trees n ts) (only_trees m n ts (omega (arith, e)) h))
+  only_tree m zero (any.map es) e h = read_text m (codes "..")
+  only_tree zero (suc n) (any.map es) e h = absurd (omega (arith, e))
+  only_tree (suc m) (suc n) (any.map es) e h =
+      subst (ReadsAs (suc m)) (sym (cut_map n es))
+      (read_map m (cut_entries n es) (subst (IsStrictlySortedBy by_bytes) (sym (same_keys n es)) h.0)
+      (only_entries m n es (omega (arith, e)) h.1))
 
-  only_trees : (n : ℕ) (ts : Trees) → AreHeldTrees ts
-      → Only (AllZip (IsTree n) (tree_values (cut_trees n ts))) (items_of_list (cut_trees n ts))
-  only_trees n no_trees h = no_more (IsTree n)
-  only_trees n (more_trees t ts) h =
+  only_trees : (m n : ℕ) (ts : Trees) → n ≤ m → AreHeldTrees ts
+      → Only (AllZip (IsTree m) (tree_values (cut_trees n ts))) (items_of_list (cut_trees n ts))
+  only_trees m n no_trees e h = no_more (IsTree m)
+  only_trees m n (more_trees t ts) e h =
       let us = cut_trees n ts in
-      one_more (IsTree n) (tree_value (cut n t)) (cut n t) (tree_values us) (items_of_list us)
-      (only_tree n t h.0) (only_trees n ts h.1)
+      one_more (IsTree m) (tree_value (cut n t)) (cut n t) (tree_values us) (items_of_list us)
+      (only_tree m n t e h.0) (only_trees m n ts e h.1)
 
-  only_entries : (n : ℕ) (es : Entries) → HaveHeldTrees es
-      → Only (AllZip (IsPair n) (entry_values (cut_entries n es))) (pairs_of (cut_entries n es))
-  only_entries n no_entries h = no_more (IsPair n)
-  only_entries n (more_entries k t es) h =
+  only_entries : (m n : ℕ) (es : Entries) → n ≤ m → HaveHeldTrees es
+      → Only (AllZip (IsPair m) (entry_values (cut_entries n es))) (pairs_of (cut_entries n es))
+  only_entries m n no_entries e h = no_more (IsPair m)
+  only_entries m n (more_entries k t es) e h =
       let fs = cut_entries n es in
-      one_more (IsPair n) (pair k (tree_value (cut n t))) (k, cut n t) (entry_values fs) (pairs_of fs)
-      (only_pair (IsTree n) k (cut n t) (only_tree n t h.0)) (only_entries n es h.1)
+      one_more (IsPair m) (pair k (tree_value (cut n t))) (k, cut n t) (entry_values fs) (pairs_of fs)
+      (only_pair (IsTree m) k (cut n t) (only_tree m n t e h.0)) (only_entries m n es e h.1)

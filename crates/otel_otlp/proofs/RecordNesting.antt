@@ -1,8 +1,5 @@
 -- How deep the value of a batch of log records nests.
-use Rattle.std.proofs.Common.{◌≡◌, ℕ, suc, ◌+◌, ◌-◌, ◌*◌, ◌≤◌, ◌<◌, ◌==◌, get_or, List, [], ◌∷◌, ◌++◌, map, subst, Option, Some, None, IfSome, Bool, true, false, if◌then◌else◌, codes, length, refl, arith}
-use Rattle.std.proofs.lemmas.Grind.{common_steps}
-use Rattle.std.proofs.lemmas.List.Elements.{All-nil, All-cons, All-append}
-use Rattle.std.specs.List.{All, list_any}
+use Rattle.std.proofs.Common.{◌≤◌, ℕ, zero, suc, ◌+◌, ◌*◌, ◌==◌, get_or, List, [], ◌∷◌, ◌++◌, map, subst, sym, Option, Some, None, codes, length, if◌then◌else◌, refl, arith}
 use Rattle.otel_base.specs.AnyValue as any
 use Rattle.otel_base.specs.AnyValue.{Tree, Trees, no_trees, more_trees, Entries, no_entries, more_entries}
 use Rattle.otel_sdk_logs.specs.Attributes.{Attribute}
@@ -12,60 +9,44 @@ use Rattle.serde_json.specs.Data.{Data, number, unsigned, depth, items_depth}
 use Rattle.serde_json.specs.View.{items_of}
 use Rattle.otel_otlp.specs.Common.{pair, tree_value, tree_values, entry_values}
 use Rattle.otel_otlp.specs.Json.{text_member, number_unless_zero, list_member, text_if_given, number_if_given, decimal_if_given, trace_id_text, span_id_text}
-use Rattle.otel_otlp.specs.Logs.{form, times, body_member, content, attribute, attributes, is_target, target_attribute, dropped, details, trace_members, log_record}
-use Rattle.otel_otlp.specs.LogsReadBack.{ShallowRecordsAreReadable}
-use Rattle.otel_otlp.specs.Trees.{max_levels, cut, cut_trees, cut_entries, cut_parts, cut_parts_of_trees, cut_parts_of_entries}
+use Rattle.otel_otlp.specs.Logs.{form, times, body_member, content, attribute, attributes, dropped, details, trace_members, log_record}
+use Rattle.otel_otlp.specs.LogsReadBack.{RecordBatchesAreShallow}
+use Rattle.otel_otlp.specs.Trees.{max_levels, cut, cut_trees, cut_entries}
 use Rattle.otel_otlp.proofs.Nesting.{AreWithin, within-append, of_members, within-if, plain, given, of_list, count, of_batch}
-use Rattle.otel_otlp.proofs.WholeTrees.{first, others}
+use Rattle.otel_otlp.proofs.ReadBackTrees.{cut_list, cut_map}
 
 -- ---- trees
--- a list or map that isn't counted isn't at the limit
-inside : (k p : ℕ) (b : Bool) → (k == 0) ≡ b → (if b then 1 else p) ≡ 0 → (0 < k) × (p ≡ 0)
-inside k p true e h = absurd (omega (arith, h))
-inside k p false e h = (grind (arith, common_steps), h)
-
-tree_or_text : (b : Bool) (n : ℕ) (t : Tree) → depth (tree_value t) ≤ n → 1 ≤ n
-    → depth (tree_value (if b then any.text (codes "..") else t)) ≤ n
-tree_or_text true n t h least = omega (arith, least)
-tree_or_text false n t h least = h
-
 pair_depth : (n : ℕ) (key : List ℕ) (d : Data) → depth d ≤ n → depth (pair key d) ≤ suc n
 pair_depth n key d h = of_members n (text_member (codes "key") key ++ (codes "value", d) ∷ []) (omega arith, (h, omega arith))
 
 mutual
-  -- no part is within k others, and those within m others are cut
-  tree_depth : (k m : ℕ) (t : Tree) → cut_parts k t ≡ 0 → depth (tree_value (cut m t)) ≤ 4 * k + 1
-  tree_depth k m (any.integer z) e = omega arith
-  tree_depth k m (any.text s) e = omega arith
-  tree_depth k m (any.boolean b) e = omega arith
-  tree_depth k m (any.bytes bs) e = omega arith
-  tree_depth k m (any.list ts) e =
-      let here = inside k (cut_parts_of_trees (k - 1) ts) (k == 0) refl e in
-      let below = trees_depth (k - 1) (m - 1) ts here.1 in
-      tree_or_text (m == 0) (4 * k + 1) (any.list (cut_trees (m - 1) ts)) (omega (arith, below, here.0)) (omega arith)
-  tree_depth k m (any.map es) e =
-      let here = inside k (cut_parts_of_entries (k - 1) es) (k == 0) refl e in
-      let below = entries_depth (k - 1) (m - 1) es here.1 in
-      tree_or_text (m == 0) (4 * k + 1) (any.map (cut_entries (m - 1) es)) (omega (arith, below, here.0)) (omega arith)
+  -- what is within n others is cut
+  tree_depth : (n : ℕ) (t : Tree) → depth (tree_value (cut n t)) ≤ 4 * n + 1
+  tree_depth n (any.integer z) = omega arith
+  tree_depth n (any.text s) = omega arith
+  tree_depth n (any.boolean b) = omega arith
+  tree_depth n (any.bytes bs) = omega arith
+  tree_depth zero (any.list ts) = omega arith
+  tree_depth (suc n) (any.list ts) =
+      let below = trees_depth n ts in
+      subst (λ u. depth (tree_value u) ≤ 4 * suc n + 1) (sym (cut_list n ts)) (omega (arith, below))
+  tree_depth zero (any.map es) = omega arith
+  tree_depth (suc n) (any.map es) =
+      let below = entries_depth n es in
+      subst (λ u. depth (tree_value u) ≤ 4 * suc n + 1) (sym (cut_map n es)) (omega (arith, below))
 
-  trees_depth : (k m : ℕ) (ts : Trees) → cut_parts_of_trees k ts ≡ 0
-      → items_depth (items_of (tree_values (cut_trees m ts))) ≤ 4 * k + 1
-  trees_depth k m no_trees e = omega arith
-  trees_depth k m (more_trees t ts) e =
-      let p = cut_parts k t in
-      let q = cut_parts_of_trees k ts in
-      let here = tree_depth k m t (first p q e) in
-      let more = trees_depth k m ts (others p q e) in
+  trees_depth : (n : ℕ) (ts : Trees) → items_depth (items_of (tree_values (cut_trees n ts))) ≤ 4 * n + 1
+  trees_depth n no_trees = omega arith
+  trees_depth n (more_trees t ts) =
+      let here = tree_depth n t in
+      let more = trees_depth n ts in
       omega (arith, here, more)
 
-  entries_depth : (k m : ℕ) (es : Entries) → cut_parts_of_entries k es ≡ 0
-      → items_depth (items_of (entry_values (cut_entries m es))) ≤ suc (4 * k + 1)
-  entries_depth k m no_entries e = omega arith
-  entries_depth k m (more_entries key t es) e =
-      let p = cut_parts k t in
-      let q = cut_parts_of_entries k es in
-      let here = pair_depth (4 * k + 1) key (tree_value (cut m t)) (tree_depth k m t (first p q e)) in
-      let more = entries_depth k m es (others p q e) in
+  entries_depth : (n : ℕ) (es : Entries) → items_depth (items_of (entry_values (cut_entries n es))) ≤ suc (4 * n + 1)
+  entries_depth n no_entries = omega arith
+  entries_depth n (more_entries key t es) =
+      let here = pair_depth (4 * n + 1) key (tree_value (cut n t)) (tree_depth n t) in
+      let more = entries_depth n es in
       omega (arith, here, more)
 
 -- ---- members
@@ -88,65 +69,45 @@ trace_within n (Some c) =
     within-append n (text_member (codes "traceId") (trace_id_text c.trace_id) ++ text_member (codes "spanId") (span_id_text c.span_id)) (number_if_given (codes "flags") c.trace_flags)
     (omega arith, (omega arith, omega arith)) (a_number n (codes "flags") c.trace_flags)
 
--- ---- records of which no list or map is within k others
-module _ (k : ℕ) where
-  abbrev IsUncounted : Attribute → Type 0
-  IsUncounted a = cut_parts k a.1 ≡ 0
+-- ---- records
+body_within : (body : Option Tree) → AreWithin 119 (body_member body)
+body_within None = omega arith
+body_within (Some t) = let inner = tree_depth max_levels t in (omega (arith, inner), omega arith)
 
-  body_within : (body : Option Tree) → IfSome body (λ t. cut_parts k t ≡ 0) → AreWithin (4 * k + 3) (body_member body)
-  body_within None h = omega arith
-  body_within (Some t) h = let inner = tree_depth k max_levels t h in (omega (arith, inner), omega arith)
+content_within : (l : LogState) → AreWithin 119 (content l)
+content_within l =
+    let severity = number_if_given (codes "severityNumber") l.severity_number in
+    let text = text_if_given (codes "severityText") l.severity_text in
+    let name = text_if_given (codes "eventName") l.event_name in
+    within-append 119 (severity ++ text ++ name) (body_member l.body)
+    (within-append 119 (severity ++ text) name
+    (within-append 119 severity text (a_number 119 (codes "severityNumber") l.severity_number) (given 119 (codes "severityText") l.severity_text))
+    (given 119 (codes "eventName") l.event_name))
+    (body_within l.body)
 
-  content_within : (l : LogState) → IfSome l.body (λ t. cut_parts k t ≡ 0) → AreWithin (4 * k + 3) (content l)
-  content_within l h =
-      let n = 4 * k + 3 in
-      let severity = number_if_given (codes "severityNumber") l.severity_number in
-      let text = text_if_given (codes "severityText") l.severity_text in
-      let name = text_if_given (codes "eventName") l.event_name in
-      within-append n (severity ++ text ++ name) (body_member l.body)
-      (within-append n (severity ++ text) name
-      (within-append n severity text (a_number n (codes "severityNumber") l.severity_number) (given n (codes "severityText") l.severity_text))
-      (given n (codes "eventName") l.event_name))
-      (body_within l.body h)
+attribute_depth : (a : Attribute) → depth (attribute a) ≤ 118
+attribute_depth a = pair_depth 117 a.0 (tree_value (cut max_levels a.1)) (tree_depth max_levels a.1)
 
-  if_target : (b : Bool) (t : List ℕ) → All IsUncounted (if b then [] else (codes "log.target", any.text t) ∷ [])
-  if_target true t = All-nil IsUncounted
-  if_target false t = All-cons IsUncounted (codes "log.target", any.text t) [] refl (All-nil IsUncounted)
+details_within : (l : LogState) → AreWithin 119 (details l)
+details_within l =
+    let xs = attributes l in
+    let list = list_member (codes "attributes") (map attribute xs) in
+    within-append 119 (if length (map attribute xs) == 0 then [] else list) (number_unless_zero (codes "droppedAttributesCount") (dropped l))
+    (within-if 119 (length (map attribute xs) == 0) list
+    (of_list 118 (codes "attributes") attribute xs (λ i d below. attribute_depth (get_or xs i d))))
+    (count 119 (codes "droppedAttributesCount") (dropped l))
 
-  target_uncounted : (xs : List Attribute) (target : Option (List ℕ)) → All IsUncounted (target_attribute xs target)
-  target_uncounted xs None = All-nil IsUncounted
-  target_uncounted xs (Some t) = if_target (list_any is_target xs) t
-
-  attribute_depth : (a : Attribute) → IsUncounted a → depth (attribute a) ≤ 4 * k + 2
-  attribute_depth a h =
-      let inner = pair_depth (4 * k + 1) a.0 (tree_value (cut max_levels a.1)) (tree_depth k max_levels a.1 h) in
-      omega (arith, inner)
-
-  details_within : (l : LogState) → All IsUncounted l.attributes → AreWithin (suc (4 * k + 2)) (details l)
-  details_within l h =
-      let n = suc (4 * k + 2) in
-      let xs = attributes l in
-      let list = list_member (codes "attributes") (map attribute xs) in
-      let all = All-append IsUncounted l.attributes (target_attribute l.attributes l.target) h (target_uncounted l.attributes l.target) in
-      within-append n (if length (map attribute xs) == 0 then [] else list) (number_unless_zero (codes "droppedAttributesCount") (dropped l))
-      (within-if n (length (map attribute xs) == 0) list
-      (of_list (4 * k + 2) (codes "attributes") attribute xs (λ i d below. attribute_depth (get_or xs i d) (all i d below))))
-      (count n (codes "droppedAttributesCount") (dropped l))
-
-  record_depth : (l : LogState) → IfSome l.body (λ t. cut_parts k t ≡ 0) → All IsUncounted l.attributes
-      → depth (log_record l) ≤ 4 * k + 4
-  record_depth l body uncounted =
-      let n = 4 * k + 3 in
-      let inner = of_members n (times l ++ content l ++ details l ++ trace_members l.trace_context)
-      (within-append n (times l ++ content l ++ details l) (trace_members l.trace_context)
-      (within-append n (times l ++ content l) (details l)
-      (within-append n (times l) (content l) (times_within n l) (content_within l body))
-      (subst (λ m. AreWithin m (details l)) (omega arith) (details_within l uncounted)))
-      (trace_within n l.trace_context)) in
-      omega (arith, inner)
+record_depth : (l : LogState) → depth (log_record l) ≤ 120
+record_depth l =
+    of_members 119 (times l ++ content l ++ details l ++ trace_members l.trace_context)
+    (within-append 119 (times l ++ content l ++ details l) (trace_members l.trace_context)
+    (within-append 119 (times l ++ content l) (details l)
+    (within-append 119 (times l) (content l) (times_within 119 l) (content_within l))
+    (details_within l))
+    (trace_within 119 l.trace_context))
 
 -- ---- batches
-pub shallow_records_are_readable : ShallowRecordsAreReadable
-shallow_records_are_readable text r es shallow h =
-    let inner = of_batch form 120 (omega arith) r es (λ i d below. record_depth 29 (get_or es i d).log (shallow i d below).body (shallow i d below).attributes) in
-    record { is_text = h; nests = omega (arith, inner) }
+pub record_batches_are_shallow : RecordBatchesAreShallow
+record_batches_are_shallow r es =
+    let inner = of_batch form 120 (omega arith) r es (λ i d below. record_depth (get_or es i d).log) in
+    omega (arith, inner)

@@ -14,6 +14,7 @@ pub mod Logs
 pub mod Traces
 pub mod Tokens
 pub mod Written
+pub mod AppendFile
 pub mod Sorted
 pub mod SortedView
 pub mod StreamClient

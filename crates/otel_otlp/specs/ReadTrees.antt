@@ -14,7 +14,6 @@ use Rattle.otel_sdk_logs.specs.Attributes.{Attribute}
 use Rattle.otel_otlp.specs.Json.{IsTextOf}
 use Rattle.otel_otlp.specs.ReadMembers.{IsObject, member_of, has, text_in, AreIn}
 use Rattle.otel_otlp.specs.ReadValues.{IsTruth, IsWhole}
-use Rattle.otel_otlp.specs.Trees.{max_levels}
 use Rattle.serde_json.specs.Data.{Data, null, boolean, number, string, array, object}
 use Rattle.serde_json.specs.Find.{as_str}
 
@@ -112,10 +111,10 @@ abbrev pub IsPair : ℕ → Data → Attribute → Type 0
 IsPair n = IsPairOf (IsTree n)
 
 -- ---- members of a log record
--- the greatest number of lists and maps within each other that are read as such: as many as an
--- exporter writes (own)
+-- the greatest number of lists and maps within each other that are read as such (own): an exporter
+-- writes fewer
 unfoldable pub levels : ℕ
-levels = max_levels
+levels = 32
 
 abbrev pub HasAttributes : Data → List Attribute → Type 0
 HasAttributes = AreIn (IsPair levels) (codes "attributes")

@@ -6,9 +6,11 @@ use Rattle.otel_base.specs.AnyValue.{Tree, Trees, no_trees, more_trees, Entries,
 use Rattle.otel_base.specs.AnyValue.{more_entries}
 use Rattle.otel_sdk_logs.specs.Attributes.{Attribute}
 
--- the greatest number of lists and maps within each other (own)
+-- the greatest number of lists and maps within each other (own). A reader of JSON takes 127 levels:
+-- the line has 9 around an attribute's value, each map 4, each list 3, and a value within them 1. A
+-- reader of protobuf takes 100 messages: there are 5 around, a map adds 3, a list 2, and a value 1.
 abbrev pub max_levels : ℕ
-max_levels = 32
+max_levels = 29
 
 -- ---- the tree that is written
 abbrev mutual

@@ -62,7 +62,7 @@ pub type OtlpJsonSpanExporter<W> = OtlpJsonExporter<W, SpanData>;
 
 /// Writes each batch of log records as a line of JSON.
 ///
-/// In a record's body and attributes, each list or map inside 32 others is cut: the text `..` is
+/// In a record's body and attributes, each list or map inside 29 others is cut: the text `..` is
 /// written in its place, and it adds 1 to the record's count of dropped attributes.
 pub type OtlpJsonLogExporter<W> = OtlpJsonExporter<W, LogData>;
 

@@ -2,7 +2,7 @@
 ghost use Rattle.otel_otlp.specs.Lossless.{EqualValuesSaySame, EqualGroupsNameSame};
 ghost use Rattle.otel_otlp.specs.Lossless.{EqualBatchesSaySame, EqualTextsSaySame};
 ghost use Rattle.otel_otlp.specs.LogsReadBack.{RecordBatchesReadBack, RecordsReadBack};
-ghost use Rattle.otel_otlp.specs.LogsReadBack.{ShallowRecordsAreReadable};
+ghost use Rattle.otel_otlp.specs.LogsReadBack.{RecordBatchesAreShallow};
 ghost use Rattle.otel_otlp.specs.ReadBack.{BatchesReadBack, SpansReadBack};
 ghost use Rattle.otel_otlp.specs.Trees.{UncountedTreesAreWhole};
 
@@ -48,12 +48,11 @@ pub fn spans_read_back()
     ensures { SpansReadBack }
 {}
 
-/// States that the text of a batch of log records, if it nests at most 127 deep, is a line that
-/// [`crate::read_resource_logs`] reads as the batch's resource with its records, scope by scope,
-/// and as nothing else.
+/// States that the text of a batch of log records is a line that [`crate::read_resource_logs`] reads
+/// as the batch's resource with its records, scope by scope, and as nothing else.
 ///
 /// Lost are the limits on attributes, which aren't in the protocol: the default ones are read. A
-/// list or map within 32 others is read as the text `..`, which is written for it, and counted as a
+/// list or map within 29 others is read as the text `..`, which is written for it, and counted as a
 /// dropped attribute. The target is lost if an attribute has the key `log.target`, and a text under
 /// this key in last place is read as the target. Of resources and scopes the same is lost as in
 /// [`batches_read_back`]. The numbers have to fit their types, and the keys of each map have to
@@ -67,10 +66,10 @@ pub fn records_read_back()
     ensures { RecordsReadBack }
 {}
 
-/// States that the text of a batch of log records nests at most 127 deep, if no list or map of a
-/// body or an attribute is within 29 others.
-pub fn shallow_records_are_readable()
-    ensures { ShallowRecordsAreReadable }
+/// States that the value of a batch of log records nests at most 127 deep, as deep as a reader of
+/// JSON accepts.
+pub fn record_batches_are_shallow()
+    ensures { RecordBatchesAreShallow }
 {}
 
 /// States that a body or an attribute of a log record is written whole if none of its parts is

@@ -241,7 +241,7 @@ impl Grouped for LogData {
 ///
 /// The scopes are in the order in which they first appear, each with its records in order. A
 /// record's target is its last attribute, `log.target`, unless the record already has that key.
-/// In its body and attributes, each list or map inside 32 others is the text `..`, and adds 1 to
+/// In its body and attributes, each list or map inside 29 others is the text `..`, and adds 1 to
 /// the record's `droppedAttributesCount`, saturating at `u32::MAX`. The members of an object are in
 /// the order of their names.
 ///

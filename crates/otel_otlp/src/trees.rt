@@ -21,7 +21,7 @@ use std::alloc::{AllocError, Global};
 use std::collections::BTreeMap;
 
 /// The greatest number of lists and maps within each other that are written.
-pub(crate) const MAX_LEVELS: u32 = 32;
+pub(crate) const MAX_LEVELS: u32 = 29;
 
 /// Writes the value of bytes, as their text in base64.
 fn bytes_value(out: &mut Writer, alloc: Global, bytes: &[u8]) -> Result<(), AllocError>

@@ -2,6 +2,7 @@
 //! span under the span that the request's headers name.
 
 mod service;
+mod spans;
 
 use anyhow::Result;
 use clap::{ArgGroup, ArgMatches, Command, arg};

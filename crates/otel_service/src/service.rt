@@ -1,11 +1,12 @@
 //! The service, and its work on a request.
 
+use crate::spans::{client_span, server_span, set_response};
 use anyhow::{Error, Result, bail, ensure};
 use bytes::{BufMut, Bytes};
-use http::{HeaderMap, Request, StatusCode};
+use http::{HeaderMap, Method, Request, StatusCode};
 use http_server::{Config, Connection, Reason, Response, Service as HttpService, State};
 use opentelemetry::logs::Logger;
-use opentelemetry::trace::{SpanBuilder, SpanKind, Status, Tracing};
+use opentelemetry::trace::{SpanKind, Status, Tracing};
 use opentelemetry::{KeyValue, Value};
 use otel_appender_log::OpenTelemetryLogBridge;
 use otel_http::{HeaderExtractor, HeaderInjector, add_header_line};
@@ -18,6 +19,12 @@ use std::io::{self, Read, Stderr, Write};
 
 /// The name of the service.
 pub const NAME: &str = "otel_service";
+
+/// The only path that is served.
+const CART: &str = "/cart";
+
+/// The host of the prices.
+const PRICES: &str = "prices:8080";
 
 /// A log that writes its records to standard error, as lines of JSON.
 pub type Log = OpenTelemetryLogBridge<SimpleLogger<OtlpJsonLogExporter<Stderr>, HostRuntime>>;
@@ -135,11 +142,11 @@ impl<'a, T: Exports + Drop, L: Logger> Service<'a, T, L> {
         for line in text.trim_ascii().lines() {
             add_header_line(self.call.rt.alloc(), &mut headers, line)?;
             if line.is_empty() && !headers.is_empty() {
-                writeln!(output, "{}", self.answer("/cart", &headers)?)?;
+                writeln!(output, "{}", self.answer(&Method::GET, CART, &headers)?)?;
                 headers.clear();
             }
         }
-        Ok(output.write_all(self.answer("/cart", &headers)?.as_bytes())?)
+        Ok(output.write_all(self.answer(&Method::GET, CART, &headers)?.as_bytes())?)
     }
 
     /// Answers the request under the span that its headers name. Returns the headers that are sent
@@ -148,23 +155,33 @@ impl<'a, T: Exports + Drop, L: Logger> Service<'a, T, L> {
     /// # Errors
     ///
     /// The reason why the request isn't served, which its span shows.
-    pub fn answer(&mut self, path: &str, headers: &HeaderMap) -> Result<String> {
-        let received = HeaderExtractor::new(self.call.rt.alloc(), headers)?;
+    pub fn answer(&mut self, method: &Method, path: &str, headers: &HeaderMap) -> Result<String> {
+        let alloc = self.call.rt.alloc();
+        let route = if path == CART { Some(CART) } else { None };
+        let builder = server_span(alloc, method, path, route, headers)?;
+        let received = HeaderExtractor::new(alloc, headers)?;
         let caller = self.tracing.receive(self.call.propagator, &received)?;
-        let builder = SpanBuilder::from_name("serve".into());
-        let span = self.tracing.enter_with(builder.with_kind(SpanKind::Server));
-        let lines = self.work(path).inspect_err(|error| drop(self.show(error)));
+        let span = self.tracing.enter_with(builder);
+        let lines = self.work(path);
+        drop(self.show(lines.as_ref().err()));
         drop(span.map(|span| self.tracing.exit(span)));
         self.tracing.detach(caller);
         self.export();
         lines
     }
 
-    /// Shows in the log and in the current span why the request isn't served.
-    fn show(&mut self, error: &Error) -> Result<()> {
-        let text = error.to_string(self.call.rt.alloc())?;
+    /// Shows in the current span whether the request is served and, also in the log, why it isn't.
+    fn show(&mut self, error: Option<&Error>) -> Result<()> {
+        let alloc = self.call.rt.alloc();
+        let Some(error) = error else {
+            let ok = StatusCode::OK;
+            return Ok(set_response(&mut self.tracing, alloc, SpanKind::Server, ok)?);
+        };
+        let text = error.to_string(alloc)?;
         log::error!(self.call.log.sink(self.tracing.context()); target: NAME, "{text}");
         self.tracing.record_error(error)?;
+        let status = StatusCode::INTERNAL_SERVER_ERROR;
+        set_response(&mut self.tracing, alloc, SpanKind::Server, status)?;
         Ok(self.tracing.set_status(Status::error(text.into()))?)
     }
 
@@ -184,13 +201,28 @@ impl<'a, T: Exports + Drop, L: Logger> Service<'a, T, L> {
         let load = self.tracing.enter("load cart")?;
         self.load()?;
         self.tracing.exit(load);
-        let price = self.tracing.enter("price")?;
-        self.tracing.exit(price);
-        ensure!(path == "/cart", "no price for {path}");
+        let builder = client_span(self.call.rt.alloc(), PRICES, path)?;
+        let ask = self.tracing.enter_with(builder)?;
+        let (sent, status) = self.ask(path)?;
+        self.tracing.exit(ask);
+        ensure!(status.is_success(), "no price for {path}");
         log::info!(self.call.log.sink(self.tracing.context()); target: NAME, "served /cart");
-        let mut sent = HeaderInjector::new(HeaderMap::new(self.call.rt.alloc()));
-        self.tracing.send(self.call.propagator, &mut sent)?;
         Ok(sent.to_string(self.call.rt.alloc())?)
+    }
+
+    /// Makes the headers of the request for the price, and shows the status of its response. Nothing
+    /// is sent: only the cart has a price.
+    fn ask(&mut self, path: &str) -> Result<(HeaderInjector, StatusCode)> {
+        let alloc = self.call.rt.alloc();
+        let mut sent = HeaderInjector::new(HeaderMap::new(alloc));
+        self.tracing.send(self.call.propagator, &mut sent)?;
+        let status = if path == CART {
+            StatusCode::OK
+        } else {
+            StatusCode::NOT_FOUND
+        };
+        set_response(&mut self.tracing, alloc, SpanKind::Client, status)?;
+        Ok((sent, status))
     }
 
     /// Loads the cart of the user that the baggage names.
@@ -209,7 +241,7 @@ impl<T: Exports + Drop, L: Logger> HttpService for Service<'_, T, L> {
     ghost answers = { λ _ _ _ _. Unit {0} };
 
     fn call(&mut self, request: &Request<Bytes>, answer: &mut Response) -> Result<(), AllocError> {
-        match self.answer(request.uri().path(), request.headers()) {
+        match self.answer(request.method(), request.uri().path(), request.headers()) {
             Ok(lines) => drop(answer.body.put_slice(lines.as_bytes())),
             Err(_) => answer.status = StatusCode::INTERNAL_SERVER_ERROR,
         }

@@ -5,6 +5,7 @@ use opentelemetry::trace::{SpanId, TraceFlags, TraceId};
 use opentelemetry::{InstrumentationScope, Key, StringValue};
 use otel_otlp::OtlpJsonLogExporter;
 use otel_sdk_base::Exporter;
+use otel_sdk_base::resource::Resource;
 use otel_sdk_logs::{LogData, SdkLogRecord};
 use std::alloc::{AllocError, Global};
 use std::io::{self, ErrorKind, Write};
@@ -161,7 +162,28 @@ fn export<W: Write + Drop>(
     }
 }
 
-/// Writes the lines of the batches of log records.
+// Maps within each other, more than are written.
+fn deep(alloc: Global) -> Result<AnyValue, AllocError> {
+    let mut tree = AnyValue::from("inside");
+    for _ in 0..60 {
+        tree = AnyValue::map(alloc, vec![in alloc; (Key::from("k"), tree)]?)?;
+    }
+    Ok(tree)
+}
+
+// A log record whose body and attribute nest deep.
+fn deep_log(alloc: Global) -> Result<LogData, AllocError> {
+    let mut record = SdkLogRecord::new(alloc);
+    record.set_body(deep(alloc)?);
+    record.add_attribute(alloc, Key::from("a"), deep(alloc)?)?;
+    let scope = InstrumentationScope::builder(StringValue::from("deep")).build(alloc)?;
+    Ok(LogData {
+        record,
+        instrumentation_scope: Rc::new(alloc, scope)?,
+    })
+}
+
+/// Writes the lines of the batches of log records, and a line that nests deep.
 pub(crate) fn write<W: Write + Drop>(
     alloc: Global,
     draws: &mut Draws,
@@ -172,5 +194,10 @@ pub(crate) fn write<W: Write + Drop>(
         let count = draws.below(3) + 1;
         export(alloc, draws, &mut exporter, count)?;
     }
-    export(alloc, draws, &mut exporter, MANY)
+    export(alloc, draws, &mut exporter, MANY)?;
+    exporter.set_resource(Rc::new(alloc, Resource::builder_empty(alloc).build())?);
+    match exporter.export(&[deep_log(alloc)?]) {
+        Ok(()) => Ok(()),
+        Err(_) => Err(io::Error::from(ErrorKind::WriteZero)),
+    }
 }

@@ -13,7 +13,6 @@ use crate::read::error::{Fault, unexpected};
 use crate::read::members::{check_object, items, member, text, to_text};
 use crate::read::messages::Message;
 use crate::read::values::has;
-use crate::trees::MAX_LEVELS;
 use base64::DecodeAllocError;
 use base64::engine::general_purpose::{STANDARD_PAD_INDIFFERENT, URL_SAFE_PAD_INDIFFERENT};
 use opentelemetry::Key;
@@ -247,11 +246,12 @@ fn value_in(alloc: Global, pair: &Json, levels: u32) -> Result<AnyValue, Fault>
 }
 
 /// Returns the number of lists and maps within each other that are read as such.
+// More than an exporter writes, since other programs write lines too.
 #[tactic(auto, unfolding(crate::specs::ReadTrees::levels))]
 fn levels() -> u32
     ensures { result ≡ spec.levels }
 {
-    MAX_LEVELS
+    32
 }
 
 /// Returns the attributes of the object.

@@ -66,14 +66,14 @@ const ONE: &'static str = "{\"intValue\":\"1\"}";
 const CUT: &'static str = "{\"stringValue\":\"..\"}";
 
 #[test]
-fn thirty_two_levels_are_written(rt: HostRuntime) -> Result<(), Fail> {
+fn twenty_nine_levels_are_written(rt: HostRuntime) -> Result<(), Fail> {
     let alloc = rt.alloc();
-    let text = with_body(alloc, in_lists(alloc, 32, AnyValue::Int(1))?)?;
-    let inner = lists(alloc, 32, ONE)?;
+    let text = with_body(alloc, in_lists(alloc, 29, AnyValue::Int(1))?)?;
+    let inner = lists(alloc, 29, ONE)?;
     let wanted = format!(in alloc; "{{\"body\":{inner}}}")?;
     assert_eq!(rt; text.as_str(), wanted.as_str());
-    let text = with_body(alloc, in_maps(alloc, 32, AnyValue::Int(1))?)?;
-    let inner = maps(alloc, 32, ONE)?;
+    let text = with_body(alloc, in_maps(alloc, 29, AnyValue::Int(1))?)?;
+    let inner = maps(alloc, 29, ONE)?;
     let wanted = format!(in alloc; "{{\"body\":{inner}}}")?;
     assert_eq!(rt; text.as_str(), wanted.as_str());
     Ok(())
@@ -82,15 +82,15 @@ fn thirty_two_levels_are_written(rt: HostRuntime) -> Result<(), Fail> {
 #[test]
 fn deeper_lists_and_maps_are_cut(rt: HostRuntime) -> Result<(), Fail> {
     let alloc = rt.alloc();
-    for levels in [33usize, 34, 1_000, 1_500] {
+    for levels in [30usize, 31, 1_000, 1_500] {
         let text = with_body(alloc, in_lists(alloc, levels, AnyValue::Int(1))?)?;
-        let inner = lists(alloc, 32, CUT)?;
+        let inner = lists(alloc, 29, CUT)?;
         let wanted = format!(in alloc; "{{\"body\":{inner},\"droppedAttributesCount\":1}}")?;
         assert_eq!(rt; text.as_str(), wanted.as_str());
     }
-    for levels in [33usize, 1_000] {
+    for levels in [30usize, 1_000] {
         let text = with_body(alloc, in_maps(alloc, levels, AnyValue::Int(1))?)?;
-        let inner = maps(alloc, 32, CUT)?;
+        let inner = maps(alloc, 29, CUT)?;
         let wanted = format!(in alloc; "{{\"body\":{inner},\"droppedAttributesCount\":1}}")?;
         assert_eq!(rt; text.as_str(), wanted.as_str());
     }
@@ -104,12 +104,12 @@ fn each_part_that_is_cut_counts(rt: HostRuntime) -> Result<(), Fail> {
     let map = in_maps(alloc, 2, AnyValue::Int(1))?;
     let parts = AnyValue::list(alloc, vec![in alloc; list, AnyValue::Int(1), map]?)?;
     let mut record = SdkLogRecord::new(alloc);
-    record.set_body(in_lists(alloc, 31, parts)?);
-    record.add_attribute(alloc, Key::from("a"), in_maps(alloc, 33, AnyValue::Int(1))?)?;
+    record.set_body(in_lists(alloc, 28, parts)?);
+    record.add_attribute(alloc, Key::from("a"), in_maps(alloc, 30, AnyValue::Int(1))?)?;
     record.dropped_attributes_count = 4;
     let text = text_of(alloc, record)?;
-    let of_body = lists(alloc, 32, format!(in alloc; "{CUT},{ONE},{CUT}")?.as_str())?;
-    let of_attribute = maps(alloc, 32, CUT)?;
+    let of_body = lists(alloc, 29, format!(in alloc; "{CUT},{ONE},{CUT}")?.as_str())?;
+    let of_attribute = maps(alloc, 29, CUT)?;
     let wanted = format!(in alloc;
         "{{\"attributes\":[{{\"key\":\"a\",\"value\":{of_attribute}}}],\"body\":{of_body},\"droppedAttributesCount\":7}}"
     )?;
@@ -121,10 +121,10 @@ fn each_part_that_is_cut_counts(rt: HostRuntime) -> Result<(), Fail> {
 fn the_count_stays_at_its_greatest(rt: HostRuntime) -> Result<(), Fail> {
     let alloc = rt.alloc();
     let mut record = SdkLogRecord::new(alloc);
-    record.set_body(in_lists(alloc, 33, AnyValue::Int(1))?);
+    record.set_body(in_lists(alloc, 30, AnyValue::Int(1))?);
     record.dropped_attributes_count = u32::MAX;
     let text = text_of(alloc, record)?;
-    let inner = lists(alloc, 32, CUT)?;
+    let inner = lists(alloc, 29, CUT)?;
     let wanted = format!(in alloc; "{{\"body\":{inner},\"droppedAttributesCount\":4294967295}}")?;
     assert_eq!(rt; text.as_str(), wanted.as_str());
     Ok(())

@@ -283,7 +283,7 @@ fn trees_that_the_exporter_cuts(rt: HostRuntime) -> Result<(), Fail> {
     let record = &read.as_slice()[0].record;
     assert_eq!(rt; record.dropped_attributes_count, 1);
     let mut wanted = AnyValue::from("..");
-    for _ in 0..32 {
+    for _ in 0..29 {
         wanted = AnyValue::list(alloc, vec![in alloc; wanted]?)?;
     }
     assert!(rt; record.attributes.as_slice()[0].1 == wanted);

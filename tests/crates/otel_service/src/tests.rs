@@ -2,13 +2,15 @@
 //! can't be read is no failure. The service starts a new trace (W3C trace-context-2, section 4.3),
 //! or keeps the parts that it can read.
 use crate::service::{Call, Service, logger};
-use http::{HeaderMap, HeaderName, HeaderValue};
+use crate::spans::server_span;
+use http::{HeaderMap, HeaderName, HeaderValue, Method};
 use opentelemetry::Value;
 use opentelemetry::trace::{SpanId, SpanKind, Status};
 use otel_sdk::EnvConfig;
 use otel_sdk::trace::{
     Build, Exports, FinishedSpans, InMemorySpanExporter, SpanData, TracingBuilder, WithExporter,
 };
+use std::alloc::{AllocError, Global};
 use std::process::Abort;
 use std::test::Fail;
 
@@ -45,7 +47,7 @@ fn answered(rt: HostRuntime, given: &[u8], fails: bool) -> anyhow::Result<Outcom
     service.answer_lines(given, &mut lines)?;
     let mut error = String::new(alloc);
     if fails {
-        if let Err(why) = service.answer("/other", &HeaderMap::new(alloc)) {
+        if let Err(why) = service.answer(&Method::POST, "/other", &HeaderMap::new(alloc)) {
             error = why.to_string(alloc)?;
         }
     }
@@ -77,7 +79,7 @@ fn the_examples_of_the_standards_are_carried_on(rt: HostRuntime) -> Result<(), F
 tracestate: rojo=00f067aa0ba902b7,congo=t61rcWkgMzE
 baggage: userId=alice,serverNode=DF%2028,isProduction=false
 ";
-    let wanted = "traceparent: 00-0af7651916cd43dd8448eb211c80319c-0000000000000001-01
+    let wanted = "traceparent: 00-0af7651916cd43dd8448eb211c80319c-0000000000000003-01
 tracestate: rojo=00f067aa0ba902b7,congo=t61rcWkgMzE
 baggage: userId=alice,serverNode=DF%2028,isProduction=false
 ";
@@ -86,7 +88,7 @@ baggage: userId=alice,serverNode=DF%2028,isProduction=false
 }
 
 /// The headers that are sent on if the received headers name no span and no baggage.
-const ANEW: &str = "traceparent: 00-00000000000000000000000000000001-0000000000000001-01
+const ANEW: &str = "traceparent: 00-00000000000000000000000000000001-0000000000000003-01
 tracestate: 
 baggage: 
 ";
@@ -152,7 +154,7 @@ fn what_can_be_read_beside_a_span_is_carried_on(rt: HostRuntime) -> Result<(), F
             "TraceParent: 00-0af7651916cd43dd8448eb211c80319c-00f067aa0ba902b7-00 \n{beside}"
         )?;
         let wanted = format!(in alloc;
-            "traceparent: 00-0af7651916cd43dd8448eb211c80319c-0000000000000001-00
+            "traceparent: 00-0af7651916cd43dd8448eb211c80319c-0000000000000003-00
 tracestate: {trace_state}
 baggage: {baggage}
 "
@@ -167,15 +169,15 @@ baggage: {baggage}
 #[test]
 fn each_request_of_the_input_is_answered(rt: HostRuntime) -> Result<(), Fail> {
     let given = b"baggage: a=1\n\n\nbaggage: b=2\r\n\r\nbaggage: c=3";
-    let wanted = "traceparent: 00-00000000000000000000000000000001-0000000000000001-01
+    let wanted = "traceparent: 00-00000000000000000000000000000001-0000000000000003-01
 tracestate: 
 baggage: a=1
 
-traceparent: 00-00000000000000000000000000000002-0000000000000004-01
+traceparent: 00-00000000000000000000000000000002-0000000000000006-01
 tracestate: 
 baggage: b=2
 
-traceparent: 00-00000000000000000000000000000003-0000000000000007-01
+traceparent: 00-00000000000000000000000000000003-0000000000000009-01
 tracestate: 
 baggage: c=3
 ";
@@ -198,8 +200,9 @@ baggage: userId=alice
         return Ok(());
     };
     assert_eq!(rt; load.name.as_str(), "load cart");
-    assert_eq!(rt; price.name.as_str(), "price");
-    assert_eq!(rt; serve.name.as_str(), "serve");
+    assert_eq!(rt; price.name.as_str(), "GET");
+    assert!(rt; price.span_kind == SpanKind::Client);
+    assert_eq!(rt; serve.name.as_str(), "GET /cart");
     assert!(rt; serve.span_kind == SpanKind::Server);
     assert!(rt; serve.parent_span_is_remote);
     assert_eq!(rt; serve.parent_span_id, SpanId::from(0x00f0_67aa_0ba9_02b7));
@@ -233,6 +236,7 @@ fn the_span_of_a_request_that_fails_shows_its_error(rt: HostRuntime) -> Result<(
     };
     assert!(rt; matches!(&served.status, Status::Unset));
     assert!(rt; matches!(&failed.status, Status::Error { .. }));
+    assert!(rt; matches!(&price.status, Status::Error { .. }));
     let [event] = failed.events.events.as_slice() else {
         assert!(rt; false, "other events");
         return Ok(());
@@ -240,6 +244,104 @@ fn the_span_of_a_request_that_fails_shows_its_error(rt: HostRuntime) -> Result<(
     assert_eq!(rt; event.name.as_str(), "exception");
     assert_eq!(rt; load.parent_span_id, failed.span_context.span_id());
     assert_eq!(rt; price.parent_span_id, failed.span_context.span_id());
+    Ok(())
+}
+
+/// The attributes of a span, as lines `KEY: VALUE`.
+fn attributes(alloc: Global, span: &SpanData) -> Result<String, AllocError> {
+    let mut lines = String::new(alloc);
+    for attribute in &span.attributes {
+        let value = attribute.value.as_str(alloc)?;
+        lines.push_str(format!(in alloc; "{}: {}\n", attribute.key, &*value)?.as_str())?;
+    }
+    Ok(lines)
+}
+
+/// The attributes of the spans of a request and of one that fails, by the semantic conventions
+/// ("HTTP spans").
+#[test]
+fn the_spans_have_the_attributes_of_http(rt: HostRuntime) -> Result<(), Fail> {
+    let given = b"Host: shop.example:8080\n";
+    let Ok(found) = answered(rt, given, true) else {
+        assert!(rt; false, "not answered");
+        return Ok(());
+    };
+    let wanted = [
+        (
+            1,
+            "http.request.method: GET
+url.full: http://prices:8080/cart
+server.address: prices
+server.port: 8080
+http.response.status_code: 200
+",
+        ),
+        (
+            2,
+            "http.request.method: GET
+url.scheme: http
+url.path: /cart
+http.route: /cart
+server.address: shop.example
+server.port: 8080
+http.response.status_code: 200
+",
+        ),
+        (
+            4,
+            "http.request.method: GET
+url.full: http://prices:8080/other
+server.address: prices
+server.port: 8080
+http.response.status_code: 404
+error.type: 404
+",
+        ),
+        (
+            5,
+            "http.request.method: POST
+url.scheme: http
+url.path: /other
+http.response.status_code: 500
+error.type: 500
+",
+        ),
+    ];
+    for (place, lines) in wanted {
+        let Some(span) = found.spans.get(place) else {
+            assert!(rt; false, "no span {place}");
+            return Ok(());
+        };
+        assert_eq!(rt; attributes(rt.alloc(), span)?.as_str(), lines);
+    }
+    Ok(())
+}
+
+/// A method and a route, and the name of the span and its method.
+const NAMED: &[(&str, Option<&'static str>, &str, &str)] = &[
+    ("GET", Some("/cart"), "GET /cart", "GET"),
+    ("GET", None, "GET", "GET"),
+    ("DELETE", Some("/cart/:id"), "DELETE /cart/:id", "DELETE"),
+    ("get", Some("/cart"), "HTTP /cart", "_OTHER"),
+    ("BREW", None, "HTTP", "_OTHER"),
+];
+
+#[test]
+fn a_server_span_is_named_after_its_method_and_route(rt: HostRuntime) -> Result<(), Fail> {
+    let alloc = rt.alloc();
+    for (method, route, name, known) in NAMED {
+        let Ok(method) = Method::from_bytes(alloc, method.as_bytes()) else {
+            assert!(rt; false, "no method");
+            return Ok(());
+        };
+        let span = server_span(alloc, &method, "/", *route, &HeaderMap::new(alloc))?;
+        assert_eq!(rt; span.name.as_str(), *name);
+        let Some([method, ..]) = span.attributes.as_ref().map(|them| them.as_slice()) else {
+            assert!(rt; false, "no attributes");
+            return Ok(());
+        };
+        assert!(rt; matches!(&method.value, Value::String(text) if text.as_str() == *known));
+    }
     Ok(())
 }
 
