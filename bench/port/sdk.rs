@@ -5,7 +5,7 @@ use opentelemetry::trace::{Span, Tracer, TracerProvider, Tracing};
 use opentelemetry::{Context, Key, KeyValue, StringValue, Value};
 use otel_sdk::error::OTelSdkError;
 use otel_sdk::trace::{
-    BatchSpanProcessor, Build, Clock, CountedIdGenerator, Exports, FinishedSpans,
+    ExporterProcessor, Build, Clock, CountedIdGenerator, Exports, FinishedSpans,
     InMemorySpanExporter, ManualClock, OpenPipeline, RandomIdGenerator, Sampler, SdkTracer,
     SdkTracerProvider, SdkTracing, SpanData, SpanExporter, SpanProcessor, SystemClock,
     TracerPipeline, TracingBuilder, WithExporter,
@@ -17,7 +17,7 @@ pub type Pipeline = TracerPipeline<Sampler, CountedIdGenerator, ManualClock>;
 /// A value that traces, with counted ids, a fixed clock and one exporter.
 pub type Traced<E> = SdkTracing<
     OpenPipeline<Sampler, CountedIdGenerator, ManualClock>,
-    ((), BatchSpanProcessor<E>),
+    ((), ExporterProcessor<E>),
 >;
 
 type SystemPipeline = TracerPipeline<

@@ -17,8 +17,9 @@ import built
 from built import TOP, below
 from functions import functions
 
-# How a line begins on which no proof depends, a comment or a hint, by the ending of the file.
-SKIPPED = {".rt": ("//", "#[inline"), ".antt": "--"}
+# How a line begins on which no proof depends, by the ending of the file: a comment, a hint, or the derives of a type, since one more
+# changes no call that there was.
+SKIPPED = {".rt": ("//", "#[inline", "#[derive("), ".antt": "--"}
 # An import of a source.
 IMPORT = r"(?m)^ *(?:pub(?:\(\w+\))? )?(?:ghost )?use ([^;]*);\n?"
 # How the line of a private type or constant begins.

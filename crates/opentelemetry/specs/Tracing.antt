@@ -399,8 +399,17 @@ module _ {B S : Type 0} where
       Runs after_end builder old new out =
           RunsEntered after_end builder old new out ⊎ RunsWithout old new out
 
-    -- The work ran once in a span that was entered before and exited after it. If it failed, that
-    -- was recorded in the span first (`Tracing::try_in_span`).
+    -- If the outcome is an error, it was recorded in the span. Then the span was exited
+    -- (`Tracing::exit_with`).
+    pub record ExitsWith {O X : Type 0} (after_end : S → ℕ → S)
+        (fails : X → ℕ → TracingState B S → TracingState B S → Type 0) (number : ℕ)
+        (outcome : Result O X) (old new : TracingState B S) : Type 0 where
+      pub recorded : TracingState B S
+      pub done : OnOk outcome (recorded ≡ old)
+      pub failed : IfErr outcome (λ error. fails error number old recorded)
+      pub exits : Exits after_end number recorded new
+
+    -- The work ran once in a span that was entered before and exited after it, with the outcome.
     pub record TriesEntered {T F O X : Type 0} (held : T → TracingState B S)
         (f : Once F (MutBor T × Unit {0}) (Result O X × (MutBor T × Unit {0}))) (work : F)
         (context_of : S → SpanContextRecord) (after_end : S → ℕ → S)
@@ -409,12 +418,9 @@ module _ {B S : Type 0} where
       pub entered : Entered
       pub lent : T
       pub left : T
-      pub recorded : T
       pub enters : Enters context_of builder (held old) (held lent) entered
       pub ran : FnOnceReturnsAtMut f work lent out left
-      pub done : OnOk out (held recorded ≡ held left)
-      pub failed : IfErr out (λ error. fails error entered.number (held left) (held recorded))
-      pub exits : Exits after_end entered.number (held recorded) (held new)
+      pub exits : ExitsWith after_end fails entered.number out (held left) (held new)
 
     -- the work ran once, in a span or, if none could be entered, without one
     -- (`Tracing::try_in_span`)

@@ -24,7 +24,7 @@ use std::rc::RcStr;
 /// ```
 /// let text = StringValue::from(String::from_str(alloc, name)?);
 /// ```
-#[derive(Eq, PartialOrd, Hash, Debug, Drop)]
+#[derive(Eq, PartialOrd, Ord, Hash, Debug, Drop)]
 pub struct StringValue {
     text: Text,
 }

@@ -6,37 +6,26 @@ use opentelemetry::propagation::{PropagationError, TextMapPropagator};
 use opentelemetry::trace::{SpanBuilder, SpanKind, Tracing};
 use std::alloc::AllocError;
 use std::collections::HashMap;
-use thiserror::Error;
+use std::fmt::Display;
 
 /// The headers of a request.
 pub type Headers = HashMap<String, String>;
 
 /// A server, however it is reached.
 pub trait Server {
+    /// Why there is no answer.
+    type Error: Display + From<AllocError> + From<PropagationError>;
+
     /// Returns the value of the key, which is set first if a value is given.
     ///
     /// # Errors
     ///
     /// Why there is no answer.
-    fn answer(&mut self, operation: &str, key: &str, value: Option<&str>, sent: &Headers) -> Found;
+    fn answer(&mut self, key: &str, value: Option<&str>, sent: &Headers) -> Found<Self>;
 }
 
-/// Why a call failed.
-#[derive(Debug, Drop, Error)]
-pub enum KvError {
-    /// Out of memory.
-    #[error("out of memory")]
-    Memory(#[from(alloc)] AllocError),
-    /// The headers weren't set.
-    #[error("the headers weren't set: {0}")]
-    Headers(#[from] PropagationError),
-    /// The server refused.
-    #[error("the server refused")]
-    Refused,
-}
-
-/// The value of a key, if it has one.
-pub type Found = Result<Option<String>, KvError>;
+/// The value of a key, if it has one, or the error of the server.
+pub type Found<S> = Result<Option<String>, <S as Server>::Error>;
 
 /// A client.
 #[derive(Drop)]
@@ -53,7 +42,7 @@ impl<P: TextMapPropagator, S: Server> Client<P, S> {
     /// # Errors
     ///
     /// The server's error, or why it wasn't asked.
-    pub fn get(&mut self, tracing: &mut impl Tracing, key: &str) -> Found {
+    pub fn get(&mut self, tracing: &mut impl Tracing, key: &str) -> Found<S> {
         self.call(tracing, key, None)
     }
 
@@ -62,12 +51,12 @@ impl<P: TextMapPropagator, S: Server> Client<P, S> {
     /// # Errors
     ///
     /// The server's error, or why it wasn't asked.
-    pub fn put(&mut self, tracing: &mut impl Tracing, key: &str, value: &str) -> Found {
+    pub fn put(&mut self, tracing: &mut impl Tracing, key: &str, value: &str) -> Found<S> {
         self.call(tracing, key, Some(value))
     }
 
     /// Asks the server in a span, whose context the headers carry.
-    fn call(&mut self, tracing: &mut impl Tracing, key: &str, value: Option<&str>) -> Found {
+    fn call(&mut self, tracing: &mut impl Tracing, key: &str, value: Option<&str>) -> Found<S> {
         let alloc = tracing.alloc();
         let operation = if value.is_some() { "PUT" } else { "GET" };
         let span = SpanBuilder::from_name(operation.into())
@@ -75,27 +64,19 @@ impl<P: TextMapPropagator, S: Server> Client<P, S> {
             .with_attribute(alloc, "db.operation.name", operation)?
             .with_attribute(alloc, "db.query.text", String::from_str(alloc, key)?)?;
         let Ok(entered) = tracing.enter_with(span) else {
-            return self.ask(tracing, operation, key, value);
+            tracing.count_unrecorded();
+            return self.ask(tracing, key, value);
         };
-        let found = self.ask(tracing, operation, key, value);
-        if let Err(error) = &found {
-            tracing.fail(entered, error);
-        }
-        tracing.exit(entered);
+        let found = self.ask(tracing, key, value);
+        tracing.exit_with(entered, &found);
         found
     }
 
     /// Asks the server under the current context, which the headers carry.
-    fn ask(
-        &mut self,
-        tracing: &mut impl Tracing,
-        operation: &str,
-        key: &str,
-        value: Option<&str>,
-    ) -> Found {
+    fn ask(&mut self, tracing: &mut impl Tracing, key: &str, value: Option<&str>) -> Found<S> {
         let mut headers = HashMap::new(tracing.alloc());
         tracing.send(&self.propagator, &mut headers)?;
-        let found = self.server.answer(operation, key, value, &headers)?;
+        let found = self.server.answer(key, value, &headers)?;
         tracing.set("db.response.returned_rows", i64::from(found.is_some()))?;
         Ok(found)
     }

@@ -5,6 +5,7 @@ mod EnvVariableLemmas
 mod ListedFields
 mod Outcomes
 mod ParentLemmas
+mod RateLemmas
 mod Received
 mod Rising
 mod Scaling

@@ -1,6 +1,6 @@
 -- The configuration that environment variables give. Not in the Rust crate, where each part reads
 -- its own variables.
-use Rattle.std.specs.Prelude.{◌≡◌, ℕ, Bool, ◌||◌, List, [], ◌++◌, Some, codes, refl, if◌then◌else◌}
+use Rattle.std.specs.Prelude.{◌≡◌, ℕ, Bool, ◌&&◌, ◌||◌, List, [], ◌++◌, Some, codes, refl, if◌then◌else◌}
 use Rattle.std.specs.Option.{option_map_or}
 use Rattle.std.specs.declared.alloc.Global.{Global}
 use Rattle.std.specs.declared.vec.Vec.{Vec}
@@ -160,13 +160,15 @@ provider_with_env c b =
     }
 
 -- the builder with the configuration's sampler, resource, limits of spans and sizes of batches,
--- disabled if the configuration is
+-- whose later exporters get spans unless the configuration names no exporter, disabled if the
+-- configuration is
 abbrev pub with_env : {S G X : Type 0} → EnvConfig → BuilderParts S G X
     → BuilderParts EnvSampler G X
 with_env c b = record {
   provider = provider_with_env c b.provider;
   processors = b.processors;
   config = effective (limits.sizes_of c.span_batches);
+  exports = b.exports && export.exports c.traces_exporter;
   is_disabled = b.is_disabled || c.is_disabled;
 }
 

@@ -55,6 +55,12 @@ named text =
     else (if is_named text (codes "console") then Some to.Console
     else (if is_named text (codes "none") then Some to.Nothing else None))
 
+-- whether spans or log records are exported
+abbrev pub exports : EnvExporter → Bool
+exports to.Otlp = true
+exports to.Console = true
+exports to.Nothing = false
+
 -- the exporter that the variable names, or OTLP
 abbrev pub exporter : List ℕ → Variables → EnvExporter
 exporter name vars = unwrap_or (named (text_of name vars)) to.Otlp

@@ -15,6 +15,7 @@ pub mod LastExport
 pub mod ParentBased
 pub mod Parents
 pub mod Processor
+pub mod RateLimit
 pub mod Ratio
 pub mod RatioLaws
 pub mod Sampler

@@ -118,6 +118,46 @@ none_calls = record {
   AccountsFor = λ _ _. Unit {0};
 }
 
+-- ---- a processor that may be off
+
+-- the processor, and whether it is off
+pub record ConfiguredState (P : Type 0) : Type 0 where
+  pub processor : P
+  pub is_off : Bool
+
+module _ {P : Type 0} where
+  -- the processor took this step, unless it is off: then nothing reaches it
+  abbrev pub UnlessOff : (P → P → Type 0) → ConfiguredState P → ConfiguredState P → Type 0
+  UnlessOff step old new = MatchBool old.is_off (new ≡ old)
+      (step old.processor new.processor × (new ≡ record old { processor = new.processor }))
+
+  -- the processor answered so, unless it is off
+  abbrev pub AnswersUnlessOff : (P → Result (Unit {0}) OTelSdkError → P → Type 0)
+      → ConfiguredState P → Result (Unit {0}) OTelSdkError → ConfiguredState P → Type 0
+  AnswersUnlessOff step old answer new = MatchBool old.is_off ((answer ≡ Ok tt) × (new ≡ old))
+      (step old.processor answer new.processor
+      × (new ≡ record old { processor = new.processor }))
+
+  -- a processor that may be off
+  abbrev pub configured_calls : ProcessorCalls P → ProcessorCalls (ConfiguredState P)
+  configured_calls calls = record {
+    starts = λ old parent span new begun. MatchBool old.is_off ((begun ≡ span) × (new ≡ old))
+        (calls.starts old.processor parent span new.processor begun
+        × (new ≡ record old { processor = new.processor }));
+    ends = λ old span new. UnlessOff (λ before after. calls.ends before span after) old new;
+    loses = λ old span new. UnlessOff (λ before after. calls.loses before span after) old new;
+    flushes = AnswersUnlessOff calls.flushes;
+    shuts_down = AnswersUnlessOff calls.shuts_down;
+    takes_resource = λ old resource new.
+        UnlessOff (λ before after. calls.takes_resource before resource after) old new;
+    keeps_ended = λ p. if p.is_off then false else calls.keeps_ended p.processor;
+    is_shut_down = λ p. if p.is_off then true else calls.is_shut_down p.processor;
+    IsEmpty = λ p. p.is_off ≡ false → calls.IsEmpty p.processor;
+    dropped = λ p. calls.dropped p.processor;
+    queued = λ p. calls.queued p.processor;
+    AccountsFor = λ p ended. p.is_off ≡ false → calls.AccountsFor p.processor ended;
+  }
+
 -- two processors in order: each is told of each span, once
 abbrev pub pair_calls : {A B : Type 0} → ProcessorCalls A → ProcessorCalls B → ProcessorCalls (A × B)
 pair_calls a b = record {

@@ -1,6 +1,6 @@
 -- The questions to a sampler and its answers.
 use Rattle.std.specs.Prelude.{◌≡◌, ℕ, List, [], ◌++◌, Bool, true, false, map, codes, if◌then◌else◌}
-use Rattle.std.specs.Prelude.{◌||◌}
+use Rattle.std.specs.Prelude.{◌||◌, MatchBool, Option}
 use Rattle.std.specs.Prelude.{nat_eq, to_bits}
 use Rattle.std.specs.Float.{binary64}
 use Rattle.otel_ids.specs.TraceState.{Pair}
@@ -18,13 +18,15 @@ use Rattle.otel_sdk.specs.Ratio.{samples, IsNumberText}
 use Rattle.otel_sdk.specs.declared.trace.sampler.SamplingDecision.{SamplingDecision}
 use Rattle.otel_sdk.specs.declared.trace.sampler.SamplingDecision.TheVariants.{Drop}
 use Rattle.otel_sdk.specs.declared.trace.sampler.SamplingDecision.TheVariants.{RecordAndSample}
+use Rattle.otel_sdk.specs.declared.trace.sampler.SamplingParameters.{SamplingParameters}
 use Rattle.otel_sdk.specs.declared.trace.sampler.SamplingResult.{SamplingResult}
 use Rattle.otel_sdk.specs.declared.trace.sampler.Sampler.{Sampler}
 use Rattle.otel_sdk.specs.declared.trace.sampler.Sampler.TheVariants.{AlwaysOn, AlwaysOff}
 use Rattle.otel_sdk.specs.declared.trace.sampler.Sampler.TheVariants.{TraceIdRatioBased}
+use Rattle.otel_sdk.specs.declared.trace.sampler.parent_based.ParentBased.{ParentBased}
 
--- the parent context, the trace id of the span, and the name, kind, attributes and links from its
--- builder [OpenTelemetry trace SDK, "ShouldSample"]
+-- the parent context, the trace id of the span, and the name, kind, attributes, links and start time
+-- from its builder [OpenTelemetry trace SDK, "ShouldSample"; the start time is own]
 pub record Asked : Type 0 where
   pub parent : ContextRecord
   pub trace_id : ℕ
@@ -32,6 +34,7 @@ pub record Asked : Type 0 where
   pub kind : SpanKind
   pub attributes : List Attribute
   pub links : List LinkRecord
+  pub start_time : Option ℕ
 
 -- the decision, attributes to set on the span, and its trace state
 -- [OpenTelemetry trace SDK, "ShouldSample"]
@@ -40,15 +43,16 @@ pub record Answer : Type 0 where
   pub attributes : List Attribute
   pub trace_state : List Pair
 
--- the question in the parameters of `ShouldSample::should_sample`
-abbrev pub asked_of : ContextRecord → ℕ → List ℕ → SpanKind → List KeyValue → List Link → Asked
-asked_of parent trace_id name kind attributes links = record {
-  parent = parent;
-  trace_id = trace_id;
-  name = name;
-  kind = kind;
-  attributes = map attribute_of attributes;
-  links = map link_of links;
+-- the question as a record, its attributes and links as lists
+abbrev pub asked_of : SamplingParameters → Asked
+asked_of span = record {
+  parent = span.parent_context.now;
+  trace_id = span.trace_id;
+  name = span.name.now;
+  kind = span.span_kind;
+  attributes = map attribute_of span.attributes.now;
+  links = map link_of span.links.now;
+  start_time = span.start_time;
 }
 
 -- a result as a record, its attributes as a list
@@ -108,6 +112,29 @@ parent_based root remote_on remote_off local_on local_off asked =
     then (if sampled then remote_on asked else remote_off asked)
     else (if sampled then local_on asked else local_off asked))
     else root asked
+
+-- One of five samplers was told of the span, the one that was asked about it, and the others are
+-- unchanged.
+abbrev pub ParentBasedCounts : {A B C D E S : Type 0}
+    → (A → ContextRecord → S → A → Type 0) → (B → ContextRecord → S → B → Type 0)
+    → (C → ContextRecord → S → C → Type 0) → (D → ContextRecord → S → D → Type 0)
+    → (E → ContextRecord → S → E → Type 0) → ParentBased A B C D E → ContextRecord → S
+    → ParentBased A B C D E → Type 0
+ParentBasedCounts root remote_on remote_off local_on local_off old parent span new =
+    let own = span_context parent in
+    let sampled = is_sampled own.trace_flags in
+    MatchBool (has_parent own) (MatchBool own.is_remote
+    (MatchBool sampled
+    (remote_on old.remote_parent_sampled parent span new.remote_parent_sampled
+    × (new ≡ record old { remote_parent_sampled = new.remote_parent_sampled }))
+    (remote_off old.remote_parent_not_sampled parent span new.remote_parent_not_sampled
+    × (new ≡ record old { remote_parent_not_sampled = new.remote_parent_not_sampled })))
+    (MatchBool sampled
+    (local_on old.local_parent_sampled parent span new.local_parent_sampled
+    × (new ≡ record old { local_parent_sampled = new.local_parent_sampled }))
+    (local_off old.local_parent_not_sampled parent span new.local_parent_not_sampled
+    × (new ≡ record old { local_parent_not_sampled = new.local_parent_not_sampled }))))
+    (root old.root parent span new.root × (new ≡ record old { root = new.root }))
 
 -- the description made from descriptions of the five samplers
 abbrev pub parent_based_text : List ℕ → List ℕ → List ℕ → List ℕ → List ℕ → List ℕ

@@ -15,18 +15,24 @@ pub record SourceState (P X : Type 0) : Type 0 where
   pub begun : List SpanState
   pub taken : List SpanState
 
--- A source of spans that the pipeline may start. The processors are told of each one that begins,
--- before it is the current one, and get the data of each one that ends.
+-- A source of spans that the pipeline may start. The pipeline and then the processors are told of
+-- each one that begins, before it is the current one, and the processors get the data of each one
+-- that ends.
 abbrev pub sdk_calls : {P X : Type 0} → (P → ℕ → Type 0)
-    → (P → BuilderRecord → ContextRecord → SpanState → Type 0) → ProcessorCalls X
+    → (P → BuilderRecord → ContextRecord → SpanState → Type 0)
+    → (P → ContextRecord → SpanState → P → Type 0) → ProcessorCalls X
     → SourceCalls (SourceState P X) SpanState
-sdk_calls may_show may_start processing = record {
+sdk_calls may_show may_start begins processing = record {
   is_disabled = λ s. s.is_disabled;
   may_show = λ s now. MatchBool s.is_disabled (now ≡ 0) (may_show s.pipeline now);
   may_build = λ s builder parent span. may_start s.pipeline builder parent span;
-  begins = λ old parent span new begun.
-      processing.starts old.processors parent span new.processors begun
-      × (new ≡ record old { processors = new.processors; begun = old.begun ++ begun ∷ [] });
+  begins = λ old parent span new begun. begins old.pipeline parent span new.pipeline
+      × processing.starts old.processors parent span new.processors begun
+      × (new ≡ record old {
+        pipeline = new.pipeline;
+        processors = new.processors;
+        begun = old.begun ++ begun ∷ [];
+      });
   takes = λ old span new. MatchOption span.recorded (new.processors ≡ old.processors)
       (λ recorded. processing.ends old.processors recorded new.processors)
       × (new ≡ record old { processors = new.processors; taken = old.taken ++ span ∷ [] });

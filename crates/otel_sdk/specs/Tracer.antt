@@ -104,6 +104,7 @@ asked builder context trace_id = record {
   kind = kind_of builder.span_kind;
   attributes = listed builder.attributes;
   links = listed builder.links;
+  start_time = builder.start_time;
 }
 
 -- the span context with these ids: local, with the flags of the decision and this trace state
@@ -156,6 +157,12 @@ pub record TracerState (S G : Type 0) : Type 0 where
   pub id_generator : G
   pub limits : SpanLimits
   pub scope : Scope
+
+-- the sampler was told of the span, and nothing else changed (`OpenPipeline::begin`)
+abbrev pub TellsSampler : {S G : Type 0} → (S → ContextRecord → SpanState → S → Type 0)
+    → TracerState S G → ContextRecord → SpanState → TracerState S G → Type 0
+TellsSampler counts old parent span new = counts old.sampler parent span new.sampler
+    × (new ≡ record old { sampler = new.sampler })
 
 -- the tracer of this scope that starts spans with a `TracerConfig`
 abbrev pub of_config : {S G C : Type 0} → TracerConfig S G C → Rc Scope Global → TracerState S G

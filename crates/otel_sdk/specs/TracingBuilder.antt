@@ -8,14 +8,16 @@ use Rattle.otel_sdk.specs.SdkSource as source
 use Rattle.otel_sdk.specs.SdkSource.{SourceState}
 use Rattle.otel_sdk.specs.Tracer.{ProviderParts, TracerState, provider_of, tracer_of}
 use Rattle.otel_sdk_base.specs.Queue.{Limits}
+use Rattle.otel_sdk_base.specs.Resource.{for_service}
 use Rattle.otel_sdk_span.specs.Span.{SpanState}
 
 -- the parts of the provider, the processors, the limits of the queues of exporters that are added
--- later, and whether it is disabled
+-- later, whether these get spans, and whether it is disabled
 pub record BuilderParts (S G X : Type 0) : Type 0 where
   pub provider : ProviderParts S G
   pub processors : X
   pub config : Limits
+  pub exports : Bool
   pub is_disabled : Bool
 
 -- the same parts with this provider
@@ -25,6 +27,7 @@ with_provider provider parts = record {
   provider = provider;
   processors = parts.processors;
   config = parts.config;
+  exports = parts.exports;
   is_disabled = parts.is_disabled;
 }
 
@@ -34,15 +37,16 @@ with_last processor parts = record {
   provider = parts.provider;
   processors = (parts.processors, processor);
   config = parts.config;
+  exports = parts.exports;
   is_disabled = parts.is_disabled;
 }
 
--- The value of these parts and this scope. Its processors were told the resource, and nothing has
--- begun.
+-- The value of these parts and this scope. Its processors were told the resource, which has the
+-- scope's name as the service's unless it names one, and nothing has begun.
 pub record IsBuilt {S G X : Type 0} (processing : ProcessorCalls X) (parts : BuilderParts S G X)
     (scope : Scope) (t : TracingState (SourceState (TracerState S G) X) SpanState) : Type 0 where
   pub processors : X
-  pub told : processing.takes_resource parts.processors (provider_of parts.provider).resource
-      processors
+  pub told : processing.takes_resource parts.processors
+      (for_service scope.name (provider_of parts.provider).resource) processors
   pub state : t ≡ tracing.at_start (source.at_start
       (tracer_of (provider_of parts.provider) scope) processors parts.is_disabled)

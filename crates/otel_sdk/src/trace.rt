@@ -23,10 +23,14 @@ pub use otel_sdk_span::{SdkSpan, SpanData, SpanEvents, SpanExporter, SpanLimits,
 pub use processor::SpanProcessor;
 pub use processor::baggage::BaggageSpanProcessor;
 pub use processor::batch::BatchSpanProcessor;
+pub use processor::configured::{ConfiguredProcessor, ExporterProcessor};
 pub use processor::simple::SimpleSpanProcessor;
 pub use provider::{SdkTracerProvider, TracerProviderBuilder};
 pub use sampler::parent_based::ParentBased;
-pub use sampler::{Sampler, SamplingDecision, SamplingResult, ShouldSample, laws};
+pub use sampler::rate::RateLimitingSampler;
+pub use sampler::{
+    Sampler, SamplingDecision, SamplingParameters, SamplingResult, ShouldSample, laws,
+};
 pub use source::SdkSource;
 pub use tracer::calls::TracerCalls;
 pub use tracer::{OpenPipeline, Pipeline, SdkTracer, TracerPipeline};

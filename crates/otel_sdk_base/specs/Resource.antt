@@ -1,6 +1,7 @@
 -- The parts of a resource, and the effects of its calls.
 use Rattle.std.specs.Prelude.{◌≡◌, ℕ, List, [], ◌∷◌, Option, Some, None, option_map}
-use Rattle.std.specs.Prelude.{find, codes, refl, if◌then◌else◌}
+use Rattle.std.specs.Prelude.{Bool, true, false, not, find, codes, refl, if◌then◌else◌}
+use Rattle.std.specs.Option.{option_map_or}
 use Rattle.std.specs.Str.{bytes_eq}
 use Rattle.otel_base.specs.Value.{AttributeValue, text}
 use Rattle.otel_base.specs.KeyValue.{Attribute, has_key}
@@ -45,6 +46,23 @@ with_attributes given r = record r { attributes = put_all r.attributes given }
 abbrev pub with_service_name : List ℕ → Parts → Parts
 with_service_name name r = with_attribute (named (codes "service.name") name) r
 
+-- the value of the key, if there is one (the Rust crate's `get`)
+abbrev pub get : List ℕ → Parts → Option AttributeValue
+get key r = option_map (λ p. p.1) (find (has_key key) r.attributes)
+
+-- whether the value names a service: it isn't the default one
+abbrev pub is_known : AttributeValue → Bool
+is_known (text name) = not (bytes_eq name (codes "unknown_service"))
+is_known _ = true
+
+-- whether the resource names a service (own)
+abbrev pub names_service : Parts → Bool
+names_service r = option_map_or is_known (get (codes "service.name") r) false
+
+-- the resource of that service, unless it names one (own)
+abbrev pub for_service : List ℕ → Parts → Parts
+for_service name r = if names_service r then r else with_service_name name r
+
 -- the resource with this schema URL in place of the one before (the Rust crate's
 -- `with_schema_url`)
 abbrev pub with_schema_url : List ℕ → Parts → Parts
@@ -70,10 +88,6 @@ merge old updating = record {
   attributes = put_all old.attributes updating.attributes;
   schema_url = merged_url (given old.schema_url) (given updating.schema_url);
 }
-
--- the value of the key, if there is one (the Rust crate's `get`)
-abbrev pub get : List ℕ → Parts → Option AttributeValue
-get key r = option_map (λ p. p.1) (find (has_key key) r.attributes)
 
 -- ---- worked rows
 merge_example :
@@ -102,3 +116,11 @@ service_example : (with_service_name (codes "cart") with_defaults).attributes
     ∷ named (codes "telemetry.sdk.name") (codes "otel_sdk")
     ∷ named (codes "telemetry.sdk.version") (codes "0.1.0") ∷ []
 service_example = refl
+
+unnamed_example : for_service (codes "cart") with_defaults
+    ≡ with_service_name (codes "cart") with_defaults
+unnamed_example = refl
+
+named_example : for_service (codes "cart") (with_service_name (codes "shop") with_defaults)
+    ≡ with_service_name (codes "shop") with_defaults
+named_example = refl

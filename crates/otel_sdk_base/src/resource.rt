@@ -170,6 +170,37 @@ impl Resource {
         }
     }
 
+    /// Returns `true` if the resource names a service: its attribute `service.name` isn't
+    /// `unknown_service`, the default. Not in the Rust crate.
+    pub fn names_service(&self) -> bool
+        ensures { result ≡ spec.names_service self.now }
+    {
+        match self.get("service.name") {
+            Some(Value::String(name)) => name.as_str() != "unknown_service",
+            Some(_) => true,
+            None => false,
+        }
+    }
+
+    /// Sets the attribute `service.name`, unless the resource names a service. Not in the Rust
+    /// crate.
+    ///
+    /// # Errors
+    ///
+    /// `AllocError` if out of memory. The resource is dropped.
+    pub fn for_service(self, name: StringValue) -> Result<Resource, AllocError>
+        ensures { IfOk result (λ r. r ≡ spec.for_service name self) }
+    {
+        if self.names_service() {
+            return Ok(self);
+        }
+        let builder = ResourceBuilder {
+            attributes: self.attributes,
+            schema_url: self.schema_url,
+        };
+        Ok(builder.with_service_name(name)?.build())
+    }
+
     /// Returns the attributes in order.
     pub fn attributes(&self) -> Iter<'_, KeyValue>
         ensures { map attribute_of (iter_rest result) ≡ self.now.attributes }

@@ -9,6 +9,7 @@ mod loggers;
 mod logs;
 mod otlp_http;
 mod processors;
+mod protos;
 mod spans;
 mod stream_client;
 mod tracer;
@@ -19,7 +20,9 @@ use opentelemetry::trace::{SpanContext, SpanId, SpanKind, TraceFlags, TraceId, T
 use opentelemetry::{Context, Key, KeyValue, StringValue, Value};
 use otel_sdk::env::EnvSampler;
 use otel_sdk::resource::{Resource, ResourceBuilder};
-use otel_sdk::trace::{ParentBased, Sampler, ShouldSample};
+use otel_sdk::trace::{
+    ParentBased, RateLimitingSampler, Sampler, SamplingParameters, ShouldSample,
+};
 use std::alloc::{AllocError, Global};
 
 pub fn play<R: Print>(rt: HostRuntime, lines: &Lines<'_, R>) {
@@ -30,6 +33,9 @@ pub fn play<R: Print>(rt: HostRuntime, lines: &Lines<'_, R>) {
     if lines.begin("sampler-description") {
         let sampler = Sampler::TraceIdRatioBased(0.5);
         lines.answer_of(sampler.description(alloc));
+    }
+    if lines.begin("rate-limiting-description") {
+        lines.answer_of(RateLimitingSampler::new(100).description(alloc));
     }
     if lines.begin("parent-based-description") {
         let sampler = ParentBased::new(Sampler::AlwaysOff);
@@ -44,6 +50,7 @@ pub fn play<R: Print>(rt: HostRuntime, lines: &Lines<'_, R>) {
     processors::play(alloc, lines);
     export::play(alloc, lines);
     json::play(alloc, lines);
+    protos::play(alloc, lines);
     otlp_http::play(alloc, lines);
     json_logs::play(alloc, lines);
     stream_client::play(rt, lines);
@@ -73,6 +80,11 @@ fn resources<R: Print>(alloc: Global, lines: &Lines<'_, R>) {
         let read = Resource::from_texts(alloc, "a=b%2Cc,,d=e", "cart");
         lines.answer_of(read.map(|(resource, _)| resource.len()));
     }
+    if lines.begin("resource-for-service") {
+        let resource = Resource::builder_empty(alloc).build();
+        let named = resource.for_service(StringValue::from("cart"));
+        lines.answer_of(named.map(|resource| resource.len()));
+    }
     if lines.begin("resource-merge") {
         lines.end(merge(alloc, lines));
     }
@@ -91,16 +103,24 @@ fn parent(alloc: Global) -> Result<Context, AllocError> {
 
 fn asked<R: Print>(alloc: Global, lines: &Lines<'_, R>) -> Result<(), AllocError> {
     let parent = parent(alloc)?;
-    let trace_id = TraceId::from(1);
-    let kind = SpanKind::Server;
-    let sampler = Sampler::AlwaysOn;
-    let answer = sampler.should_sample(alloc, &parent, trace_id, "s", kind, &[], &[]);
+    let span = SamplingParameters {
+        parent_context: &parent,
+        trace_id: TraceId::from(1),
+        name: "s",
+        span_kind: SpanKind::Server,
+        attributes: &[],
+        links: &[],
+        start_time: Some(1),
+    };
+    let answer = Sampler::AlwaysOn.should_sample(alloc, &span);
     lines.free_ok("Sampler::should_sample", answer);
     let sampler = ParentBased::new(Sampler::TraceIdRatioBased(0.5));
-    let answer = sampler.should_sample(alloc, &parent, trace_id, "s", kind, &[], &[]);
+    let answer = sampler.should_sample(alloc, &span);
     lines.free_ok("ParentBased::should_sample", answer);
+    let answer = RateLimitingSampler::new(1).should_sample(alloc, &span);
+    lines.free_ok("RateLimitingSampler::should_sample", answer);
     let sampler = EnvSampler::ParentBased(Sampler::TraceIdRatioBased(0.5));
-    let answer = sampler.should_sample(alloc, &parent, trace_id, "s", kind, &[], &[]);
+    let answer = sampler.should_sample(alloc, &span);
     lines.free_ok("EnvSampler::should_sample", answer);
     Ok(())
 }

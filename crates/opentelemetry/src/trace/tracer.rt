@@ -21,7 +21,7 @@ use std::alloc::{AllocError, Global};
 ///
 /// See `otel_examples::api::in_span` and `otel_examples::api::service`. For a tracer, see
 /// `RecordingTracer` of `otel_examples::recording`.
-pub trait Tracer {
+pub trait Tracer: Drop {
     ghost use Rattle.otel_context.specs.Context.{ContextRecord};
     ghost use Rattle.opentelemetry.specs.SpanBuilder.{BuilderRecord};
 

@@ -7,7 +7,7 @@ ghost use Rattle.opentelemetry.specs.Injection.{InjectsBy};
 ghost use Rattle.opentelemetry.specs.Refusal.{is_refused};
 ghost use Rattle.opentelemetry.specs.SpanBuilder.{from_name};
 ghost use Rattle.opentelemetry.specs.Tracing as spec;
-ghost use Rattle.opentelemetry.specs.Tracing.{AddsEvent, AttachesContext, Ends, Exits, Fails};
+ghost use Rattle.opentelemetry.specs.Tracing.{AddsEvent, AttachesContext, Ends, Exits, ExitsWith, Fails};
 ghost use Rattle.opentelemetry.specs.Tracing.{RecordsIn, Runs, Tries};
 ghost use Rattle.opentelemetry.specs.Tracing.{TriesToEnter, TriesToStart};
 ghost use Rattle.opentelemetry.specs.Tracing.{current_recording, with_changed};
@@ -294,6 +294,29 @@ pub trait Tracing {
         self.enter_with(SpanBuilder::from_name(StringValue::from(name)))
     }
 
+    /// Exits the span, as [`Tracing::exit`] does. If the outcome of its work is an error, records
+    /// that in the span first, as [`Tracing::fail`] does.
+    ///
+    /// ```
+    /// let entered = tracing.enter("ask")?;
+    /// let answer = ask(tracing);
+    /// tracing.exit_with(entered, &answer);
+    /// ```
+    final fn exit_with<O, X: Display>(&mut self, entered: Entered, outcome: &Result<O, X>)
+        ensures { ExitsWith Self.Source.calls Self.Source.Span.after_end
+            (λ error. Fails Self.Source.calls Self.Source.Span.records
+            Self.Source.Span.after_event Self.Source.Span.after_status (X.output error))
+            entered.number outcome.now (held self.old) (held self.new) }
+    {
+        match outcome {
+            Ok(_) => self.exit(entered),
+            Err(error) => {
+                self.fail(entered, error);
+                self.exit(entered);
+            }
+        }
+    }
+
     /// Sets an attribute of the current span, as [`Tracing::set_attribute`] does.
     ///
     /// ```
@@ -395,10 +418,7 @@ pub trait Tracing {
         match self.enter_with(builder) {
             Ok(entered) => {
                 let out = work(self);
-                if let Err(error) = &out {
-                    self.fail(entered, error);
-                }
-                self.exit(entered);
+                self.exit_with(entered, &out);
                 out
             }
             Err(_) => {

@@ -54,7 +54,7 @@ pub trait WithEnv: Drop {
 }
 
 /// Returns the builder, disabled on the condition.
-fn disabled_if<P: Drop, C: Clock>(
+pub(super) fn disabled_if<P: Drop, C: Clock>(
     builder: LoggerProviderBuilder<P, C>,
     condition: bool,
 ) -> LoggerProviderBuilder<P, C>

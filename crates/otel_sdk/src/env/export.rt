@@ -11,7 +11,8 @@ use otel_sdk_base::otlp::{EnvEndpoint, EnvOtlp};
 use otel_sdk_base::resource::Resource;
 use std::alloc::{AllocError, Global};
 
-/// The exporter that a variable names. It is for the caller, who makes the exporter.
+/// The exporter that a variable names. `otlp` and `console` are for the caller, who makes the
+/// exporter.
 #[derive(Clone, Copy, Debug, PartialEq, Eq)]
 pub enum EnvExporter {
     /// `otlp`: to a collector.
@@ -20,6 +21,18 @@ pub enum EnvExporter {
     Console,
     /// `none`: nowhere.
     Nothing,
+}
+
+impl EnvExporter {
+    /// Returns `true` unless the variable names `none`.
+    pub fn exports(self) -> bool
+        ensures { result ≡ spec.exports self }
+    {
+        match self {
+            EnvExporter::Otlp | EnvExporter::Console => true,
+            EnvExporter::Nothing => false,
+        }
+    }
 }
 
 /// Returns a copy of the text.

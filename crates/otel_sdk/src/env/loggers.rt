@@ -2,9 +2,10 @@
 ghost use Rattle.std.specs.Prelude.{◌≡◌, IfOk, OnOk};
 ghost use Rattle.opentelemetry.specs.Scope.{scope_of_name};
 ghost use Rattle.otel_sdk.specs.EnvConfig.{resource_of};
+ghost use Rattle.otel_sdk_base.specs.Resource.{for_service};
 
 use super::EnvConfig;
-use super::builders::WithEnv;
+use super::builders::disabled_if;
 use opentelemetry::StringValue;
 use opentelemetry::logs::LoggerProvider;
 use otel_sdk_base::SystemClock;
@@ -14,8 +15,9 @@ use std::time::Clock;
 
 impl EnvConfig {
     /// Returns a logger whose scope has the name, and whose records go to the processor, with the
-    /// resource and the limits that the environment gives, or their defaults. If the SDK is
-    /// disabled, so is the logger. The runtime's clock gives the observed times.
+    /// resource and the limits that the environment gives, or their defaults. If the environment
+    /// names no service, it has the name too. If the SDK is disabled, so is the logger. The
+    /// runtime's clock gives the observed times.
     ///
     /// ```
     /// let lines = SimpleLogProcessor::new(alloc, OtlpJsonLogExporter::new(alloc, rt.stderr())?)?;
@@ -37,10 +39,14 @@ impl EnvConfig {
           limits = self.now.log_limits;
           is_disabled = self.now.is_disabled;
         }) }
-        ensures told { OnOk result (P.is_told (resource_of self.now)) }
+        ensures told { OnOk result (P.is_told (for_service name.now (resource_of self.now))) }
     {
-        let builder = SdkLoggerProvider::builder(rt).with_log_processor(processor);
-        let provider = builder.with_env(alloc, self)?.build(alloc)?;
+        let resource = self.resource(alloc)?;
+        let builder = SdkLoggerProvider::builder(rt)
+            .with_log_processor(processor)
+            .with_log_record_limits(self.log_limits)
+            .with_resource(resource.for_service(StringValue::from(name))?)?;
+        let provider = disabled_if(builder, self.is_disabled).build(alloc)?;
         provider.logger(alloc, StringValue::from(name))
     }
 }

@@ -5,9 +5,9 @@ ghost use Rattle.otel_sdk.specs.EnvTexts.{variables_of};
 
 use super::texts::{is_named, text_of};
 use super::warning::{EnvWarning, Instead, warn};
-use crate::trace::{ParentBased, Sampler, SamplingResult, ShouldSample};
-use opentelemetry::trace::{Link, SpanKind, TraceId};
-use opentelemetry::{Context, KeyValue};
+use crate::trace::{ParentBased, Sampler, SamplingParameters, SamplingResult, ShouldSample};
+use opentelemetry::Context;
+use otel_sdk_span::SdkSpan;
 use std::alloc::{AllocError, Global};
 use std::num::{f64_from_bits_with_nan, f64_to_bits_with_nan};
 
@@ -34,34 +34,15 @@ impl ShouldSample for EnvSampler {
     fn should_sample(
         &self,
         alloc: Global,
-        parent_context: &Context,
-        trace_id: TraceId,
-        name: &str,
-        span_kind: SpanKind,
-        attributes: &[KeyValue],
-        links: &[Link],
+        span: &SamplingParameters<'_>,
     ) -> Result<SamplingResult, AllocError> {
         match self {
-            EnvSampler::Plain(sampler) => sampler.should_sample(
-                alloc,
-                parent_context,
-                trace_id,
-                name,
-                span_kind,
-                attributes,
-                links,
-            ),
-            EnvSampler::ParentBased(root) => ParentBased::new(*root).should_sample(
-                alloc,
-                parent_context,
-                trace_id,
-                name,
-                span_kind,
-                attributes,
-                links,
-            ),
+            EnvSampler::Plain(sampler) => sampler.should_sample(alloc, span),
+            EnvSampler::ParentBased(root) => ParentBased::new(*root).should_sample(alloc, span),
         }
     }
+
+    fn on_start(&mut self, _parent: &Context, _span: &SdkSpan) {}
 
     /// Returns the description of the sampler, or of the [`ParentBased`] with it as root.
     ///

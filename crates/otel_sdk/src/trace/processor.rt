@@ -6,6 +6,7 @@ ghost use Rattle.otel_sdk_span.specs.SpanData.{SpanRecord};
 
 pub(crate) mod baggage;
 pub(crate) mod batch;
+pub(crate) mod configured;
 mod list;
 pub(crate) mod simple;
 

@@ -373,13 +373,15 @@ impl<S: ShouldSample, G: IdGenerator, C: Clock> TracerProviderBuilder<S, G, C> {
         Ok((resource, config))
     }
 
-    /// Builds the provider. Without a resource, it has the default one.
+    /// Builds the provider. Without a resource, it has the default one. Its sampler may keep no
+    /// state, since its tracers don't tell it which spans begin.
     ///
     /// # Errors
     ///
     /// `AllocError` if out of memory. The builder is dropped.
     // The borrow check doesn't cover a call of `into_parts` here.
     pub fn build(self, alloc: Global) -> Result<SdkTracerProvider<S, G, C>, AllocError>
+        requires { S.IsStateless }
         ensures { IfOk result (λ p. p ≡ spec.provider_of self) }
     {
         let TracerProviderBuilder {

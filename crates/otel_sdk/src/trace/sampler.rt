@@ -9,11 +9,13 @@ ghost use Rattle.otel_sdk.specs.Sampler.{parents_trace_state};
 
 pub mod laws;
 pub(crate) mod parent_based;
+pub(crate) mod rate;
 mod ratio;
 
 use crate::trace::sampler::ratio::{bound, number_text};
 use opentelemetry::trace::{Link, SpanContext, SpanKind, TraceId, TraceState};
 use opentelemetry::{Context, KeyValue};
+use otel_sdk_span::SdkSpan;
 use std::alloc::{AllocError, Global};
 use std::fmt::HasDigits;
 
@@ -41,23 +43,54 @@ pub struct SamplingResult {
     pub trace_state: TraceState,
 }
 
+/// A span that is about to start, about which a sampler is asked (the parameters of the Rust
+/// crate's `should_sample`, and the start time).
+#[derive(Clone, Copy)]
+pub struct SamplingParameters<'a> {
+    /// The context of the parent.
+    pub parent_context: &'a Context,
+    /// The trace id.
+    pub trace_id: TraceId,
+    /// The name.
+    pub name: &'a str,
+    /// The kind.
+    pub span_kind: SpanKind,
+    /// The attributes of the builder.
+    pub attributes: &'a [KeyValue],
+    /// The links of the builder.
+    pub links: &'a [Link],
+    /// The start time of the builder, in nanoseconds since 1970. A value that traces always gives
+    /// one: the clock's timestamp, unless the caller gave another.
+    pub start_time: Option<u64>,
+}
+
 /// Decides whether a span that is about to start is recorded and exported (the Rust crate's
 /// `ShouldSample`).
 ///
-/// Implementors define two ghost functions: the answer to a question (`answer`), and the texts that
-/// may describe the sampler (`may_describe`).
+/// A sampler may keep a state, such as a count: it is told of each span that begins, and a span
+/// that is refused after the sampler's answer doesn't begin. Only a value that traces tells it, so
+/// [`SdkTracerProvider`](crate::trace::SdkTracerProvider) takes only samplers without a state.
 ///
-/// See [`Sampler`] and [`crate::trace::ParentBased`].
+/// Implementors define the ghost functions `answer`, the answer to a question, and `may_describe`,
+/// the strings that may describe the sampler. They also define `counts`, its state after it was
+/// told of a span, and `IsStateless`, unless it keeps none.
+///
+/// See [`Sampler`], [`crate::trace::ParentBased`] and [`crate::trace::RateLimitingSampler`].
 pub trait ShouldSample: Drop {
-    ghost use Rattle.std.specs.Prelude.{ℕ, List};
+    ghost use Rattle.std.specs.Prelude.{◌≡◌, ℕ, List};
+    ghost use Rattle.otel_context.specs.Context.{ContextRecord};
     ghost use Rattle.otel_sdk.specs.Sampler.{Asked, Answer};
+    ghost use Rattle.otel_sdk_span.specs.Span.{SpanState};
 
     ghost answer: { Self → Asked → Answer };
 
+    ghost counts: { Self → ContextRecord → SpanState → Self → Type 0 } = { λ old _ _ new. new ≡ old };
+
+    ghost IsStateless: { Type 0 } = { Unit {0} };
+
     ghost may_describe: { Self → List ℕ → Type 0 };
 
-    /// Returns the decision about a span with this trace id and parent context, and with the name,
-    /// kind, attributes and links from its builder.
+    /// Returns the decision about the span.
     ///
     /// # Errors
     ///
@@ -65,15 +98,14 @@ pub trait ShouldSample: Drop {
     fn should_sample(
         &self,
         alloc: Global,
-        parent_context: &Context,
-        trace_id: TraceId,
-        name: &str,
-        span_kind: SpanKind,
-        attributes: &[KeyValue],
-        links: &[Link],
+        span: &SamplingParameters<'_>,
     ) -> Result<SamplingResult, AllocError>
-        ensures { IfOk result (λ r. result_of r ≡ answer self.now
-            (asked_of parent_context.now trace_id name.now span_kind attributes.now links.now)) };
+        ensures { IfOk result (λ r. result_of r ≡ answer self.now (asked_of span.now)) };
+
+    /// Is told that the span begins under the parent context. A sampler without a state does
+    /// nothing.
+    fn on_start(&mut self, parent: &Context, span: &SdkSpan)
+        ensures { counts self.old parent.now span.now self.new };
 
     /// Returns the name of the sampler, with its parameters.
     ///
@@ -139,6 +171,25 @@ fn parents_trace_state(parent: &SpanContext) -> Result<TraceState, AllocError>
     }
 }
 
+/// Returns the decision, with no attributes and the parent's trace state.
+///
+/// # Errors
+///
+/// `AllocError` if the reference count of the trace state's pairs is at its limit.
+pub(crate) fn unchanged(
+    alloc: Global,
+    decision: SamplingDecision,
+    span: &SamplingParameters<'_>,
+) -> Result<SamplingResult, AllocError>
+    ensures { IfOk result (λ r. result_of r ≡ unchanged decision (asked_of span.now)) }
+{
+    Ok(SamplingResult {
+        decision,
+        attributes: Vec::new(alloc),
+        trace_state: parents_trace_state(span.parent_context.span_context())?,
+    })
+}
+
 impl ShouldSample for Sampler {
     ghost use Rattle.otel_sdk.specs.Sampler.{decision_of, unchanged, IsDescription};
 
@@ -154,19 +205,12 @@ impl ShouldSample for Sampler {
     fn should_sample(
         &self,
         alloc: Global,
-        parent_context: &Context,
-        trace_id: TraceId,
-        _name: &str,
-        _span_kind: SpanKind,
-        _attributes: &[KeyValue],
-        _links: &[Link],
+        span: &SamplingParameters<'_>,
     ) -> Result<SamplingResult, AllocError> {
-        Ok(SamplingResult {
-            decision: self.decide(trace_id),
-            attributes: Vec::new(alloc),
-            trace_state: parents_trace_state(parent_context.span_context())?,
-        })
+        unchanged(alloc, self.decide(span.trace_id), span)
     }
+
+    fn on_start(&mut self, _parent: &Context, _span: &SdkSpan) {}
 
     /// Returns `AlwaysOnSampler`, `AlwaysOffSampler`, or, for example, `TraceIdRatioBased{0.5}`
     /// with the effective ratio, from 0 to 1.

@@ -91,7 +91,7 @@ impl<P: Pipeline, X: SpanProcessor> SpanSource for SdkSource<P, X> {
 
     type Span = SdkSpan;
 
-    ghost calls = { sdk_calls P.may_show P.may_start X.calls };
+    ghost calls = { sdk_calls P.may_show P.may_start P.begins X.calls };
 
     fn is_disabled(&self) -> bool {
         self.is_disabled
@@ -118,6 +118,7 @@ impl<P: Pipeline, X: SpanProcessor> SpanSource for SdkSource<P, X> {
     }
 
     fn begin(&mut self, alloc: Global, span: &mut SdkSpan, parent: &Context) {
+        self.pipeline.begin(parent, span);
         self.processors.on_start(alloc, span, parent);
         self.begun = self.begun.and(span);
     }

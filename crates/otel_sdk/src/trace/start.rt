@@ -9,7 +9,9 @@ ghost use Rattle.otel_sdk.specs.Sampler.{result_of};
 ghost use Rattle.otel_sdk.specs.Tracer as spec;
 ghost use Rattle.otel_sdk_base.specs.Attributes.{attributes_of};
 
-use crate::trace::{IdError, IdGenerator, SamplingDecision, SamplingResult, ShouldSample};
+use crate::trace::{
+    IdError, IdGenerator, SamplingDecision, SamplingParameters, SamplingResult, ShouldSample,
+};
 use opentelemetry::trace::{
     Event, Link, SpanBuilder, SpanContext, SpanId, SpanKind, Status, TraceFlags, TraceId,
     TraceState,
@@ -114,21 +116,22 @@ pub(crate) fn ask<S: ShouldSample>(
     ensures { IfOk result (λ r. result_of r ≡ S.answer sampler.now
         (spec.asked (builder_of builder.now) parent_context.now trace_id)) }
 {
-    sampler.should_sample(
-        alloc,
+    let span = SamplingParameters {
         parent_context,
         trace_id,
-        builder.name.as_str(),
-        builder.span_kind.unwrap_or(SpanKind::Internal),
-        match &builder.attributes {
+        name: builder.name.as_str(),
+        span_kind: builder.span_kind.unwrap_or(SpanKind::Internal),
+        attributes: match &builder.attributes {
             Some(attributes) => attributes.as_slice(),
             None => &[],
         },
-        match &builder.links {
+        links: match &builder.links {
             Some(links) => links.as_slice(),
             None => &[],
         },
-    )
+        start_time: builder.start_time,
+    };
+    sampler.should_sample(alloc, &span)
 }
 
 /// Returns the span context with these ids: local, with the flags of the decision and this trace

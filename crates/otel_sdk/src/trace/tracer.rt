@@ -19,8 +19,8 @@ use std::rc::Rc;
 
 /// The configuration with which an [`SdkTracer`] starts spans. Not in the Rust crate.
 ///
-/// Implementors define the ghost relations `may_start`, the spans that the pipeline may start, and
-/// `may_show`, the times that its clock showed.
+/// Implementors define the ghost relations `may_start`, the spans that the pipeline may start,
+/// `begins`, its state after a span began, and `may_show`, the times that its clock showed.
 ///
 /// See [`TracerPipeline`] and [`OpenPipeline`].
 pub trait Pipeline: Drop {
@@ -30,6 +30,8 @@ pub trait Pipeline: Drop {
     ghost use Rattle.otel_sdk_span.specs.Span.{SpanState};
 
     ghost may_start: { Self → BuilderRecord → ContextRecord → SpanState → Type 0 };
+
+    ghost begins: { Self → ContextRecord → SpanState → Self → Type 0 };
 
     ghost may_show: { Self → ℕ → Type 0 };
 
@@ -47,7 +49,11 @@ pub trait Pipeline: Drop {
         ensures started { IfOk result (may_start self.now (builder_of builder) parent.now) }
         ensures running { IfOk result (λ span. span.has_ended ≡ false) };
 
-    /// Returns the clock's moment, in nanoseconds since 1970.
+    /// Is told that a span that it started begins under the parent context.
+    fn begin(&mut self, parent: &Context, span: &SdkSpan)
+        ensures { begins self.old parent.now span.now self.new };
+
+    /// Returns the clock's timestamp, in nanoseconds since 1970.
     fn now(&self) -> u64
         ensures shown { may_show self.now result };
 }
@@ -152,12 +158,15 @@ impl<S: ShouldSample, G: IdGenerator, C: Clock> Pipeline for TracerPipeline<S, G
 where
     C: TracerCalls,
 {
+    ghost use Rattle.std.specs.Prelude.{◌≡◌};
     ghost use Rattle.otel_sdk.specs.Tracer as spec;
 
     ghost may_start = { λ pipeline builder parent. spec.MayBuild (S.answer pipeline.sampler)
         (G.random pipeline.id_generator) (G.may_trace pipeline.id_generator)
         (G.may_span pipeline.id_generator) C.TracerCalls.may_show C.TracerCalls.is_counted
         pipeline.limits pipeline.scope builder parent C.TracerCalls.is_read };
+
+    ghost begins = { λ old _ _ new. new ≡ old };
 
     ghost may_show = { λ _. C.TracerCalls.may_show };
 
@@ -179,7 +188,10 @@ where
         config.start(alloc, &self.scope, builder, parent)
     }
 
-    /// Returns the moment of the provider's clock, in nanoseconds since 1970.
+    // The sampler of a provider keeps no state.
+    fn begin(&mut self, _parent: &Context, _span: &SdkSpan) {}
+
+    /// Returns the timestamp of the provider's clock, in nanoseconds since 1970.
     fn now(&self) -> u64 {
         self.provider.config.clock.show()
     }
@@ -227,6 +239,8 @@ where
         (G.may_span pipeline.id_generator) C.TracerCalls.may_show C.TracerCalls.is_counted
         pipeline.limits pipeline.scope builder parent };
 
+    ghost begins = { spec.TellsSampler S.counts };
+
     ghost may_show = { λ _. C.TracerCalls.may_show };
 
     /// Starts a span from a builder under a parent context.
@@ -246,7 +260,12 @@ where
         self.config.start(alloc, &self.scope, builder, parent)
     }
 
-    /// Returns the moment of the clock, in nanoseconds since 1970.
+    /// Tells the sampler.
+    fn begin(&mut self, parent: &Context, span: &SdkSpan) {
+        self.config.sampler.on_start(parent, span);
+    }
+
+    /// Returns the clock's timestamp, in nanoseconds since 1970.
     fn now(&self) -> u64 {
         self.config.clock.show()
     }

@@ -2,6 +2,7 @@
 use crate::hash_of;
 use otel_base::StringValue;
 use std::alloc::AllocError;
+use std::cmp::Ordering;
 use std::process::Abort;
 use std::rc::RcStr;
 use std::test::Fail;
@@ -10,6 +11,8 @@ fn is_the_text_v(rt: &impl Abort, value: &StringValue) -> Result<(), AllocError>
     let same = StringValue::from("v");
     assert!(rt; *value == same);
     assert!(rt; *value < StringValue::from("va"));
+    assert_eq!(rt; value.cmp(&StringValue::from("u")), Ordering::Greater);
+    assert_eq!(rt; value.cmp(&same), Ordering::Equal);
     assert_eq!(rt; hash_of(value), hash_of(&same));
     assert_eq!(rt; value.as_str(), "v");
     assert!(rt; value.clone()? == same);

@@ -1,13 +1,14 @@
 //! The calls that tracers make on their generator of ids, their sampler and their clock, each
 //! counted.
 use opentelemetry::trace::{
-    Link, Span, SpanBuilder, SpanContext, SpanId, SpanKind, TraceFlags, TraceId, TraceState,
-    Tracer, TracerProvider, Tracing,
+    Span, SpanBuilder, SpanContext, SpanId, SpanKind, TraceFlags, TraceId, TraceState, Tracer,
+    TracerProvider, Tracing,
 };
 use opentelemetry::{Context, KeyValue, StringValue};
 use otel_sdk::trace::{
     Build, Clock, Exports, IdError, IdGenerator, InMemorySpanExporter, SamplingDecision,
-    SamplingResult, SdkTracerProvider, ShouldSample, TracingBuilder, WithExporter,
+    SamplingParameters, SamplingResult, SdkSpan, SdkTracerProvider, ShouldSample, TracingBuilder,
+    WithExporter,
 };
 use std::alloc::{AllocError, Global};
 use std::cell::Cell;
@@ -93,12 +94,7 @@ impl ShouldSample for Counting {
     fn should_sample(
         &self,
         alloc: Global,
-        _parent_context: &Context,
-        _trace_id: TraceId,
-        _name: &str,
-        _span_kind: SpanKind,
-        _attributes: &[KeyValue],
-        _links: &[Link],
+        _span: &SamplingParameters<'_>,
     ) -> Result<SamplingResult, AllocError> {
         let _ = counted(&self.counts.decisions);
         Ok(SamplingResult {
@@ -107,6 +103,8 @@ impl ShouldSample for Counting {
             trace_state: TraceState::NONE,
         })
     }
+
+    fn on_start(&mut self, _parent: &Context, _span: &SdkSpan) {}
 
     fn description(&self, alloc: Global) -> Result<String, AllocError> {
         String::from_str(alloc, "Counting")

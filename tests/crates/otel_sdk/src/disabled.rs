@@ -6,11 +6,15 @@ use opentelemetry::trace::{
     SpanBuilder, SpanContext, SpanId, Status, TraceId, TraceState, Tracing,
 };
 use opentelemetry::{Key, KeyValue, StringValue, Value};
+use otel_otlp::OtlpJsonSpanExporter;
 use otel_sdk::env::{EnvSampler, WithEnv};
+use otel_sdk::error::OTelSdkResult;
 use otel_sdk::logs::{InMemoryLogExporter, SdkLoggerProvider, SimpleLogProcessor};
+use otel_sdk::resource::Resource;
 use otel_sdk::trace::{
-    BatchSpanProcessor, Build, Clock, Exports, FinishedSpans, IdError, IdGenerator,
-    InMemorySpanExporter, OpenPipeline, SdkTracing, SpanProcessor, TracingBuilder, WithExporter,
+    Build, Clock, ConfiguredProcessor, Exporter, ExporterProcessor, Exports, FinishedSpans,
+    IdError, IdGenerator, InMemorySpanExporter, OpenPipeline, SdkTracing, SimpleSpanProcessor,
+    SpanData, SpanProcessor, TracingBuilder, WithExporter, WithProcessor,
 };
 use std::alloc::Global;
 use std::cell::Cell;
@@ -64,7 +68,7 @@ impl Clock for Asked {
 
 type App = SdkTracing<
     OpenPipeline<EnvSampler, Asked, Asked>,
-    ((), BatchSpanProcessor<InMemorySpanExporter>),
+    ((), ExporterProcessor<InMemorySpanExporter>),
 >;
 
 /// A value that traces, as the variable says.
@@ -192,6 +196,152 @@ fn code_disables_too(rt: HostRuntime) -> Result<(), Fail> {
             .len(),
         0
     );
+    Ok(())
+}
+
+/// An exporter that counts the calls that reach it.
+#[derive(Drop)]
+struct Reached {
+    calls: Rc<Cell<u64>>,
+}
+
+impl Reached {
+    fn count(&self) {
+        self.calls.set(self.calls.get().saturating_add(1));
+    }
+}
+
+impl Exporter<SpanData> for Reached {
+    ghost use Rattle.std.specs.Prelude.{[]};
+
+    ghost accepted = { λ _. [] };
+
+    ghost calls = { record {
+      refuses = λ _ _ _. Unit {0};
+      flushes = λ _ _ _. Unit {0};
+      shuts_down = λ _ _ _. Unit {0};
+      takes_resource = λ _ _ _. Unit {0};
+      flushed = λ _ _. Unit {0};
+    } };
+
+    fn export(&mut self, _batch: &[SpanData]) -> OTelSdkResult {
+        self.count();
+        Ok(())
+    }
+
+    fn force_flush(&mut self) -> OTelSdkResult {
+        self.count();
+        Ok(())
+    }
+
+    fn shutdown(&mut self) -> OTelSdkResult {
+        self.count();
+        Ok(())
+    }
+
+    fn set_resource(&mut self, _resource: Rc<Resource>) {
+        self.count();
+    }
+}
+
+/// How many calls reach an exporter, and how many spans a processor gets that the program adds
+/// itself, under a value of `OTEL_TRACES_EXPORTER`.
+fn reached(rt: HostRuntime, named: &str) -> Result<(u64, usize), Fail> {
+    let alloc = rt.alloc();
+    let calls = Rc::new(alloc, Cell::new(0))?;
+    let exporter = Reached {
+        calls: calls.clone()?,
+    };
+    let kept = SimpleSpanProcessor::new(alloc, InMemorySpanExporter::new(alloc));
+    let mut tracing = TracingBuilder::new(rt)
+        .with_env(alloc, &config(alloc, &[("OTEL_TRACES_EXPORTER", named)])?)?
+        .counted(1)
+        .with_exporter(exporter)
+        .with_processor(kept)
+        .build(alloc, "cart")?;
+    let serve = tracing.enter("serve")?;
+    if !tracing.context().span_context().is_sampled() {
+        return Err(Fail::from("the span isn't sampled"));
+    }
+    tracing.exit(serve);
+    tracing.flush()?;
+    let spans = tracing
+        .processors()
+        .1
+        .exporter()
+        .get_finished_spans()?
+        .len();
+    tracing.shutdown()?;
+    let processors = tracing.processors();
+    if processors.dropped_spans() > 0 || !processors.is_shut_down() {
+        return Err(Fail::from("a span was dropped, or a processor is open"));
+    }
+    Ok((calls.get(), spans))
+}
+
+#[test]
+fn nothing_reaches_an_exporter_if_none_is_named(rt: HostRuntime) -> Result<(), Fail> {
+    assert!(rt; reached(rt, "none")? == (0, 1));
+    assert!(rt; reached(rt, "None")? == (0, 1));
+    // The resource, the span, the flush, and at the shutdown a flush and itself.
+    assert!(rt; reached(rt, "otlp")? == (5, 1));
+    assert!(rt; reached(rt, "console")? == (5, 1));
+    assert!(rt; reached(rt, "unknown")? == (5, 1));
+    Ok(())
+}
+
+#[test]
+fn a_processor_is_off_if_the_program_says_so(rt: HostRuntime) -> Result<(), Fail> {
+    let alloc = rt.alloc();
+    for wants_picture in [true, false] {
+        let exporter = InMemorySpanExporter::new(alloc);
+        let builder = TracingBuilder::new(rt);
+        let picture = SimpleSpanProcessor::new(alloc, exporter);
+        let builder = builder.with_processor(ConfiguredProcessor::new(picture, !wants_picture));
+        let mut tracing = builder.build(alloc, "cart")?;
+        let serve = tracing.enter("serve")?;
+        tracing.exit(serve);
+        assert_eq!(rt; tracing.processors().1.is_off(), !wants_picture);
+        assert_eq!(rt; tracing.processors().keeps_ended(), wants_picture);
+        assert_eq!(rt; tracing.processors().is_shut_down(), !wants_picture);
+        tracing.shutdown()?;
+    }
+    Ok(())
+}
+
+/// The name of the service that an exporter is told, if the environment has these variables.
+fn service(rt: HostRuntime, vars: &[(&str, &str)]) -> Result<String, Fail> {
+    let alloc = rt.alloc();
+    let lines = OtlpJsonSpanExporter::new(alloc, Vec::new(alloc))?;
+    let mut tracing = TracingBuilder::new(rt)
+        .with_env(alloc, &config(alloc, vars)?)?
+        .with_exporter(lines)
+        .build(alloc, "cart")?;
+    let serve = tracing.enter("serve")?;
+    tracing.exit(serve);
+    tracing.shutdown()?;
+    let written = tracing.processors().1.exporter().get_ref();
+    let mut name = String::new(alloc);
+    let written = String::from_utf8_lossy(alloc, written.as_slice())?;
+    if let Some((_, rest)) = written
+        .as_str()
+        .split_once("\"service.name\",\"value\":{\"stringValue\":\"")
+        && let Some((found, _)) = rest.split_once("\"")
+    {
+        name.push_str(found)?;
+    }
+    Ok(name)
+}
+
+#[test]
+fn a_value_names_its_service_unless_the_environment_does(rt: HostRuntime) -> Result<(), Fail> {
+    assert_eq!(rt; service(rt, &[])?.as_str(), "cart");
+    assert_eq!(rt;
+        service(rt, &[("OTEL_SERVICE_NAME", "shop")])?.as_str(),
+        "shop"
+    );
+    let attributes = [("OTEL_RESOURCE_ATTRIBUTES", "service.name=shop")];
+    assert_eq!(rt; service(rt, &attributes)?.as_str(), "shop");
     Ok(())
 }
 

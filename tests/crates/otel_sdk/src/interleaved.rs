@@ -4,7 +4,7 @@ use opentelemetry::Context;
 use opentelemetry::trace::{NotEntered, TraceId, Tracing};
 use otel_sdk::env::ConfiguredPropagator;
 use otel_sdk::trace::{
-    BatchSpanProcessor, Build, CountedClock, CountedIdGenerator, Exports, FinishedSpans,
+    Build, CountedClock, CountedIdGenerator, ExporterProcessor, Exports, FinishedSpans,
     InMemorySpanExporter, OpenPipeline, ParentBased, Sampler, SdkTracing, SpanData, SpanProcessor,
     TracingBuilder, WithExporter,
 };
@@ -16,7 +16,7 @@ use test_support::map_of;
 
 type Pipeline = OpenPipeline<ParentBased<Sampler>, CountedIdGenerator, CountedClock>;
 
-type InMemory = BatchSpanProcessor<InMemorySpanExporter>;
+type InMemory = ExporterProcessor<InMemorySpanExporter>;
 
 /// A value with two exporters.
 type App = SdkTracing<Pipeline, (((), InMemory), InMemory)>;

@@ -5,9 +5,9 @@ use otel_sdk::env::EnvBatches;
 use otel_sdk::error::{OTelSdkError, OTelSdkResult};
 use otel_sdk::resource::Resource;
 use otel_sdk::trace::{
-    BatchConfigBuilder, BatchSpanProcessor, Build, Clock, CountedClock, CountedIdGenerator,
-    Exporter, Exports, ManualClock, OpenPipeline, ParentBased, Sampler, SdkTracing, SpanData,
-    SystemClock, TracingBuilder, Unfinished, WithExporter, finish,
+    BatchConfigBuilder, Build, Clock, CountedClock, CountedIdGenerator, Exporter,
+    ExporterProcessor, Exports, ManualClock, OpenPipeline, ParentBased, Sampler, SdkTracing,
+    SpanData, SystemClock, TracingBuilder, Unfinished, WithExporter, finish,
 };
 use std::alloc::Global;
 use std::cell::Cell;
@@ -77,7 +77,7 @@ impl Exporter<SpanData> for Busy {
 
 type App = SdkTracing<
     OpenPipeline<ParentBased<Sampler>, CountedIdGenerator, CountedClock>,
-    ((), BatchSpanProcessor<Busy>),
+    ((), ExporterProcessor<Busy>),
 >;
 
 /// Two spans that are open, in a queue for two.

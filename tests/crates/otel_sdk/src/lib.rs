@@ -19,6 +19,7 @@ mod last_export;
 mod processor;
 mod processors;
 mod propagator;
+mod rate;
 mod ratio;
 mod recipes;
 mod runs;

@@ -6,7 +6,7 @@ use opentelemetry::{Context, Key, KeyValue, Value};
 use otel_sdk::error::{OTelSdkError, OTelSdkResult};
 use otel_sdk::resource::Resource;
 use otel_sdk::trace::{
-    BatchConfigBuilder, BatchSpanProcessor, Build, CountedClock, CountedIdGenerator, Exports,
+    BatchConfigBuilder, Build, CountedClock, CountedIdGenerator, ExporterProcessor, Exports,
     FinishedSpans, InMemorySpanExporter, OpenPipeline, ParentBased, Sampler, SdkSpan, SdkTracing,
     SpanData, SpanExporter, SpanProcessor, TracingBuilder, WithExporter, WithProcessor,
 };
@@ -17,7 +17,7 @@ use std::test::Fail;
 type Pipeline = OpenPipeline<ParentBased<Sampler>, CountedIdGenerator, CountedClock>;
 
 /// A value with two exporters.
-type Twice<E, F> = SdkTracing<Pipeline, (((), BatchSpanProcessor<E>), BatchSpanProcessor<F>)>;
+type Twice<E, F> = SdkTracing<Pipeline, (((), ExporterProcessor<E>), ExporterProcessor<F>)>;
 
 fn twice<E: SpanExporter, F: SpanExporter>(
     rt: HostRuntime,

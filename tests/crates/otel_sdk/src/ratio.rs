@@ -1,7 +1,7 @@
 //! The traces that a ratio samples, and its printed text.
 use opentelemetry::Context;
 use opentelemetry::trace::{SpanKind, TraceId};
-use otel_sdk::trace::{Sampler, SamplingDecision, ShouldSample};
+use otel_sdk::trace::{Sampler, SamplingDecision, SamplingParameters, ShouldSample};
 use std::alloc::{AllocError, Global};
 use std::test::Fail;
 
@@ -11,10 +11,16 @@ const HIGH: u128 = 0xffff_ffff_ffff_ffff_0000_0000_0000_0000;
 /// Returns whether a ratio samples a root of the trace with this low half.
 fn samples(alloc: Global, ratio: f64, low: u64) -> Result<bool, AllocError> {
     let sampler = Sampler::TraceIdRatioBased(ratio);
-    let trace_id = TraceId::from(HIGH + low as u128);
-    let context = Context::new();
-    let kind = SpanKind::Internal;
-    let answer = sampler.should_sample(alloc, &context, trace_id, "work", kind, &[], &[])?;
+    let span = SamplingParameters {
+        parent_context: &Context::new(),
+        trace_id: TraceId::from(HIGH + low as u128),
+        name: "work",
+        span_kind: SpanKind::Internal,
+        attributes: &[],
+        links: &[],
+        start_time: None,
+    };
+    let answer = sampler.should_sample(alloc, &span)?;
     Ok(answer.decision == SamplingDecision::RecordAndSample)
 }
 

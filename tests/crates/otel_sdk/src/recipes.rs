@@ -5,15 +5,18 @@ mod program;
 use library::parse_port;
 use opentelemetry::baggage::Baggage;
 use opentelemetry::logs::{LogRecord, Logger, LoggerProvider, Severity};
-use opentelemetry::trace::{Attached, NotEntered, SpanBuilder, SpanContext, SpanKind, Tracing};
+use opentelemetry::trace::{
+    Attached, NotEntered, SpanBuilder, SpanContext, SpanKind, Status, Tracing,
+};
 use opentelemetry::{StringValue, Value};
 use otel_propagators::W3cPropagator;
+use otel_sdk::error::OTelSdkError;
 use otel_sdk::logs::{
     EmittedLogs, InMemoryLogExporter, LogProcessor, SdkLogger, SdkLoggerProvider,
     SimpleLogProcessor,
 };
 use otel_sdk::trace::{
-    BatchSpanProcessor, Build, Clock, CountedClock, CountedIdGenerator, Exports, FinishedSpans,
+    Build, Clock, CountedClock, CountedIdGenerator, ExporterProcessor, Exports, FinishedSpans,
     InMemorySpanExporter, OpenPipeline, ParentBased, Sampler, SdkTracing, SpanData, TracingBuilder,
     WithExporter,
 };
@@ -33,6 +36,18 @@ fn job(tracing: &mut impl Tracing, name: String, cause: SpanContext) -> Result<(
     tracing.add_link(cause, Vec::new(alloc))?;
     tracing.exit(job);
     Ok(())
+}
+
+fn ask(_tracing: &mut impl Tracing) -> Result<u16, OTelSdkError> {
+    Err(OTelSdkError::AlreadyShutdown)
+}
+
+/// Asks in a span, which gets the error.
+fn ask_in_span(tracing: &mut impl Tracing) -> Result<u16, OTelSdkError> {
+    let entered = tracing.enter("ask")?;
+    let answer = ask(tracing);
+    tracing.exit_with(entered, &answer);
+    answer
 }
 
 /// Adds the id of the job to the baggage, until the returned value is detached.
@@ -74,7 +89,7 @@ fn by_turns(tracing: &mut impl Tracing) -> Result<(), NotEntered> {
 /// A value whose spans are kept in memory.
 type App = SdkTracing<
     OpenPipeline<ParentBased<Sampler>, CountedIdGenerator, CountedClock>,
-    ((), BatchSpanProcessor<InMemorySpanExporter>),
+    ((), ExporterProcessor<InMemorySpanExporter>),
 >;
 
 fn app(rt: HostRuntime) -> Result<App, Fail> {
@@ -97,6 +112,16 @@ fn a_library_has_a_span_for_each_call(rt: HostRuntime) -> Result<(), Fail> {
     let spans = exported(&mut app)?;
     assert!(rt; spans[0].attributes[0].value == Value::from(true));
     assert!(rt; spans[1].attributes[0].value == Value::from(false));
+    Ok(())
+}
+
+#[test]
+fn a_span_has_the_error_of_its_work(rt: HostRuntime) -> Result<(), Fail> {
+    let mut app = app(rt)?;
+    assert!(rt; ask_in_span(&mut app).is_err());
+    let spans = exported(&mut app)?;
+    assert!(rt; matches!(&spans[0].status, Status::Error { .. }));
+    assert_eq!(rt; spans[0].events.events.len(), 1);
     Ok(())
 }
 

@@ -7,7 +7,7 @@ use opentelemetry::trace::{
 };
 use opentelemetry::{Context, StringValue};
 use otel_sdk::trace::{
-    BatchConfig, BatchConfigBuilder, BatchSpanProcessor, Build, CountedClock, CountedIdGenerator,
+    BatchConfig, BatchConfigBuilder, Build, CountedClock, CountedIdGenerator, ExporterProcessor,
     Exports, FinishedSpans, InMemorySpanExporter, OpenPipeline, ParentBased, Sampler,
     SamplingDecision, SdkTracing, ShouldSample, SpanData, SpanExporter, SpanProcessor,
     TracingBuilder, WithExporter,
@@ -19,7 +19,7 @@ use std::test::Fail;
 /// reading.
 type Traced<S, E> = SdkTracing<
     OpenPipeline<S, CountedIdGenerator, CountedClock>,
-    ((), BatchSpanProcessor<E>),
+    ((), ExporterProcessor<E>),
 >;
 
 /// A run: the contexts of the spans that were started, what is attached, and how often a flush or a

@@ -1,7 +1,9 @@
 //! The answers of samplers under each kind of parent, and their descriptions.
 use opentelemetry::Context;
 use opentelemetry::trace::{SpanContext, SpanId, SpanKind, TraceFlags, TraceId, TraceState};
-use otel_sdk::trace::{ParentBased, Sampler, SamplingDecision, SamplingResult, ShouldSample};
+use otel_sdk::trace::{
+    ParentBased, Sampler, SamplingDecision, SamplingParameters, SamplingResult, ShouldSample,
+};
 use std::alloc::Global;
 use std::test::Fail;
 
@@ -38,9 +40,16 @@ fn asked<S: ShouldSample>(
             TraceState::from_str(alloc, "a=1,b=2")?,
         ),
     )?;
-    let kind = SpanKind::Server;
-    let trace_id = TraceId::from(trace_id);
-    Ok(sampler.should_sample(alloc, &parent, trace_id, "work", kind, &[], &[])?)
+    let span = SamplingParameters {
+        parent_context: &parent,
+        trace_id: TraceId::from(trace_id),
+        name: "work",
+        span_kind: SpanKind::Server,
+        attributes: &[],
+        links: &[],
+        start_time: None,
+    };
+    Ok(sampler.should_sample(alloc, &span)?)
 }
 
 /// Returns whether a sampler samples a span under a parent.

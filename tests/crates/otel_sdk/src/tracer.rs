@@ -1,15 +1,15 @@
 //! The ids, flags and parents of spans, with worked cases.
 use opentelemetry::context::ContextStack;
 use opentelemetry::trace::{
-    Link, Run, Span, SpanBuilder, SpanContext, SpanId, SpanKind, Spans, TraceFlags, TraceId,
-    TraceState, Tracer, TracerProvider,
+    Run, Span, SpanBuilder, SpanContext, SpanId, SpanKind, Spans, TraceFlags, TraceId, TraceState,
+    Tracer, TracerProvider,
 };
 use opentelemetry::{Context, Key, KeyValue, StringValue, Value};
 use otel_sdk::resource::Resource;
 use otel_sdk::trace::{
     Clock, CountedClock, CountedIdGenerator, IdError, IdGenerator, ManualClock, ParentBased,
-    Sampler, SamplingDecision, SamplingResult, SdkSpan, SdkTracerProvider, ShouldSample,
-    SystemClock,
+    Sampler, SamplingDecision, SamplingParameters, SamplingResult, SdkSpan, SdkTracerProvider,
+    ShouldSample, SystemClock,
 };
 use std::alloc::{AllocError, Global};
 use std::test::Fail;
@@ -69,12 +69,7 @@ impl ShouldSample for Answers {
     fn should_sample(
         &self,
         alloc: Global,
-        _parent_context: &Context,
-        _trace_id: TraceId,
-        _name: &str,
-        _span_kind: SpanKind,
-        _attributes: &[KeyValue],
-        _links: &[Link],
+        _span: &SamplingParameters<'_>,
     ) -> Result<SamplingResult, AllocError> {
         Ok(SamplingResult {
             decision: self.decision,
@@ -82,6 +77,8 @@ impl ShouldSample for Answers {
             trace_state: TraceState::NONE,
         })
     }
+
+    fn on_start(&mut self, _parent: &Context, _span: &SdkSpan) {}
 
     fn description(&self, alloc: Global) -> Result<String, AllocError> {
         String::from_str(alloc, "Answers")

@@ -6,7 +6,7 @@ use opentelemetry::trace::{
 use opentelemetry::{Context, Key, KeyValue, StringValue, Value};
 use otel_sdk::error::OTelSdkError;
 use otel_sdk::trace::{
-    BatchConfigBuilder, BatchSpanProcessor, Build, Clock, CountedIdGenerator, Exports,
+    BatchConfigBuilder, Build, Clock, CountedIdGenerator, ExporterProcessor, Exports,
     FinishedSpans, InMemorySpanExporter, OpenPipeline, ParentBased, Sampler, SdkTracing, SpanData,
     SpanExporter, SpanProcessor, TracingBuilder, WithExporter,
 };
@@ -30,7 +30,7 @@ impl Clock for Ticks {
 
 type Pipeline = OpenPipeline<ParentBased<Sampler>, CountedIdGenerator, Ticks>;
 
-type Traced<E> = SdkTracing<Pipeline, ((), BatchSpanProcessor<E>)>;
+type Traced<E> = SdkTracing<Pipeline, ((), ExporterProcessor<E>)>;
 
 type App = Traced<InMemorySpanExporter>;
 

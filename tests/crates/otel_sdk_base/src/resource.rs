@@ -163,3 +163,30 @@ fn code_wins_over_texts(rt: HostRuntime) -> Result<(), Fail> {
     assert!(rt; resource.get("service").is_none());
     Ok(())
 }
+
+#[test]
+fn a_service_is_named_only_if_none_is(rt: HostRuntime) -> Result<(), Fail> {
+    let alloc = rt.alloc();
+    let rows = [
+        ("", "", " service.name=cart"),
+        ("k=v", "", " k=v service.name=cart"),
+        ("", "unknown_service", " service.name=cart"),
+        ("service.name=shop", "", " service.name=shop"),
+        ("", "shop", " service.name=shop"),
+    ];
+    for (attributes, service_name, wanted) in rows {
+        let (resource, _) = Resource::from_texts(alloc, attributes, service_name)?;
+        let named = resource.for_service(StringValue::from("cart"))?;
+        assert!(rt; named.names_service());
+        assert_eq!(rt; shown(alloc, &named)?.as_str(), wanted);
+    }
+    let number = KeyValue::new(Key::from("service.name"), Value::I64(1));
+    let resource = Resource::builder(alloc)?.with_attribute(number)?.build();
+    assert!(rt;
+        resource
+            .for_service(StringValue::from("cart"))?
+            .names_service()
+    );
+    assert!(rt; !Resource::builder(alloc)?.build().names_service());
+    Ok(())
+}

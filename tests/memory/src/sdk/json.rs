@@ -80,7 +80,7 @@ fn link(alloc: Global) -> Result<Link, AllocError> {
 }
 
 /// A failed span, with an attribute, an event and a link.
-fn full(alloc: Global) -> Result<SpanData, AllocError> {
+pub fn full(alloc: Global) -> Result<SpanData, AllocError> {
     let mut span = span(alloc)?;
     let numbers = Array::from(vec![in alloc; 1]?);
     span.attributes.push(attribute(Value::Array(numbers)))?;

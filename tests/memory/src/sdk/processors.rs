@@ -7,8 +7,8 @@ use opentelemetry::baggage::Baggage;
 use opentelemetry::{Context, Key, StringValue};
 use otel_sdk::error::OTelSdkResult;
 use otel_sdk::trace::{
-    BaggageSpanProcessor, BatchSpanProcessor, InMemorySpanExporter, SdkSpan, SimpleSpanProcessor,
-    SpanLimits, SpanProcessor,
+    BaggageSpanProcessor, BatchSpanProcessor, ConfiguredProcessor, InMemorySpanExporter, SdkSpan,
+    SimpleSpanProcessor, SpanLimits, SpanProcessor,
 };
 use std::alloc::{AllocError, Global};
 use std::rc::Rc;
@@ -23,6 +23,7 @@ type KeptSingles = SimpleSpanProcessor<InMemorySpanExporter>;
 
 pub fn play<R: Print>(alloc: Global, lines: &Lines<'_, R>) {
     of_batches(alloc, lines);
+    of_configured(alloc, lines);
     of_singles(alloc, lines);
     if lines.begin("processors-reserve") {
         reserve(lines, (batches(alloc), batches(alloc)));
@@ -58,6 +59,15 @@ fn of_batches<R: Print>(alloc: Global, lines: &Lines<'_, R>) {
     if lines.begin("batch-processor-set-resource") {
         let call = "BatchSpanProcessor::set_resource";
         lines.end(set_resource(alloc, lines, call, batches(alloc)));
+    }
+}
+
+fn of_configured<R: Print>(alloc: Global, lines: &Lines<'_, R>) {
+    if lines.begin("configured-processor-reserve") {
+        reserve(lines, ConfiguredProcessor::new(batches(alloc), false));
+    }
+    if lines.begin("configured-processor-off") {
+        lines.end(flush_off(alloc, lines));
     }
 }
 
@@ -222,6 +232,19 @@ fn set_resource<R: Print, P: SpanProcessor>(
 ) -> Result<(), AllocError> {
     let resource = Rc::new(alloc, resource(alloc)?)?;
     lines.free_ok(call, processor.set_resource(&resource));
+    Ok(())
+}
+
+/// The calls of a processor that is off.
+fn flush_off<R: Print>(alloc: Global, lines: &Lines<'_, R>) -> Result<(), AllocError> {
+    let resource = Rc::new(alloc, resource(alloc)?)?;
+    let mut processor = ConfiguredProcessor::new(kept_batches(alloc), true);
+    let told = processor.set_resource(&resource);
+    lines.free_ok("ConfiguredProcessor::set_resource", told);
+    let flushed = processor.force_flush();
+    lines.free_ok("ConfiguredProcessor::force_flush", flushed);
+    let closed = processor.shutdown();
+    lines.free_ok("ConfiguredProcessor::shutdown", closed);
     Ok(())
 }
 

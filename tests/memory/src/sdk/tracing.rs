@@ -13,7 +13,7 @@ use opentelemetry::{Context, StringValue};
 use otel_propagators::TraceContextPropagator;
 use otel_sdk::resource::Resource;
 use otel_sdk::trace::{
-    BatchSpanProcessor, Build, CountedIdGenerator, Exports, InMemorySpanExporter, ManualClock,
+    Build, CountedIdGenerator, ExporterProcessor, Exports, InMemorySpanExporter, ManualClock,
     OpenPipeline, Sampler, SdkTracing, SpanProcessor, TracingBuilder, WithExporter,
 };
 use std::alloc::{AllocError, Global};
@@ -21,7 +21,7 @@ use std::alloc::{AllocError, Global};
 type Pipeline = OpenPipeline<Sampler, CountedIdGenerator, ManualClock>;
 
 /// The processors of an exporter that takes no memory.
-type Tallied = ((), BatchSpanProcessor<Tally>);
+type Tallied = ((), ExporterProcessor<Tally>);
 
 type Builder<X> = TracingBuilder<Sampler, CountedIdGenerator, ManualClock, X>;
 
@@ -29,10 +29,10 @@ type Builder<X> = TracingBuilder<Sampler, CountedIdGenerator, ManualClock, X>;
 pub type App = SdkTracing<Pipeline, Tallied>;
 
 /// A value with two of them.
-pub type TwoTallies = SdkTracing<Pipeline, (Tallied, BatchSpanProcessor<Tally>)>;
+pub type TwoTallies = SdkTracing<Pipeline, (Tallied, ExporterProcessor<Tally>)>;
 
 /// A value with an exporter that takes memory for each span.
-pub type KeptApp = SdkTracing<Pipeline, ((), BatchSpanProcessor<InMemorySpanExporter>)>;
+pub type KeptApp = SdkTracing<Pipeline, ((), ExporterProcessor<InMemorySpanExporter>)>;
 
 /// The number of attachments that fit into a new stack.
 const ROOM: u16 = 8;

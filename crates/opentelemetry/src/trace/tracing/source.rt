@@ -126,7 +126,7 @@ impl<T: Tracer, C> TracerSource<T, C> {
     }
 }
 
-impl<T: Tracer + Drop, C: Clock> SpanSource for TracerSource<T, C> {
+impl<T: Tracer, C: Clock> SpanSource for TracerSource<T, C> {
     ghost use Rattle.opentelemetry.specs.SpanSource.{ids_of_context, tracer_calls};
 
     type Span = T::Span;

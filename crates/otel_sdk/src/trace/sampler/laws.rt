@@ -1,6 +1,7 @@
 //! Laws of samplers, for any question to a sampler. Each function does nothing: its contract is the
 //! law.
 ghost use Rattle.otel_sdk.specs.SamplerLaws.{RootIsNotAsked, ParentIsFollowed, NoRootIsSampled};
+ghost use Rattle.otel_sdk.specs.RateLimit.{AtMostInEachSecond};
 ghost use Rattle.otel_sdk.specs.RatioLaws.{OnlyHalfCounts, BoundRises, SampledAtGreater};
 
 /// States how [`crate::trace::ParentBased`] follows a parent.
@@ -21,4 +22,10 @@ pub fn ratios_nest()
     ensures bound_rises { BoundRises }
     // A trace that is sampled at one ratio is sampled at every greater ratio.
     ensures nested { SampledAtGreater }
+{}
+
+/// States how many roots a [`crate::trace::RateLimitingSampler`] samples, of any that start one
+/// after the other, with the state that each leaves.
+pub fn rates_are_limited()
+    ensures { AtMostInEachSecond }
 {}

@@ -2,9 +2,9 @@
 ghost use Rattle.std.specs.Prelude.{◌≡◌, ◌++◌, IfOk, OnOk, codes, string_bytes};
 ghost use Rattle.otel_sdk.specs.ParentBased.{IsParentBasedText, after_parent};
 
-use crate::trace::sampler::{Sampler, SamplingResult, ShouldSample};
-use opentelemetry::trace::{Link, SpanKind, TraceId};
-use opentelemetry::{Context, KeyValue};
+use crate::trace::sampler::{Sampler, SamplingParameters, SamplingResult, ShouldSample};
+use opentelemetry::Context;
+use otel_sdk_span::SdkSpan;
 use std::alloc::{AllocError, Global};
 
 /// Asks one of five samplers: `root` for a span without a valid parent, and otherwise one of the
@@ -89,10 +89,16 @@ where
 {
     ghost use Rattle.std.specs.Prelude.{◌≡◌, List, ℕ};
     ghost use Rattle.otel_sdk.specs.Sampler.{parent_based, DescribesParentBased};
+    ghost use Rattle.otel_sdk.specs.Sampler.{ParentBasedCounts};
 
     ghost answer = { λ s. parent_based (A.answer s.root) (B.answer s.remote_parent_sampled)
         (C.answer s.remote_parent_not_sampled) (D.answer s.local_parent_sampled)
         (E.answer s.local_parent_not_sampled) };
+
+    ghost counts = { ParentBasedCounts A.counts B.counts C.counts D.counts E.counts };
+
+    ghost IsStateless = { A.IsStateless × B.IsStateless × C.IsStateless × D.IsStateless
+        × E.IsStateless };
 
     ghost may_describe = { λ s. DescribesParentBased (A.may_describe s.root)
         (B.may_describe s.remote_parent_sampled) (C.may_describe s.remote_parent_not_sampled)
@@ -106,65 +112,37 @@ where
     fn should_sample(
         &self,
         alloc: Global,
-        parent_context: &Context,
-        trace_id: TraceId,
-        name: &str,
-        span_kind: SpanKind,
-        attributes: &[KeyValue],
-        links: &[Link],
+        span: &SamplingParameters<'_>,
     ) -> Result<SamplingResult, AllocError> {
-        let parent = parent_context.span_context();
+        let parent = span.parent_context.span_context();
         let sampled = parent.is_sampled();
         if !parent.is_valid() {
-            self.root.should_sample(
-                alloc,
-                parent_context,
-                trace_id,
-                name,
-                span_kind,
-                attributes,
-                links,
-            )
+            self.root.should_sample(alloc, span)
         } else if parent.is_remote() && sampled {
-            self.remote_parent_sampled.should_sample(
-                alloc,
-                parent_context,
-                trace_id,
-                name,
-                span_kind,
-                attributes,
-                links,
-            )
+            self.remote_parent_sampled.should_sample(alloc, span)
         } else if parent.is_remote() {
-            self.remote_parent_not_sampled.should_sample(
-                alloc,
-                parent_context,
-                trace_id,
-                name,
-                span_kind,
-                attributes,
-                links,
-            )
+            self.remote_parent_not_sampled.should_sample(alloc, span)
         } else if sampled {
-            self.local_parent_sampled.should_sample(
-                alloc,
-                parent_context,
-                trace_id,
-                name,
-                span_kind,
-                attributes,
-                links,
-            )
+            self.local_parent_sampled.should_sample(alloc, span)
         } else {
-            self.local_parent_not_sampled.should_sample(
-                alloc,
-                parent_context,
-                trace_id,
-                name,
-                span_kind,
-                attributes,
-                links,
-            )
+            self.local_parent_not_sampled.should_sample(alloc, span)
+        }
+    }
+
+    /// Tells the sampler for this kind of parent.
+    fn on_start(&mut self, parent: &Context, span: &SdkSpan) {
+        let own = parent.span_context();
+        let sampled = own.is_sampled();
+        if !own.is_valid() {
+            self.root.on_start(parent, span);
+        } else if own.is_remote() && sampled {
+            self.remote_parent_sampled.on_start(parent, span);
+        } else if own.is_remote() {
+            self.remote_parent_not_sampled.on_start(parent, span);
+        } else if sampled {
+            self.local_parent_sampled.on_start(parent, span);
+        } else {
+            self.local_parent_not_sampled.on_start(parent, span);
         }
     }
 

@@ -1,5 +1,5 @@
 //! The builder of the SDK's value that traces.
-ghost use Rattle.std.specs.Prelude.{◌≡◌, ◌||◌, [], IfOk, None, false, true};
+ghost use Rattle.std.specs.Prelude.{◌≡◌, ◌&&◌, ◌||◌, [], IfOk, None, false, true};
 ghost use Rattle.opentelemetry.specs.Scope.{scope_of_name};
 ghost use Rattle.otel_sdk.specs.ParentBased.{after_parent};
 ghost use Rattle.otel_sdk.specs.Tracer.{with_id_generator, with_resource, with_sampler};
@@ -10,6 +10,7 @@ ghost use Rattle.otel_sdk_span.specs.SpanLimits.{default_limits};
 use super::SdkTracing;
 use crate::trace::processor::SpanProcessor;
 use crate::trace::processor::batch::BatchSpanProcessor;
+use crate::trace::processor::configured::{ConfiguredProcessor, ExporterProcessor};
 use crate::trace::source::SdkSource;
 use crate::trace::tracer::OpenPipeline;
 use crate::trace::{
@@ -37,6 +38,7 @@ pub struct TracingBuilder<S, G, C, X: SpanProcessor> {
     provider: TracerProviderBuilder<S, G, C>,
     processors: X,
     config: BatchConfig,
+    exports: bool,
     is_disabled: bool,
 }
 
@@ -48,6 +50,7 @@ impl<S: Drop, G: Drop, C: Drop, X: SpanProcessor> Drop for TracingBuilder<S, G, 
             provider: _,
             processors: _,
             config: _,
+            exports: _,
             is_disabled: _,
         } = self;
     }
@@ -63,6 +66,7 @@ impl<S, G, C, X: SpanProcessor> Model for TracingBuilder<S, G, C, X> {
       provider = b.provider;
       processors = b.processors;
       config = b.config;
+      exports = b.exports;
       is_disabled = b.is_disabled;
     } };
 
@@ -87,6 +91,7 @@ where
         ensures resource { result.provider.resource ≡ None }
         ensures sampler { result.provider.sampler ≡ after_parent Sampler.AlwaysOn }
         ensures batches { result.config ≡ default_batches }
+        ensures exporting { result.exports ≡ true }
         ensures enabled { result.is_disabled ≡ false }
     {
         TracingBuilder {
@@ -94,6 +99,7 @@ where
             provider: SdkTracerProvider::builder(rt),
             processors: (),
             config: BatchConfig::default(),
+            exports: true,
             is_disabled: false,
         }
     }
@@ -109,6 +115,7 @@ impl<S: ShouldSample, G: IdGenerator, C: Clock, X: SpanProcessor> TracingBuilder
             provider,
             processors,
             config,
+            exports,
             is_disabled,
         } = self;
         TracingBuilder {
@@ -116,6 +123,7 @@ impl<S: ShouldSample, G: IdGenerator, C: Clock, X: SpanProcessor> TracingBuilder
             provider: provider.with_sampler(sampler),
             processors,
             config,
+            exports,
             is_disabled,
         }
     }
@@ -129,6 +137,7 @@ impl<S: ShouldSample, G: IdGenerator, C: Clock, X: SpanProcessor> TracingBuilder
             provider,
             processors,
             config,
+            exports,
             is_disabled,
         } = self;
         TracingBuilder {
@@ -136,6 +145,7 @@ impl<S: ShouldSample, G: IdGenerator, C: Clock, X: SpanProcessor> TracingBuilder
             provider: provider.with_id_generator(id_generator),
             processors,
             config,
+            exports,
             is_disabled,
         }
     }
@@ -149,6 +159,7 @@ impl<S: ShouldSample, G: IdGenerator, C: Clock, X: SpanProcessor> TracingBuilder
             provider,
             processors,
             config,
+            exports,
             is_disabled,
         } = self;
         TracingBuilder {
@@ -156,6 +167,7 @@ impl<S: ShouldSample, G: IdGenerator, C: Clock, X: SpanProcessor> TracingBuilder
             provider: provider.with_clock(clock),
             processors,
             config,
+            exports,
             is_disabled,
         }
     }
@@ -184,6 +196,7 @@ impl<S: ShouldSample, G: IdGenerator, C: Clock, X: SpanProcessor> TracingBuilder
             provider,
             processors,
             config,
+            exports,
             is_disabled,
         } = self;
         Ok(TracingBuilder {
@@ -191,6 +204,7 @@ impl<S: ShouldSample, G: IdGenerator, C: Clock, X: SpanProcessor> TracingBuilder
             provider: provider.with_resource(resource)?,
             processors,
             config,
+            exports,
             is_disabled,
         })
     }
@@ -206,6 +220,7 @@ impl<S: ShouldSample, G: IdGenerator, C: Clock, X: SpanProcessor> TracingBuilder
             provider,
             processors,
             config,
+            exports,
             is_disabled,
         } = self;
         TracingBuilder {
@@ -213,6 +228,7 @@ impl<S: ShouldSample, G: IdGenerator, C: Clock, X: SpanProcessor> TracingBuilder
             provider: provider.with_span_limits(limits),
             processors,
             config,
+            exports,
             is_disabled,
         }
     }
@@ -232,6 +248,15 @@ impl<S: ShouldSample, G: IdGenerator, C: Clock, X: SpanProcessor> TracingBuilder
         ensures { result ≡ record self { is_disabled = true } }
     {
         self.disabled_if(true)
+    }
+
+    /// Lets exporters that are added later get spans only on the condition.
+    pub(super) fn exporting_if(self, condition: bool) -> Self
+        ensures { result ≡ record self { exports = self.exports && condition } }
+    {
+        let mut builder = self;
+        builder.exports = builder.exports && condition;
+        builder
     }
 
     /// Disables the value on the condition.
@@ -291,6 +316,7 @@ where
             provider,
             processors,
             config,
+            exports,
             is_disabled,
         } = self;
         TracingBuilder {
@@ -298,6 +324,7 @@ where
             provider,
             processors: (processors, processor),
             config,
+            exports,
             is_disabled,
         }
     }
@@ -315,7 +342,8 @@ pub trait WithExporter<E>: Sized {
         ensures { may_give self exporter result };
 
     /// Adds a [`BatchSpanProcessor`] with the exporter after the processors before, with the sizes
-    /// that the builder has now.
+    /// that the builder has now. If the environment that the builder took says that spans aren't
+    /// exported, nothing reaches the exporter.
     final fn with_exporter(self, exporter: E) -> Self::With
         ensures { may_give self exporter result }
     {
@@ -331,29 +359,36 @@ where
     X: SpanProcessor,
     E: SpanExporter,
 {
-    ghost use Rattle.std.specs.Prelude.{◌∷◌, []};
+    ghost use Rattle.std.specs.Prelude.{◌∷◌, [], not};
     ghost use Rattle.otel_sdk_base.specs.Queue as queue;
 
-    type With = TracingBuilder<S, G, C, (X, BatchSpanProcessor<E>)>;
+    type With = TracingBuilder<S, G, C, (X, ExporterProcessor<E>)>;
 
     ghost may_give = { λ builder exporter made. made ≡ with_last (record {
-      queue = queue.new exporter builder.config;
-      given = exporter ∷ [];
+      processor = record {
+        queue = queue.new exporter builder.config;
+        given = exporter ∷ [];
+      };
+      is_off = not builder.exports;
     }) builder };
 
-    fn push_exporter(self, exporter: E) -> TracingBuilder<S, G, C, (X, BatchSpanProcessor<E>)> {
+    fn push_exporter(self, exporter: E) -> Self::With {
         let TracingBuilder {
             alloc,
             provider,
             processors,
             config,
+            exports,
             is_disabled,
         } = self;
+        let processor = BatchSpanProcessor::new(alloc, exporter, config);
+        let processor = ConfiguredProcessor::new(processor, !exports);
         TracingBuilder {
             alloc,
             provider,
-            processors: (processors, BatchSpanProcessor::new(alloc, exporter, config)),
+            processors: (processors, processor),
             config,
+            exports,
             is_disabled,
         }
     }
@@ -418,8 +453,8 @@ pub trait Build: Sized {
     fn build_named(self, alloc: Global, name: StringValue) -> Result<Self::Built, AllocError>
         ensures { IfOk result (may_build self name) };
 
-    /// Returns the value of the given parts, whose spans have the scope named `name`. Tells the
-    /// exporters the resource.
+    /// Returns the value of the given parts, whose spans have the scope named `name`. If no resource
+    /// names the service, that is its name too. Tells the exporters the resource.
     ///
     /// # Errors
     ///
@@ -456,9 +491,11 @@ where
             provider,
             mut processors,
             config: _,
+            exports: _,
             is_disabled,
         } = self;
         let (resource, start) = provider.into_parts(alloc)?;
+        let resource = resource.for_service(name.clone()?)?;
         processors.set_resource(&Rc::new(alloc, resource)?)?;
         let scope = InstrumentationScope::builder(name).build(alloc)?;
         let pipeline = OpenPipeline {

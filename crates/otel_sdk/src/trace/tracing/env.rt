@@ -12,7 +12,8 @@ use std::alloc::{AllocError, Global};
 impl<S: ShouldSample, G: IdGenerator, C: Clock, X: SpanProcessor> TracingBuilder<S, G, C, X> {
     /// Sets the sampler, the resource, the limits of spans and the sizes of batches that the
     /// environment gives, or their defaults. A call that comes later wins. If the SDK is disabled,
-    /// so is the value. The sizes are for the exporters that are added later.
+    /// so is the value. The sizes are for the exporters that are added later, which get no span if
+    /// the environment names `none`.
     ///
     /// # Errors
     ///
@@ -28,6 +29,7 @@ impl<S: ShouldSample, G: IdGenerator, C: Clock, X: SpanProcessor> TracingBuilder
             .with_sampler(config.sampler())
             .with_limits(config.span_limits)
             .with_batch_config(config.span_batches.config())
+            .exporting_if(config.traces_exporter.exports())
             .disabled_if(config.is_disabled);
         builder.with_resource(config.resource(alloc)?)
     }
