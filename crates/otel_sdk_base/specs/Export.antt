@@ -2,11 +2,14 @@
 -- in-memory exporter.
 use Rattle.std.specs.Prelude.{◌≡◌, ℕ, zero, suc, ◌*◌, ◌-◌, ◌<◌, Bool, List, [], ◌∷◌, ◌++◌, take}
 use Rattle.std.specs.Prelude.{drop}
-use Rattle.std.specs.Prelude.{length, refl, Result, Ok, true, if◌then◌else◌, alloc_error}
+use Rattle.std.specs.Prelude.{length, refl, Result, Ok, true, if◌then◌else◌, alloc_error, Option}
+use Rattle.std.specs.Prelude.{None}
 use Rattle.std.specs.List.{flat_map}
+use Rattle.otel_sdk_base.specs.Losses as losses
 use Rattle.otel_sdk_base.specs.Resource.{Parts}
 use Rattle.otel_sdk_base.specs.declared.error.OTelSdkError.{OTelSdkError}
 use Rattle.otel_sdk_base.specs.declared.error.OTelSdkError.TheVariants.{AlreadyShutdown, Memory}
+use Rattle.otel_sdk_base.specs.declared.losses.Losses.{Losses}
 
 -- the items of the batches, in order
 abbrev pub items_of : {X : Type 0} → List (List X) → List X
@@ -41,7 +44,7 @@ pub record AreExportedUpTo {X E : Type 0} (accepted : E → List (List X)) (Step
   pub exported : AreExported size queue (accepted old) (accepted before) left
   pub step : Step before new
 
--- What an exporter says about its calls. Each but `flushed` relates its states before and after.
+-- What an exporter says about its calls. Each of the first four relates its states before and after.
 pub record Calls (E : Type 0) : Type 1 where
   -- it refused a batch with this error
   pub refuses : E → OTelSdkError → E → Type 0
@@ -53,12 +56,16 @@ pub record Calls (E : Type 0) : Type 1 where
   pub takes_resource : E → Parts → E → Type 0
   -- it answered these to the flushes so far, in order
   pub flushed : E → List (Result (Unit {0}) OTelSdkError) → Type 0
+  -- how many of the accepted items the receiver doesn't have, by cause
+  pub losses : E → Losses
+  -- the receiver's last message
+  pub last_message : E → Option (List ℕ)
 
 -- it refused a batch with this error
 abbrev pub refuses_with : {E : Type 0} → Calls E → OTelSdkError → E → E → Type 0
 refuses_with calls error before after = calls.refuses before error after
 
--- any answer to any call
+-- any answer to any call, and no item is lost
 abbrev pub any_calls : {E : Type 0} → Calls E
 any_calls = record {
   refuses = λ _ _ _. Unit {0};
@@ -66,6 +73,8 @@ any_calls = record {
   shuts_down = λ _ _ _. Unit {0};
   takes_resource = λ _ _ _. Unit {0};
   flushed = λ _ _. Unit {0};
+  losses = λ _. losses.none;
+  last_message = λ _. None;
 }
 
 -- it was shut down, with some answer
@@ -82,7 +91,7 @@ pub record InMemory (X : Type 0) : Type 0 where
 
 -- It refuses a batch unchanged: with `AlreadyShutdown` if it was shut down, otherwise because
 -- memory ran out. A flush does nothing, and a shutdown drops the items; both succeed. It ignores
--- resources.
+-- resources, and loses no item.
 abbrev pub in_memory_calls : {X : Type 0} → Calls (InMemory X)
 in_memory_calls = record {
   refuses = λ old error new. (new ≡ old)
@@ -92,6 +101,8 @@ in_memory_calls = record {
       × (new ≡ record { accepted = []; is_shut_down = true });
   takes_resource = λ old _ new. new ≡ old;
   flushed = λ _ _. Unit {0};
+  losses = λ _. losses.none;
+  last_message = λ _. None;
 }
 
 -- ---- worked rows

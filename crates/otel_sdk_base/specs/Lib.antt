@@ -1,6 +1,7 @@
 pub mod Attributes
 pub mod Errors
 pub mod Export
+pub mod Losses
 pub mod NotEntered
 pub mod Queue
 pub mod QueueView

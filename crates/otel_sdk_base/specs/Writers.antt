@@ -16,10 +16,15 @@ abbrev pub IsStuck : (List ℕ → Result ℕ Error → Type 0) → Type 0
 IsStuck may_write = (bytes : List ℕ) × (answer : Result ℕ Error) × (0 < length bytes)
     × may_write bytes answer × TakesNone answer
 
--- the error says that memory ran out, or that the writer failed, which it did
+-- a write of one or more bytes failed with this error
+abbrev pub FailsWith : (List ℕ → Result ℕ Error → Type 0) → Error → Type 0
+FailsWith may_write error = (bytes : List ℕ) × (0 < length bytes) × may_write bytes (Err error)
+
+-- the error says that memory ran out, or that the writer failed, which it did: with that very error
 abbrev pub IsWritersError : (List ℕ → Result ℕ Error → Type 0) → OTelSdkError → Type 0
 IsWritersError may_write (error.Memory cause) = ⊤
 IsWritersError may_write (error.InternalFailure message) = IsStuck may_write
+IsWritersError may_write (error.Io cause) = FailsWith may_write cause
 IsWritersError may_write other = ⊥
 
 -- ---- flushes

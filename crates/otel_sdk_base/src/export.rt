@@ -1,9 +1,11 @@
 //! Exporters, which send ended spans or log records out of the program.
 ghost use Rattle.std.specs.Prelude.{◌≡◌, [], ◌∷◌, ◌++◌, IfErr, OnOk, OnErr};
+ghost use Rattle.std.specs.Option.{option_copied};
 ghost use Rattle.std.specs.Rc.{rc_value};
 ghost use Rattle.otel_sdk_base.specs.Writers.{FlushesNever, FlushesOnce};
 
 use crate::error::OTelSdkResult;
+use crate::losses::Losses;
 use crate::resource::Resource;
 use std::rc::Rc;
 
@@ -14,7 +16,8 @@ use std::rc::Rc;
 /// the exporter has accepted. The ghost member `calls` says what each other call did: a refusal of
 /// a batch (`refuses`), a flush, a shutdown, and a resource that was set. Each relates the states
 /// before and after, and the error, the answer or the resource. `calls.flushed` relates the
-/// exporter and its answers to the flushes so far, which only its calls show.
+/// exporter and its answers to the flushes so far, which only its calls show. `calls.losses` and
+/// `calls.last_message` are the accepted items that the receiver doesn't have, and what it said.
 ///
 /// If an exporter can never write an item, it must accept the item and count it itself, since a
 /// processor exports a refused batch again.
@@ -59,4 +62,13 @@ pub trait Exporter<T>: Drop {
     fn set_resource(&mut self, resource: Rc<Resource>)
         ensures same { accepted self.new ≡ accepted self.old }
         ensures told { calls.takes_resource self.old (rc_value resource) self.new };
+
+    /// Returns how many of the accepted items the receiver doesn't have, by cause: it rejected
+    /// them, the exporter gave them up, or they still wait here.
+    fn losses(&self) -> Losses
+        ensures { result ≡ calls.losses self.now };
+
+    /// Returns the receiver's last message, such as why it rejected items.
+    fn last_message(&self) -> Option<&str>
+        ensures { option_copied result ≡ calls.last_message self.now };
 }

@@ -6,6 +6,7 @@ ghost use Rattle.otel_sdk_base.specs.Export.{items_of};
 
 use crate::error::{OTelSdkError, OTelSdkResult};
 use crate::export::Exporter;
+use crate::losses::Losses;
 use crate::resource::Resource;
 use std::alloc::{AllocError, Global};
 use std::marker::Model;
@@ -140,5 +141,15 @@ impl<T: ExactClone> Exporter<T> for InMemoryExporter<T> {
         ensures { self.new ≡ self.old }
     {
         drop(resource);
+    }
+
+    /// Returns that nothing is lost.
+    fn losses(&self) -> Losses {
+        Losses::default()
+    }
+
+    /// Returns `None`: nothing is sent.
+    fn last_message(&self) -> Option<&str> {
+        None
     }
 }
