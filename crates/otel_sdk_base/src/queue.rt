@@ -89,6 +89,20 @@ impl<T: Drop, E: Exporter<T>> Queue<T, E> {
         self.items.len()
     }
 
+    /// Returns `true` if no more item can be queued.
+    pub fn is_full(&self) -> bool
+        ensures { result ≡ not (spec.has_space (state self.now)) }
+    {
+        self.items.len() >= self.config.max_queue_size
+    }
+
+    /// Returns the maximum number of items in a batch.
+    pub fn max_export_batch_size(&self) -> usize
+        ensures { result ≡ (state self.now).config.max_export_batch_size }
+    {
+        self.config.max_export_batch_size
+    }
+
     /// Returns the number of dropped items, saturating at `u64::MAX`.
     pub fn dropped(&self) -> u64
         ensures { result ≡ (state self.now).dropped }
