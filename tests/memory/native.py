@@ -15,7 +15,7 @@ NAME = "memory_scenarios"
 # The crates that the scenarios call.
 CALLED = (
     "otel_appender_log", "otel_examples", "otel_http", "otel_propagators", "otel_sdk", "otel_sdk_base", "otel_sdk_logs",
-    "otel_otlp", "otel_proto", "otel_proto_batches", "otel_waterfall",
+    "otel_otlp", "otel_proto", "otel_proto_answers", "otel_proto_batches", "otel_waterfall",
 )
 
 

@@ -1,4 +1,4 @@
-//! Calls that write values in Protocol Buffers.
+//! Calls that write values in Protocol Buffers, and that read a collector's answers.
 use crate::lines::Lines;
 use otel_base::{AnyValue, Key, KeyValue, Value};
 use otel_proto::{
@@ -6,6 +6,7 @@ use otel_proto::{
     put_bytes_unless_empty, put_entry, put_fixed32, put_fixed64_unless_zero, put_head, put_number,
     put_number_unless_zero, put_text_unless_empty, put_value,
 };
+use otel_proto_answers::{read_partial, read_status};
 use std::alloc::{AllocError, Global};
 
 pub fn play<R: Print>(alloc: Global, lines: &Lines<'_, R>) {
@@ -17,6 +18,12 @@ pub fn play<R: Print>(alloc: Global, lines: &Lines<'_, R>) {
     }
     if lines.begin("proto-output") {
         lines.end(output(alloc, lines));
+    }
+    if lines.begin("proto-partial") {
+        lines.end(partial(alloc, lines));
+    }
+    if lines.begin("proto-status") {
+        lines.end(status(alloc, lines));
     }
 }
 
@@ -72,5 +79,18 @@ fn output<R: Print>(alloc: Global, lines: &Lines<'_, R>) -> Result<(), AllocErro
     lines.free_ok("Output::put", out.put(b"z"));
     let bytes = out.into_bytes();
     lines.free_ok("Output::into_bytes", bytes);
+    Ok(())
+}
+
+/// Only a message is allocated.
+fn partial<R: Print>(alloc: Global, lines: &Lines<'_, R>) -> Result<(), AllocError> {
+    let with_message = read_partial(alloc, b"\x0a\x05\x08\x02\x12\x01m");
+    lines.answer_of(with_message.map(|partial| partial.rejected));
+    Ok(())
+}
+
+fn status<R: Print>(alloc: Global, lines: &Lines<'_, R>) -> Result<(), AllocError> {
+    let with_message = read_status(alloc, b"\x08\x03\x12\x03bad");
+    lines.answer_of(with_message.map(|status| status.code));
     Ok(())
 }

@@ -1,0 +1,4 @@
+pub mod Answering
+pub mod Merging
+pub mod Shorter
+pub mod Steps

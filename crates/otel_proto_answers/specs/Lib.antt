@@ -1,0 +1,4 @@
+pub mod Answers
+pub mod Parts
+pub mod Seen
+pub mod Views
