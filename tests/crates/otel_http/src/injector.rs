@@ -94,3 +94,19 @@ fn headers_are_written_as_lines(rt: HostRuntime) -> Result<(), Fail> {
     assert!(rt; format!(in alloc; "{unreadable}").is_err());
     Ok(())
 }
+
+#[test]
+fn many_headers_are_written_as_lines(rt: HostRuntime) -> Result<(), Fail> {
+    let alloc = rt.alloc();
+    let mut injector = HeaderInjector::new(HeaderMap::new(alloc));
+    let mut wanted = String::new(alloc);
+    for number in 100..400u32 {
+        let key = format!(in alloc; "x-{number}")?;
+        Injector::set(&mut injector, key.as_str(), format!(in alloc; "{number}")?).map_err(
+            |_| AllocError,
+        )?;
+        wanted.push_str(format!(in alloc; "x-{number}: {number}\n")?.as_str())?;
+    }
+    assert_eq!(rt; format!(in alloc; "{injector}")?.as_str(), wanted.as_str());
+    Ok(())
+}

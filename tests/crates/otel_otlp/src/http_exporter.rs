@@ -2,6 +2,7 @@
 //! long, and what is counted.
 mod answers;
 mod factors;
+mod moments;
 mod told;
 
 use crate::batches::{root, scope};

@@ -1,4 +1,5 @@
 //! The configuration from the environment of a process: what is read, and what is told.
+use opentelemetry::Value;
 use otel_sdk::EnvConfig;
 use otel_sdk::env::EnvPropagator;
 use std::alloc::Global;
@@ -131,5 +132,37 @@ OTEL_BLRP_MAX_QUEUE_SIZE can't be \"few\": 2048 counts instead
 ";
     assert!(rt; are(&process.told, lines));
     assert_eq!(rt; config.warnings.len(), 3);
+    Ok(())
+}
+
+/// The lengths of texts in bytes: beyond a byte, a page and a MiB.
+const LENGTHS: &[usize] = &[255, 256, 257, 4_097, 65_537, 1_048_577];
+
+#[test]
+fn long_variables_are_read_whole(rt: HostRuntime) -> Result<(), Fail> {
+    let alloc = rt.alloc();
+    for length in LENGTHS {
+        let (name, value) = ("n".repeat(alloc, *length)?, "v".repeat(alloc, *length)?);
+        let attributes = format!(in alloc; "first={value},last=1")?;
+        let given: &[(&str, &[u8])] = &[
+            ("OTEL_SERVICE_NAME", name.as_bytes()),
+            ("OTEL_RESOURCE_ATTRIBUTES", attributes.as_bytes()),
+        ];
+        let (process, alloc) = process(alloc, given);
+        let config = EnvConfig::from_env(&(&process, alloc))?;
+        assert!(rt;
+            config.service_name.as_str() == name.as_str(),
+            "{length} bytes"
+        );
+        let resource = config.resource(alloc)?;
+        for (key, text) in [("first", value.as_str()), ("last", "1")] {
+            let found = resource.get(key);
+            assert!(rt;
+                matches!(found, Some(Value::String(held)) if held.as_str() == text),
+                "{key}"
+            );
+        }
+        assert!(rt; are(&process.told, ""));
+    }
     Ok(())
 }

@@ -1,5 +1,5 @@
-//! The time that the system's clock shows, from sources whose answers are known.
-use otel_sdk_base::{Clock, SystemClock};
+//! The times that clocks show: the system's, from sources whose answers are known, and one that is set.
+use otel_sdk_base::{Clock, ManualClock, SystemClock};
 use std::io::{self, ErrorKind};
 use std::test::Fail;
 use std::time::Duration;
@@ -45,5 +45,31 @@ fn a_clock_shows_its_source_s_time(rt: HostRuntime) -> Result<(), Fail> {
         u64::MAX
     );
     assert_eq!(rt; shown(None), 0);
+    Ok(())
+}
+
+/// Times below a second, at one and above, up to the last.
+const TIMES: &[u64] = &[
+    0,
+    1,
+    255,
+    256,
+    999_999_999,
+    1_000_000_000,
+    1_000_000_001,
+    1_760_000_000_999_999_999,
+    u64::MAX,
+];
+
+#[test]
+fn a_manual_clock_shows_each_nanosecond(rt: HostRuntime) -> Result<(), Fail> {
+    let set = ManualClock::new(0);
+    for time in TIMES {
+        assert_eq!(rt; ManualClock::new(*time).now(), *time);
+        set.set(*time);
+        assert_eq!(rt; set.now(), *time);
+        // Reading it again doesn't change it.
+        assert_eq!(rt; set.now(), *time);
+    }
     Ok(())
 }

@@ -1,11 +1,11 @@
 //! Calls on the propagators of the W3C headers.
 use crate::context::contexts::remote;
 use crate::lines::Lines;
-use crate::propagators::carriers::{carrier, injected};
+use crate::propagators::carriers::{carrier, holds, injected};
 use crate::shown::Show;
 use opentelemetry::baggage::Baggage;
 use opentelemetry::context::Context;
-use opentelemetry::propagation::TextMapPropagator;
+use opentelemetry::propagation::{Injector, PropagationError, TextMapPropagator};
 use opentelemetry::trace::TraceState;
 use opentelemetry::{Key, StringValue};
 use otel_propagators::{BaggagePropagator, TraceContextPropagator, W3cPropagator};
@@ -39,6 +39,9 @@ pub fn play<R: Print>(alloc: Global, lines: &Lines<'_, R>) {
     }
     if lines.begin("trace-context-inject") {
         lines.end(inject_trace(alloc, lines));
+    }
+    if lines.begin("trace-context-inject-both") {
+        lines.end(inject_both(alloc, lines));
     }
     if lines.begin("trace-context-extract") {
         lines.end(extract_trace(alloc, lines));
@@ -96,13 +99,56 @@ pub fn with_remote_span(alloc: Global, state: TraceState) -> Result<Context, All
     Context::new().with_remote_span_context(alloc, remote(1, state))
 }
 
-fn inject_trace<R: Print>(alloc: Global, lines: &Lines<'_, R>) -> Result<(), AllocError> {
-    let propagator = TraceContextPropagator::new(alloc)?;
+/// A context whose remote span has a trace state of two members.
+fn with_trace(alloc: Global) -> Result<Context, AllocError> {
     let Ok(state) = TraceState::from_str(alloc, "a=1,b=2") else {
         return Err(AllocError);
     };
-    let context = with_remote_span(alloc, state)?;
+    with_remote_span(alloc, state)
+}
+
+fn inject_trace<R: Print>(alloc: Global, lines: &Lines<'_, R>) -> Result<(), AllocError> {
+    let propagator = TraceContextPropagator::new(alloc)?;
+    let context = with_trace(alloc)?;
     inject(alloc, lines, &propagator, &context, &TRACE_KEYS)
+}
+
+/// A carrier that has a text for each header, so that to set one takes no memory.
+#[derive(Drop)]
+struct Prepared {
+    texts: HashMap<String, String>,
+}
+
+impl Injector for Prepared {
+    ghost use Rattle.opentelemetry.specs.Carrier.{map_state};
+
+    ghost state = { λ c. map_state c.texts.entries };
+
+    fn set(&mut self, key: &str, value: String) -> Result<(), PropagationError> {
+        match self.texts.get_mut(key) {
+            Some(text) => {
+                *text = value;
+                Ok(())
+            }
+            None => Err(PropagationError::Refused),
+        }
+    }
+}
+
+/// Both texts are made before the first is set. So an injection that runs out of memory leaves no
+/// `traceparent` without its `tracestate`.
+fn inject_both<R: Print>(alloc: Global, lines: &Lines<'_, R>) -> Result<(), AllocError> {
+    let propagator = TraceContextPropagator::new(alloc)?;
+    let context = with_trace(alloc)?;
+    let texts = carrier_of(alloc, &[("traceparent", ""), ("tracestate", "")])?;
+    let mut carrier = Prepared { texts };
+    let answer = propagator.inject_context(&context, &mut carrier);
+    let are_set = answer.is_ok();
+    lines.answer_named("injected", answer);
+    let has_parent = !holds(&carrier.texts, "traceparent", "");
+    let has_state = !holds(&carrier.texts, "tracestate", "");
+    lines.due(has_parent == are_set && has_state == are_set);
+    Ok(())
 }
 
 /// A context with the pair `k=v`.

@@ -9,6 +9,7 @@ use opentelemetry::trace::{
 use opentelemetry::{Key, KeyValue, StringValue, Value};
 use otel_examples::recording::{Effect, RecordingSpan};
 use std::alloc::{AllocError, Global};
+use std::cell::Cell;
 use std::test::Fail;
 use test_support::{name_of, named, span_context, tracer};
 
@@ -35,6 +36,12 @@ fn work() -> StringValue {
 /// The span id of the context's span as a number.
 fn span_id_of(context: &Context) -> u64 {
     u64::from_be_bytes(context.span_context().span_id().to_bytes())
+}
+
+/// A body: the span id of its context's span.
+fn id_inside(stack: &mut ContextStack, spans: &mut Spans<RecordingSpan>, context: Context) -> u64 {
+    let _ = (stack, spans);
+    span_id_of(&context)
 }
 
 /// The span ids of a span and of one inside it, each with the span's number.
@@ -232,6 +239,60 @@ impl Tracer for RefusingTracer {
         let _ = (alloc, builder, parent);
         Err(AllocError)
     }
+}
+
+/// A tracer that counts the spans that it builds.
+#[derive(Drop)]
+struct CountingTracer {
+    built: Cell<u64>,
+}
+
+impl Tracer for CountingTracer {
+    type Span = RecordingSpan;
+
+    ghost may_build = { λ tracer builder parent span. Unit {0} };
+
+    fn build_with_context(
+        &self,
+        alloc: Global,
+        builder: SpanBuilder,
+        parent: &Context,
+    ) -> Result<RecordingSpan, AllocError> {
+        self.built.set(self.built.get().saturating_add(1));
+        tracer().build_with_context(alloc, builder, parent)
+    }
+}
+
+/// Each of the four calls builds one span.
+#[test]
+fn a_span_is_built_once(rt: HostRuntime) -> Result<(), Fail> {
+    let alloc = rt.alloc();
+    let mut stack = ContextStack::new(alloc)?;
+    let mut spans: Spans<RecordingSpan> = Spans::new(alloc);
+    let (stack, spans) = (&mut stack, &mut spans);
+    let counting = CountingTracer {
+        built: Cell::new(0),
+    };
+    let parent = Context::new();
+    let by_name = counting.in_span(alloc, stack, spans, work(), Run(id_inside));
+    assert!(rt; by_name.is_ok() && counting.built.get() == 1);
+    let builder = SpanBuilder::from_name(work());
+    let by_builder = counting.in_span_with_builder(alloc, stack, spans, builder, Run(id_inside));
+    assert!(rt; by_builder.is_ok() && counting.built.get() == 2);
+    let below = counting.in_span_with_context(alloc, stack, spans, work(), &parent, Run(id_inside));
+    assert!(rt; below.is_ok() && counting.built.get() == 3);
+    let builder = SpanBuilder::from_name(work());
+    let both = counting.in_span_with_builder_and_context(
+        alloc,
+        stack,
+        spans,
+        builder,
+        &parent,
+        Run(id_inside),
+    );
+    assert!(rt; both.is_ok() && counting.built.get() == 4);
+    assert_eq!(rt; spans.next_number(), 4);
+    Ok(())
 }
 
 #[test]
