@@ -18,6 +18,7 @@
 #   make tests                      runs the tests; CRATE=C of one crate; TEST=T whose path contains T
 #   make edit CRATE=C EDIT=E        checks that the prover refuses one wrong body, in seconds after a check of the crate
 #   make mutants                    the same for all wrong bodies, from nothing; CRATE=C of one crate
+#   make planted                    checks that tests find the bugs that the prover can't refuse; EDIT=E one of them
 #   make untried                    the same for the ones that may have become right
 #   make budgets                    measures the processor minutes and the memory of each crate's proof, from nothing
 #   make vectors                    compares answers with recorded ones of the Rust crate
@@ -30,6 +31,7 @@
 #   make misuse                     checks that misuse doesn't compile; CASE=NAME one case
 #   make memory                     runs programs out of memory: each allocation fails in turn
 #   make viewer                     reads files of many writers with the viewer of traces
+#   make service                    sends requests to a service at work
 #   make long                       runs the programs on long inputs
 #   make calls                      checks that make memory covers each call that can run out of memory
 #   make new-crate                  checks that ./new makes a crate whose program runs
@@ -53,7 +55,7 @@ GIVEN := $(if $(filter -,$(INPUT)),,< "$(INPUT)")
 CRATES := $(patsubst crates/%/src,%,$(wildcard crates/*/src))
 IS_CRATE = @$(if $(filter $(CRATE),$(CRATES)),true,echo 'make $@: name a crate, as in `make $@ CRATE=otel_ids`: $(CRATES)' >&2; exit 2)
 
-.PHONY: run prove example example-collector view example-c install test check tests edit mutants untried budgets vectors otlp b3 page collector c fuzz-c misuse memory viewer long calls new-crate fuzz documents bench
+.PHONY: run prove example example-collector view example-c install test check tests edit mutants planted untried budgets vectors otlp b3 page collector c fuzz-c misuse memory viewer service long calls new-crate fuzz documents bench
 
 run:
 	@program=$$(tests/tools/programs.py path otel_carry) && "$$program" $(GIVEN)
@@ -100,6 +102,9 @@ edit:
 mutants:
 	@tests/tools/edits $(CRATE)
 
+planted:
+	@tests/tools/progress.py --part 'bugs that tests find' tests/planted/run $(EDIT)
+
 untried:
 	@tests/tools/edits --untried
 
@@ -136,6 +141,9 @@ memory:
 
 viewer:
 	@tests/tools/progress.py --part 'the viewer' tests/view/run
+
+service:
+	@tests/tools/progress.py --part 'a service at work' tests/service/run
 
 long:
 	@for name in otel_carry otel_service; do program=$$(tests/tools/programs.py path $$name) \

@@ -68,17 +68,22 @@ def write_command(path, text, **names):
     os.chmod(path, 0o755)
 
 
-def lay_kit(room, made, more):
-    """Makes the copy of the kit, whose clang writes the program's object file, called with more words. Returns its command rt."""
-    link_all(KIT, room, ("bin", "toolchain"))
+def lay_kit(room):
+    """Makes a copy of the kit in which `rt try` doesn't look for reserved names. Returns its command rt."""
+    link_all(KIT, room, ("bin",))
     link_all(f"{KIT}/bin", f"{room}/bin", ("rt", "rtlib.py", "rattle"))
     for name in ("rt", "rtlib.py"):
         shutil.copy(f"{KIT}/bin/{name}", f"{room}/bin/{name}")
     write_command(f"{room}/bin/rattle", RATTLE, rattle=f"{KIT}/bin/rattle")
+    return f"{room}/bin/rt"
+
+
+def lay_clang(room, made, more):
+    """Gives the copy of the kit a clang that writes the program's object file, called with more words."""
+    os.remove(f"{room}/toolchain")
     link_all(f"{KIT}/toolchain", f"{room}/toolchain", ("bin",))
     link_all(f"{KIT}/toolchain/bin", f"{room}/toolchain/bin", ("clang",))
     write_command(f"{room}/toolchain/bin/clang", CLANG, clang=f"{KIT}/toolchain/bin/clang", made=made, more=more)
-    return f"{room}/bin/rt"
 
 
 def lay_crates(room, names, known, more=()):
@@ -95,7 +100,8 @@ def build(folder, room, program, is_fast=False):
     """Builds the program of the crate in the folder, as this file. Raises `Failed` if it doesn't compile."""
     made = f"{room}/{os.path.basename(program)}.o"
     # The interpreter, with which `rt try` also runs a program, isn't needed: few steps.
-    tries = [lay_kit(f"{room}/kit", made, ["-O2"] if is_fast else []), "try", "--steps", "1"]
+    tries = [lay_kit(f"{room}/kit"), "try", "--steps", "1"]
+    lay_clang(f"{room}/kit", made, ["-O2"] if is_fast else [])
     tried = subprocess.run([sys.executable, *tries], cwd=folder, stdin=subprocess.DEVNULL, stdout=subprocess.PIPE,
                            stderr=subprocess.STDOUT, errors="replace", timeout=SECONDS)
     if not os.path.isfile(made):

@@ -55,12 +55,12 @@ class WrongBody:
             raise ValueError(f"{self.name}: a line of no known form: {line!r}")
 
 
-def in_file(path, file):
+def in_file(path, file, kind=WrongBody):
     """The wrong bodies of a file PATH.edits, which edits this source."""
     found = []
     for line in read(path).split("\n"):
         if line.startswith("== "):
-            found.append(WrongBody(line[3:].strip(), file))
+            found.append(kind(line[3:].strip(), file))
         elif found:
             found[-1].take(line)
         elif line.strip():
