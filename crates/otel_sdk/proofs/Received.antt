@@ -1,12 +1,12 @@
 -- A processor with a queue accounts for the spans that ended there.
 use Rattle.std.proofs.Common.{◌≡◌, ◌∙◌, ℕ, ◌+◌, ◌-◌, ◌^◌, min, Bool, true, false, List, [], ◌∷◌, ◌++◌, Option, Some, None, refl, sym, ap, subst, inl, inr, length, map, append_assoc, append-nil, Result, arith}
-use Rattle.std.specs.Prelude.{IsTrue, if◌then◌else◌, nat_lt, not, filter, ◌⊎◌, MatchBool}
+use Rattle.std.specs.Prelude.{IsTrue, if◌then◌else◌, nat_lt, not, filter, ◌⊎◌, MatchBool, ◌==◌}
 use Rattle.std.specs.List.{cons_option, filter_map, flat_map}
 use Rattle.std.proofs.lemmas.List.{map-append, length-append}
 use Rattle.std.proofs.lemmas.List.Elements.{filter-append, filter_map-append}
-use Rattle.otel_sdk.specs.Processor.{BatchState, Counts, Fate, HasReceived, OfQueue, Queues, WasOpen, data_of, dropped, is_sampled, kept}
+use Rattle.otel_sdk.specs.Processor.{BatchState, Collects, Counts, Fate, FlushesQueue, HasReceived, MakesSpace, OfQueue, Queues, WasOpen, data_of, dropped, is_sampled, kept}
 use Rattle.otel_sdk_base.specs.Export.{Calls, items_of}
-use Rattle.otel_sdk_base.specs.Queue.{IsClosed, IsFlushed, IsForceFlushed, IsShutDown, Limits, QueueState, TellsResource, counted, new as new_queue, one_more, queued, received_of}
+use Rattle.otel_sdk_base.specs.Queue.{IsClosed, IsFlushed, IsForceFlushed, IsShutDown, Limits, QueueState, TellsResource, counted, has_space, new as new_queue, one_more, queued, received_of}
 use Rattle.otel_sdk_base.specs.Resource.{Parts}
 use Rattle.otel_sdk_base.specs.declared.error.OTelSdkError.{OTelSdkError}
 use Rattle.otel_sdk_base.proofs.shared.BatchLemmas.{keeps}
@@ -210,10 +210,32 @@ module _ {E : Type 0} (accepted : E → List (List SpanRecord)) (calls : Calls E
   ]
 
   pub received-flushed : (p q : BatchState E) (answer : Result (Unit {0}) OTelSdkError)
-      → OfQueue (IsForceFlushed accepted calls answer) p q → (ended : List SpanRecord)
+      → FlushesQueue accepted calls answer p q → (ended : List SpanRecord)
       → HasReceived accepted calls p ended → HasReceived accepted calls q ended
   received-flushed p q answer f ended h =
       flushed-of p.queue.is_shut_down p q ended refl f.0.0 (λ t. (f.0.3 t).1) f.1 h
+
+  -- space was made for a span, and then it ended
+  spaced-of : (room untried : Bool) (p q : BatchState E) (ended : List SpanRecord)
+      → MatchBool room (q ≡ p) (MatchBool untried
+      ((answer : Result (Unit {0}) OTelSdkError) × FlushesQueue accepted calls answer p q) (q ≡ record p { skips = p.skips - 1 }))
+      → HasReceived accepted calls p ended → HasReceived accepted calls q ended
+  spaced-of true untried p q ended e h =
+      received-same p q ended (ap (λ (x : BatchState E). x.queue) e) (ap (λ (x : BatchState E). x.given) e) h
+  spaced-of false true p q ended (answer, f) h = received-flushed p q answer f ended h
+  spaced-of false false p q ended e h =
+      received-same p q ended (ap (λ (x : BatchState E). x.queue) e) (ap (λ (x : BatchState E). x.given) e) h
+
+  spaced-for : (b : Bool) (p q : BatchState E) (ended : List SpanRecord) → MatchBool b (MakesSpace accepted calls p q) (q ≡ p)
+      → HasReceived accepted calls p ended → HasReceived accepted calls q ended
+  spaced-for true p q ended m h = spaced-of (has_space p.queue) (p.skips == 0) p q ended m h
+  spaced-for false p q ended e h =
+      received-same p q ended (ap (λ (x : BatchState E). x.queue) e) (ap (λ (x : BatchState E). x.given) e) h
+
+  pub received-collected : (d : SpanRecord) (p q : BatchState E) → Collects accepted calls d p q → (ended : List SpanRecord)
+      → HasReceived accepted calls p ended → HasReceived accepted calls q (ended ++ d ∷ [])
+  received-collected d p q (between, space, step) ended h =
+      received-more d between q step ended (spaced-for (is_sampled d) p between ended space h)
 
   closed-of : (p q : BatchState E) (answer : Result (Unit {0}) OTelSdkError) (ended : List SpanRecord)
       → p.queue.is_shut_down ≡ false → IsClosed accepted calls answer p.queue q.queue → q.given ≡ p.given
@@ -278,7 +300,7 @@ module _ {E : Type 0} (accepted : E → List (List SpanRecord)) (calls : Calls E
   ]
 
   pub received-none : (exporter : E) (config : Limits) (p : BatchState E)
-      → p ≡ record { queue = new_queue exporter config; given = exporter ∷ [] } → HasReceived accepted calls p []
+      → p ≡ record { queue = new_queue exporter config; given = exporter ∷ []; skips = 0 } → HasReceived accepted calls p []
   received-none exporter config p e = subst (λ (x : BatchState E). HasReceived accepted calls x []) (sym e) (record {
     before = new_queue exporter config;
     was_open = (refl, inl refl);

@@ -9,6 +9,7 @@ pub mod EnvSampler
 pub mod EnvTexts
 pub mod EnvVariables
 pub mod EnvWarnings
+pub mod ExportSchedule
 pub mod Exports
 pub mod IdGenerator
 pub mod LastExport

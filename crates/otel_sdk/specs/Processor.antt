@@ -1,14 +1,14 @@
 -- What a span processor says about its calls, and the state of one with a queue.
 use Rattle.std.specs.Prelude.{◌≡◌, ◌⊎◌, ◌^◌, ◌-◌, ◌+◌, ℕ, Bool, true, false, List, [], ◌∷◌, ◌++◌}
 use Rattle.std.specs.Prelude.{length, map, max, min, filter, Option, Some, None, Result, Ok, Err}
-use Rattle.std.specs.Prelude.{MatchBool, if◌then◌else◌, option_map}
+use Rattle.std.specs.Prelude.{MatchBool, if◌then◌else◌, option_map, ◌==◌}
 use Rattle.std.specs.List.{filter_map, flat_map}
 use Rattle.otel_context.specs.Context.{ContextRecord}
 use Rattle.otel_ids.specs.TraceFlags as flags
 use Rattle.opentelemetry.specs.SpanSource.{SpanIds}
 use Rattle.otel_sdk_base.specs.Export.{Calls, WasShutDown, items_of}
 use Rattle.otel_sdk_base.specs.Queue.{IsForceFlushed, IsShutDown, QueueState, TellsResource}
-use Rattle.otel_sdk_base.specs.Queue.{after_add, counted, received_of}
+use Rattle.otel_sdk_base.specs.Queue.{after_add, counted, has_space, received_of}
 use Rattle.otel_sdk_base.specs.Resource.{Parts}
 use Rattle.otel_sdk_base.specs.declared.error.OTelSdkError.{OTelSdkError}
 use Rattle.otel_sdk_span.specs.Span.{SpanState}
@@ -181,10 +181,12 @@ pair_calls a b = record {
 
 -- ---- a processor with a queue
 
--- its queue and its exporter, and the exporter as it was given
+-- its queue and its exporter, the exporter as it was given, and how many spans that come to the
+-- full queue are dropped before it is flushed again
 pub record BatchState (E : Type 0) : Type 0 where
   pub queue : QueueState SpanRecord E
   pub given : List E
+  pub skips : ℕ
 
 -- a sampled span that ended, and whether it was dropped
 pub record Fate : Type 0 where
@@ -241,15 +243,44 @@ module _ {E : Type 0} where
   -- the same of the queue alone
   abbrev pub OfQueue : (QueueState SpanRecord E → QueueState SpanRecord E → Type 0)
       → BatchState E → BatchState E → Type 0
-  OfQueue step old new = step old.queue new.queue × (new.given ≡ old.given)
+  OfQueue step old new = step old.queue new.queue
+      × (new.given ≡ old.given) × (new.skips ≡ old.skips)
+
+  -- how many spans are then dropped before a flush: none if the queue has space, and if it stayed
+  -- full one less than a batch has
+  abbrev pub skips_after : QueueState SpanRecord E → ℕ
+  skips_after queue = if has_space queue then 0 else queue.config.max_export_batch_size - 1
+
+  -- the queue was flushed with its exporter, and gave the answer
+  abbrev pub FlushesQueue : (E → List (List SpanRecord)) → Calls E
+      → Result (Unit {0}) OTelSdkError → BatchState E → BatchState E → Type 0
+  FlushesQueue accepted calls answer old new =
+      IsForceFlushed accepted calls answer old.queue new.queue
+      × (new.given ≡ old.given) × (new.skips ≡ skips_after new.queue)
+
+  -- A queue with space stays as it is. One that is full is flushed, unless a flush left it full:
+  -- then not before a batch of spans has come to it since.
+  abbrev pub MakesSpace : (E → List (List SpanRecord)) → Calls E
+      → BatchState E → BatchState E → Type 0
+  MakesSpace accepted calls old new = MatchBool (has_space old.queue) (new ≡ old)
+      (MatchBool (old.skips == 0)
+      ((answer : Result (Unit {0}) OTelSdkError) × FlushesQueue accepted calls answer old new)
+      (new ≡ record old { skips = old.skips - 1 }))
+
+  -- space is made for a sampled span, and then it is queued, or dropped and counted
+  abbrev pub Collects : (E → List (List SpanRecord)) → Calls E → SpanRecord
+      → BatchState E → BatchState E → Type 0
+  Collects accepted calls span old new = (between : BatchState E)
+      × MatchBool (is_sampled span) (MakesSpace accepted calls old between) (between ≡ old)
+      × OfQueue (Queues span) between new
 
   -- a processor that exports in batches
   abbrev pub batch_calls : (E → List (List SpanRecord)) → Calls E → ProcessorCalls (BatchState E)
   batch_calls accepted calls = record {
     starts = λ old _ span new begun. (new ≡ old) × (begun ≡ span);
-    ends = λ old span new. OfQueue (Queues span) old new;
+    ends = λ old span new. Collects accepted calls span old new;
     loses = λ old span new. OfQueue (Counts span) old new;
-    flushes = λ old answer new. OfQueue (IsForceFlushed accepted calls answer) old new;
+    flushes = λ old answer new. FlushesQueue accepted calls answer old new;
     shuts_down = λ old answer new. OfQueue (IsShutDown accepted calls answer) old new;
     takes_resource = λ old resource new. MatchBool old.queue.is_shut_down (new ≡ old)
         (OfQueue (TellsResource accepted calls resource) old new);
@@ -264,7 +295,7 @@ module _ {E : Type 0} where
   -- a processor that exports each span as it ends: it queues the span, and then flushes the queue
   abbrev pub simple_calls : (E → List (List SpanRecord)) → Calls E → ProcessorCalls (BatchState E)
   simple_calls accepted calls = record (batch_calls accepted calls) {
-    ends = λ old span new. (between : QueueState SpanRecord E) × Queues span old.queue between
-        × ((answer : Result (Unit {0}) OTelSdkError)
-        × IsForceFlushed accepted calls answer between new.queue) × (new.given ≡ old.given);
+    ends = λ old span new. (between : BatchState E) × OfQueue (Queues span) old between
+        × (answer : Result (Unit {0}) OTelSdkError)
+        × FlushesQueue accepted calls answer between new;
   }

@@ -35,6 +35,6 @@ pub use source::SdkSource;
 pub use tracer::calls::TracerCalls;
 pub use tracer::{OpenPipeline, Pipeline, SdkTracer, TracerPipeline};
 pub use tracing::{
-    Build, Exports, SdkTracing, StandardPipeline, TracingBuilder, Unfinished, WithExporter,
-    WithProcessor, finish,
+    Build, ExportSchedule, Exports, SdkTracing, StandardPipeline, TracingBuilder, Unfinished,
+    WithExporter, WithProcessor, finish,
 };

@@ -13,7 +13,7 @@ use otel_http::{HeaderExtractor, HeaderInjector, add_header_line};
 use otel_otlp::OtlpJsonLogExporter;
 use otel_sdk::env::{ConfiguredPropagator, EnvConfig};
 use otel_sdk::logs::{SimpleLogProcessor, SimpleLogger};
-use otel_sdk::trace::{Exports, SpanProcessor, SystemClock, finish};
+use otel_sdk::trace::{ExportSchedule, Exports, SystemClock, finish};
 use std::alloc::AllocError;
 use std::io::{self, Read, Stderr, Write};
 
@@ -105,6 +105,8 @@ pub struct Service<'a, T, L> {
     pub call: &'a Call<'a, L>,
     /// Starts and exports the spans.
     pub tracing: T,
+    /// Says when they are exported.
+    pub schedule: ExportSchedule,
     /// Whether a failed export was told.
     pub is_told: bool,
 }
@@ -116,16 +118,17 @@ impl<'a, T: Exports + Drop, L: Logger> Service<'a, T, L> {
     ///
     /// As [`Answers::answer_all`].
     fn serve(call: &'a Call<'a, L>, tracing: T) -> Result<()> {
+        let clock = SystemClock::new(call.rt);
         let mut service = Service {
             call,
             tracing,
+            schedule: ExportSchedule::new(&clock, &call.env.span_batches),
             is_told: false,
         };
         let answered = match call.is_lines {
             true => service.answer_lines(call.rt.stdin(), &mut call.rt.stdout()),
             false => answer_http(call.rt, &mut service),
         };
-        let clock = SystemClock::new(call.rt);
         finish(&mut service.tracing, &clock, &call.env.span_batches)?;
         answered
     }
@@ -185,12 +188,12 @@ impl<'a, T: Exports + Drop, L: Logger> Service<'a, T, L> {
         Ok(self.tracing.set_status(Status::error(text.into()))?)
     }
 
-    /// Exports a full batch: 512 spans, unless the environment says otherwise. The first failure is
-    /// told on standard error.
+    /// Exports the spans if a batch is full, or once a delay has passed since the last export. The
+    /// first failure is told on standard error.
     fn export(&mut self) {
-        let size = self.call.env.span_batches.max_export_batch_size as usize;
-        let is_full = self.tracing.processors().queued_spans() >= size;
-        if is_full && let (Err(error), false) = (self.tracing.flush(), self.is_told) {
+        let clock = SystemClock::new(self.call.rt);
+        let exported = self.schedule.export_if_due(&mut self.tracing, &clock);
+        if let (Err(error), false) = (exported, self.is_told) {
             self.is_told = true;
             drop(eprintln!(self.call.rt; "{error}; the spans wait for another try"));
         }

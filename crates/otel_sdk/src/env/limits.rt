@@ -11,8 +11,9 @@ use otel_sdk_logs::LogRecordLimits;
 use otel_sdk_span::SpanLimits;
 use std::alloc::{AllocError, Global};
 
-/// The sizes and times of a batch processor. Nothing waits in this crate: the times are for the
-/// caller.
+/// The sizes and times of a batch processor. Nothing waits in this crate: an
+/// [`ExportSchedule`](crate::trace::ExportSchedule) goes by the delay, and
+/// [`finish`](crate::trace::finish) by the time of an export.
 #[derive(Clone, Copy, Debug, PartialEq, Eq)]
 pub struct EnvBatches {
     /// The maximum number of queued items, at least 1.

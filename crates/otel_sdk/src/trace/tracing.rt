@@ -5,6 +5,7 @@ ghost use Rattle.otel_sdk.specs.Exports.{Flushes, ShutsDown};
 mod builder;
 mod env;
 mod last_export;
+mod schedule;
 
 use crate::trace::processor::SpanProcessor;
 use crate::trace::source::{Flush, SdkSource, Shutdown};
@@ -13,6 +14,7 @@ pub use builder::{Build, StandardPipeline, TracingBuilder, WithExporter, WithPro
 pub use last_export::{Unfinished, finish};
 use opentelemetry::trace::{LocalTracing, SpanSource, Tracing};
 use otel_sdk_base::error::{OTelSdkError, OTelSdkResult};
+pub use schedule::ExportSchedule;
 
 /// The SDK's value that traces: a [`LocalTracing`] whose spans a pipeline starts, and whose ended
 /// spans go to processors. Not in the Rust crate.
@@ -23,7 +25,8 @@ pub type SdkTracing<P, X> = LocalTracing<SdkSource<P, X>>;
 /// Traces, and exports: a [`Tracing`] whose ended spans go to processors. Not in the Rust crate,
 /// whose provider exports.
 ///
-/// Nothing is exported by itself: a program flushes, and shuts down at its end.
+/// Nothing is exported in the background: a program flushes, a service by an [`ExportSchedule`],
+/// and shuts down at its end. Besides, a span that comes to a full queue flushes it.
 ///
 /// ```
 /// fn serve(tracing: &mut impl Exports) -> Result<(), OTelSdkError> {

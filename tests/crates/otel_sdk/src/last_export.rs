@@ -17,11 +17,12 @@ use std::test::Fail;
 /// A millisecond in nanoseconds.
 const MILLI: u64 = 1_000_000;
 
-/// An exporter that fails at the first flushes.
+/// An exporter that fails at the first flushes, and refuses the first batches.
 #[derive(Drop)]
 struct Busy {
     alloc: Global,
     failures: u32,
+    refusals: u32,
     is_stuck: bool,
     flushes: u32,
     shutdowns: u32,
@@ -33,6 +34,7 @@ impl Busy {
         Busy {
             alloc,
             failures,
+            refusals: 0,
             is_stuck: false,
             flushes: 0,
             shutdowns: 0,
@@ -50,6 +52,10 @@ impl Exporter<SpanData> for Busy {
     ghost calls = { any_calls };
 
     fn export(&mut self, batch: &[SpanData]) -> OTelSdkResult {
+        if self.refusals > 0 {
+            self.refusals -= 1;
+            return Err(OTelSdkError::InternalFailure(String::new(self.alloc)));
+        }
         self.spans = self.spans.saturating_add(batch.len());
         Ok(())
     }
@@ -189,7 +195,9 @@ fn after_a_shutdown_nothing_is_tried_again(rt: HostRuntime) -> Result<(), Fail> 
 
 #[test]
 fn dropped_spans_are_no_success(rt: HostRuntime) -> Result<(), Fail> {
-    let mut app = app(rt, Busy::new(rt.alloc(), 0))?;
+    let mut refusing = Busy::new(rt.alloc(), 0);
+    refusing.refusals = 1;
+    let mut app = app(rt, refusing)?;
     app.enter("third")?;
     let Err(error) = finish(&mut app, &CountedClock::new(1), &within(0)) else {
         assert!(rt; false, "no error");

@@ -24,6 +24,7 @@ mod ratio;
 mod recipes;
 mod runs;
 mod sampler;
+mod schedule;
 mod shown;
 mod tracer;
 mod traces;

@@ -2,8 +2,8 @@
 use otel_sdk::error::{OTelSdkError, OTelSdkResult};
 use otel_sdk::resource::Resource;
 use otel_sdk::trace::{
-    BatchConfigBuilder, BatchSpanProcessor, Exporter, InMemorySpanExporter, SimpleSpanProcessor,
-    SpanData, SpanProcessor,
+    BatchConfigBuilder, BatchSpanProcessor, Exporter, FinishedSpans, InMemorySpanExporter,
+    SimpleSpanProcessor, SpanData, SpanProcessor,
 };
 use std::alloc::{AllocError, Global};
 use std::rc::Rc;
@@ -150,7 +150,16 @@ const RUNS: &[Row] = &[
         0,
         0,
     ),
-    (4, 2, "++", "e1 e2 e3 e4 e5 e6 f", "[1 2][3 4]", "", 0, 2),
+    (
+        4,
+        2,
+        "+++",
+        "e1 e2 e3 e4 e5 e6 f",
+        "[1 2][3 4][5 6]",
+        "",
+        0,
+        0,
+    ),
     (
         4,
         2,
@@ -167,8 +176,35 @@ const RUNS: &[Row] = &[
     (4, 2, "+", "e1 f f", "[1]", "", 0, 0),
     (4, 2, "+", "e2 e1 f", "[2 1]", "", 0, 0),
     (4, 2, "+", "e1 u2 f", "[1]", "", 0, 0),
-    (2, 4, "+", "e1 e2 e3 f", "[1 2]", "", 0, 1),
-    (0, 0, "+", "e1 e2 f", "[1]", "", 0, 1),
+    (2, 4, "++", "e1 e2 e3 f", "[1 2][3]", "", 0, 0),
+    (0, 0, "++", "e1 e2 f", "[1][2]", "", 0, 0),
+    (1, 1, "++", "e1 u2 e3 f", "[1][3]", "", 0, 0),
+    // The full queue is flushed again once a batch of spans was dropped.
+    (2, 2, "--", "e1 e2 e3 e4 e5", "[1 2]![1 2]!", "", 2, 3),
+    (2, 2, "-++", "e1 e2 e3 e4 e5 f", "[1 2]![1 2][5]", "", 0, 2),
+    (1, 1, "--++", "e1 e2 e3 e4 f", "[1]![1]![1][4]", "", 0, 2),
+    // A flush that accepts some of the batches makes space.
+    (
+        4,
+        2,
+        "+-++",
+        "e1 e2 e3 e4 e5 f",
+        "[1 2][3 4]![3 4][5]",
+        "",
+        0,
+        0,
+    ),
+    // A flush of the caller that makes space ends the count.
+    (
+        2,
+        2,
+        "-+++",
+        "e1 e2 e3 f e4 e5 e6 f",
+        "[1 2]![1 2][4 5][6]",
+        "",
+        0,
+        1,
+    ),
 ];
 
 #[test]
@@ -222,8 +258,9 @@ fn a_queue_has_room_for_2048_spans(rt: HostRuntime) -> Result<(), Fail> {
     for number in 0..2050 {
         processor.on_end(span_data(alloc, number, 1)?);
     }
-    assert_eq!(rt; processor.queued_spans(), 2048);
-    assert_eq!(rt; processor.dropped_spans(), 2);
+    assert_eq!(rt; processor.queued_spans(), 2);
+    assert_eq!(rt; processor.dropped_spans(), 0);
+    assert_eq!(rt; processor.exporter().get_finished_spans()?.len(), 2048);
     let exporter = InMemorySpanExporter::new(alloc);
     let config = BatchConfigBuilder::default()
         .with_max_queue_size(4096)

@@ -183,13 +183,14 @@ fn sizes_are_of_the_exporters_that_come_later(rt: HostRuntime) -> Result<(), Fai
         .with_batch_config(sizes(2))
         .with_exporter(Planned::new(alloc, "+"))
         .with_batch_config(sizes(1))
-        .with_exporter(Planned::new(alloc, "+"))
+        .with_exporter(Planned::new(alloc, "++"))
         .build(alloc, "cart")?;
     trace(&mut tracing)?;
     assert_eq!(rt; tracing.processors().queued_spans(), 2);
-    assert_eq!(rt; tracing.processors().dropped_spans(), 1);
+    assert_eq!(rt; logs(&tracing), ("", "[2]"));
     tracing.flush()?;
-    assert_eq!(rt; logs(&tracing), ("[2 1]", "[2]"));
+    assert_eq!(rt; tracing.processors().dropped_spans(), 0);
+    assert_eq!(rt; logs(&tracing), ("[2 1]", "[2][1]"));
     Ok(())
 }
 

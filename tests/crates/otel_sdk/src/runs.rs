@@ -188,18 +188,19 @@ const RUNS: &[Row] = &[
         0,
         0,
     ),
-    // A full queue drops what ends last.
+    // A span that comes to a full queue flushes it, and is dropped if that doesn't make space.
     (
         4,
         2,
-        "++",
+        "+++",
         "s s s s s s e0 e1 e2 e3 e4 e5 f",
-        "[1 2][3 4]",
+        "[1 2][3 4][5 6]",
         0,
         0,
-        2,
+        0,
         0,
     ),
+    (2, 2, "-+", "s s s e0 e1 e2 f", "[1 2]![1 2]", 0, 0, 1, 0),
     (
         4,
         2,
@@ -222,7 +223,7 @@ const RUNS: &[Row] = &[
         0,
         0,
     ),
-    (2, 4, "+", "s s s e0 e1 e2 f", "[1 2]", 0, 0, 1, 0),
+    (2, 4, "++", "s s s e0 e1 e2 f", "[1 2][3]", 0, 0, 0, 0),
     // No span is exported twice.
     (4, 2, "+", "f s e0 e0 f f", "[1]", 0, 0, 0, 0),
     (4, 2, "+", "s e0 f e0 a0 f", "[1]", 0, 0, 0, 0),

@@ -247,13 +247,17 @@ fn a_failure_is_recorded_in_its_span(rt: HostRuntime) -> Result<(), Fail> {
 }
 
 #[test]
-fn a_full_queue_drops_and_counts(rt: HostRuntime) -> Result<(), Fail> {
+fn a_full_queue_is_flushed(rt: HostRuntime) -> Result<(), Fail> {
     let mut app = app(rt)?;
     for name in ["a", "b", "c"] {
         app.in_span(name, |_: &mut App| ());
     }
-    assert_eq!(rt; exported(rt, &mut app)?.as_str(), "a 0-1 1-2;b 0-2 3-4;");
-    assert_eq!(rt; app.processors().dropped_spans(), 1);
+    assert_eq!(rt; finished(&app)?.len(), 2);
+    assert_eq!(rt;
+        exported(rt, &mut app)?.as_str(),
+        "a 0-1 1-2;b 0-2 3-4;c 0-3 5-6;"
+    );
+    assert_eq!(rt; app.processors().dropped_spans(), 0);
     assert_eq!(rt; app.unrecorded(), 0);
     Ok(())
 }

@@ -8,7 +8,8 @@ use opentelemetry::Value;
 use opentelemetry::trace::{SpanId, SpanKind, Status};
 use otel_sdk::EnvConfig;
 use otel_sdk::trace::{
-    Build, Exports, FinishedSpans, InMemorySpanExporter, SpanData, TracingBuilder, WithExporter,
+    Build, ExportSchedule, Exports, FinishedSpans, InMemorySpanExporter, SpanData, SystemClock,
+    TracingBuilder, WithExporter,
 };
 use std::alloc::{AllocError, Global};
 use std::process::Abort;
@@ -41,6 +42,7 @@ fn answered(rt: HostRuntime, given: &[u8], fails: bool) -> anyhow::Result<Outcom
     let mut service = Service {
         call: &call,
         tracing,
+        schedule: ExportSchedule::new(&SystemClock::new(rt), &env.span_batches),
         is_told: false,
     };
     let mut lines = Vec::new(alloc);

@@ -1,6 +1,7 @@
 //! A processor that exports spans in batches.
-ghost use Rattle.std.specs.Prelude.{◌≡◌, [], ◌∷◌};
-ghost use Rattle.otel_sdk.specs.Processor.{Counts, HasReceived, Queues};
+ghost use Rattle.std.specs.Prelude.{◌≡◌, [], ◌∷◌, MatchBool};
+ghost use Rattle.otel_sdk.specs.Processor.{AddsToAccount, Counts, HasReceived, MakesSpace};
+ghost use Rattle.otel_sdk.specs.Processor.{OfQueue, Queues, batch_calls, is_sampled};
 ghost use Rattle.otel_sdk_base.specs.Queue as queue_spec;
 ghost use Rattle.otel_sdk_base.specs.QueueView.{state};
 
@@ -17,8 +18,9 @@ use std::rc::Rc;
 /// Queues sampled spans, and exports them in batches when it is flushed (the Rust crate's
 /// `BatchSpanProcessor`). The caller flushes it: a full batch isn't exported by itself.
 ///
-/// If the queue is full, a span that ends is dropped and counted. A batch that the exporter rejects
-/// stays queued, in order.
+/// A span that comes to a full queue flushes it first, so a queue of any size keeps each span while
+/// exports succeed. A batch that the exporter rejects stays queued, in order. If the queue is full
+/// after a flush, a batch of spans is dropped and counted before the next one flushes it again.
 ///
 /// ```
 /// let processor = BatchSpanProcessor::new(alloc, exporter, BatchConfig::default());
@@ -28,12 +30,18 @@ pub struct BatchSpanProcessor<E> {
     queue: Queue<SpanData, E>,
     // The exporter as it was given.
     given: History<E>,
+    // How many spans that come to the full queue are dropped before it is flushed again.
+    skips: usize,
 }
 
 // Written out, so that a caller's proof has one call here, and not the drops of all parts.
 impl<E: Drop> Drop for BatchSpanProcessor<E> {
     fn drop(self) {
-        let BatchSpanProcessor { queue: _, given: _ } = self;
+        let BatchSpanProcessor {
+            queue: _,
+            given: _,
+            skips: _,
+        } = self;
     }
 }
 
@@ -43,7 +51,11 @@ impl<E> Model for BatchSpanProcessor<E> {
 
     ghost Value = { BatchState E };
 
-    ghost view = { λ p. record { queue = state p.queue; given = p.given.items } };
+    ghost view = { λ p. record {
+      queue = state p.queue;
+      given = p.given.items;
+      skips = p.skips;
+    } };
 }
 
 /// Queues a sampled span, or drops and counts it if the queue is full or shut down, or out of
@@ -74,6 +86,7 @@ impl<E: SpanExporter> BatchSpanProcessor<E> {
         ensures state { result ≡ record {
           queue = queue_spec.new exporter config;
           given = exporter ∷ [];
+          skips = 0;
         } }
         ensures account { HasReceived E.accepted E.calls result [] }
     {
@@ -81,6 +94,7 @@ impl<E: SpanExporter> BatchSpanProcessor<E> {
         BatchSpanProcessor {
             queue: Queue::new(alloc, exporter, config),
             given,
+            skips: 0,
         }
     }
 
@@ -89,6 +103,30 @@ impl<E: SpanExporter> BatchSpanProcessor<E> {
         ensures { result.now ≡ self.now.queue.exporter }
     {
         self.queue.exporter()
+    }
+
+    /// Flushes a full queue to which a sampled span comes, unless a flush left it full: then not
+    /// before a batch of spans has come to it since.
+    fn make_space(&mut self, span: &SpanData)
+        ensures space { MatchBool (is_sampled span.now)
+            (MakesSpace E.accepted E.calls self.old self.new) (self.new ≡ self.old) }
+    {
+        if !span.span_context.is_sampled() || !self.queue.is_full() {
+            return;
+        }
+        if self.skips > 0 {
+            self.skips -= 1;
+            return;
+        }
+        drop(self.force_flush());
+    }
+
+    /// Queues a sampled span, or drops and counts it, without a flush of a full queue.
+    pub(super) fn collect(&mut self, span: SpanData)
+        ensures queued { OfQueue (Queues span) self.old self.new }
+        ensures account { AddsToAccount (batch_calls E.accepted E.calls) span self.old self.new }
+    {
+        queue_or_count(&mut self.queue, span);
     }
 }
 
@@ -111,7 +149,8 @@ impl<E: SpanExporter> SpanProcessor for BatchSpanProcessor<E> {
     }
 
     fn on_end(&mut self, span: SpanData) {
-        queue_or_count(&mut self.queue, span);
+        self.make_space(&span);
+        self.collect(span);
     }
 
     fn on_loss(&mut self, span: &SpanData) {
@@ -119,7 +158,13 @@ impl<E: SpanExporter> SpanProcessor for BatchSpanProcessor<E> {
     }
 
     fn force_flush(&mut self) -> OTelSdkResult {
-        self.queue.force_flush()
+        let flushed = self.queue.force_flush();
+        self.skips = if self.queue.is_full() {
+            self.queue.max_export_batch_size().saturating_sub(1)
+        } else {
+            0
+        };
+        flushed
     }
 
     fn shutdown(&mut self) -> OTelSdkResult {

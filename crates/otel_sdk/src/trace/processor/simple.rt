@@ -49,6 +49,7 @@ impl<E: SpanExporter> SimpleSpanProcessor<E> {
         ensures state { result ≡ record {
           queue = queue_spec.new exporter queue_spec.single_limits;
           given = exporter ∷ [];
+          skips = 0;
         } }
         ensures account { HasReceived E.accepted E.calls result [] }
     {
@@ -87,7 +88,7 @@ impl<E: SpanExporter> SpanProcessor for SimpleSpanProcessor<E> {
 
     // If the export fails, the span stays queued.
     fn on_end(&mut self, span: SpanData) {
-        self.inner.on_end(span);
+        self.inner.collect(span);
         drop(self.inner.force_flush());
     }
 

@@ -368,6 +368,7 @@ where
       processor = record {
         queue = queue.new exporter builder.config;
         given = exporter ∷ [];
+        skips = 0;
       };
       is_off = not builder.exports;
     }) builder };

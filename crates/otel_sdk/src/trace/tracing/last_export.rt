@@ -33,7 +33,7 @@ pub enum Unfinished {
 /// Measures by a clock how much of a time is left. The time is no longer if the clock is set back,
 /// or stops.
 #[derive(Drop)]
-struct Timer {
+pub(super) struct Timer {
     /// The timestamp that the clock showed last, in nanoseconds since 1970.
     last: u64,
     /// The time that is left, in nanoseconds.
@@ -50,7 +50,7 @@ impl Model for Timer {
 
 impl Timer {
     /// Returns a timer that starts now.
-    fn new<C: Clock>(clock: &C, millis: u32) -> Timer
+    pub(super) fn new<C: Clock>(clock: &C, millis: u32) -> Timer
         ensures shown { C.reads clock.now result.last }
         ensures left { result.left ≡ spec.nanos_of millis }
     {
@@ -60,8 +60,22 @@ impl Timer {
         }
     }
 
+    /// Starts the time anew, at the timestamp that the clock showed last.
+    pub(super) fn restart(&mut self, millis: u32)
+        ensures { self.new ≡ record { last = self.old.last; left = spec.nanos_of millis } }
+    {
+        self.left = u64::from(millis) * 1_000_000;
+    }
+
+    /// Returns the time that is left, in nanoseconds.
+    pub(super) fn left(&self) -> u64
+        ensures { result ≡ self.now.left }
+    {
+        self.left
+    }
+
     /// Reads the clock. Returns `true` if it shows a later timestamp than before.
-    fn read<C: Clock>(&mut self, clock: &C) -> bool
+    pub(super) fn read<C: Clock>(&mut self, clock: &C) -> bool
         ensures shown { C.reads clock.now self.new.last }
         ensures passed { self.new ≡ with_moment self.new.last self.old }
         ensures later { IsTrue result → self.old.last < self.new.last }

@@ -6,7 +6,7 @@ use otel_sdk::env::EnvBatches;
 use otel_sdk::error::OTelSdkResult;
 use otel_sdk::resource::Resource;
 use otel_sdk::trace::{
-    Exporter, Exports, ManualClock, SpanData, SpanProcessor, Unfinished, finish,
+    ExportSchedule, Exporter, Exports, ManualClock, SpanData, SpanProcessor, Unfinished, finish,
 };
 use otel_sdk_base::Accepted;
 use std::alloc::AllocError;
@@ -65,6 +65,9 @@ pub fn play<R: Print>(rt: HostRuntime, lines: &Lines<'_, R>) {
     if lines.begin("tracing-flush") {
         lines.end(flush(rt, lines));
     }
+    if lines.begin("tracing-export-if-due") {
+        lines.end(export_if_due(rt, lines));
+    }
     if lines.begin("tracing-shutdown") {
         lines.end(shutdown(rt, lines));
     }
@@ -96,6 +99,21 @@ fn flush<R: Print>(rt: HostRuntime, lines: &Lines<'_, R>) -> Result<(), AllocErr
     Ok(())
 }
 
+/// An export that is due. After an error the span stays queued.
+fn export_if_due<R: Print>(rt: HostRuntime, lines: &Lines<'_, R>) -> Result<(), AllocError> {
+    let mut app = kept(rt)?;
+    let ended = enter(&mut app)?;
+    app.exit(ended);
+    let clock = ManualClock::new(1);
+    let mut schedule = ExportSchedule::new(&clock, &NO_TIME);
+    let answer = schedule.export_if_due(&mut app, &clock);
+    let queued = if answer.is_ok() { 0 } else { 1 };
+    let is_due = app.processors().queued_spans() == queued;
+    lines.answer_named("exported", answer);
+    lines.due(is_due && schedule.time_left(&app).is_some() == (queued == 1));
+    Ok(())
+}
+
 /// A shutdown with two open spans. After an error they have ended, and another shutdown exports
 /// them.
 fn shutdown<R: Print>(rt: HostRuntime, lines: &Lines<'_, R>) -> Result<(), AllocError> {
@@ -113,7 +131,7 @@ fn shutdown<R: Print>(rt: HostRuntime, lines: &Lines<'_, R>) -> Result<(), Alloc
     Ok(())
 }
 
-/// An export has no time for another try.
+/// An export is due at once, and has no time for another try.
 const NO_TIME: EnvBatches = EnvBatches {
     max_queue_size: 2,
     max_export_batch_size: 2,

@@ -7,4 +7,4 @@ returns-clause-flushes g c = search rules
 
 pub returns-clause-account : goal.returns-clause-account
 returns-clause-account g c =
-    received-flushed g.E.Exporter.accepted g.E.Exporter.calls _ _ c.force_flush.result (returns-clause-flushes g c)
+    received-flushed g.E.Exporter.accepted g.E.Exporter.calls _ _ c.force_flush-flushed.result (returns-clause-flushes g c)

@@ -6,8 +6,8 @@ use Rattle.otel_sdk.proofs.trace.processor.batch.BatchSpanProcessorSpanProcessor
 
 pub returns-clause-shuts_down : goal.returns-clause-shuts_down
 returns-clause-shuts_down g c = of_view (IsShutDown g.E.Exporter.accepted g.E.Exporter.calls c.shutdown.result)
-    _ (record { queue = state c.self.inside.queue; given = c.self.inside.given.items }) _ (search rules)
-    (c.shutdown.ensures.0, refl)
+    _ (record { queue = state c.self.inside.queue; given = c.self.inside.given.items; skips = c.self.inside.skips }) _ (search rules)
+    (c.shutdown.ensures.0, refl, refl)
 
 pub returns-clause-account : goal.returns-clause-account
 returns-clause-account g c =
