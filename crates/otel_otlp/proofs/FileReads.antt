@@ -13,7 +13,7 @@ pub answered : {F : Type 0} (remaining : F → Option (List ℕ)) (p : Request.P
 answered remaining p body (Ok answer) client left reads = record { came = _; rest = left.unread; answers = reads.2.0 }
 answered remaining p body (Err error) client left reads = tt
 
-module _ {F : Type 0} (outputs : List ℕ → Option F → Type 0) (inputs : F → List ℕ → Option F → Type 0) (contents remaining : F → Option (List ℕ)) (p : Request.Parts) (body folder : List ℕ) (input output : F) where
+module _ {F : Type 0} (outputs : List ℕ → Result F Error → Type 0) (inputs : F → List ℕ → Result F Error → Type 0) (contents remaining : F → Option (List ℕ)) (p : Request.Parts) (body folder : List ℕ) (input output : F) where
   pub over_files : (r : Answer) (client left : Streaming F F)
       → Opens outputs inputs folder input output → client ≡ initial input output
       → OnOk r (Appends (contents client.writer) (contents left.writer) (request_text p body))

@@ -1,6 +1,6 @@
 -- The bytes that a writer accepted, with the pending newline.
-use Rattle.std.proofs.Common.{Result, Ok, Err, OnErr, OnOk, ◌≡◌, ℕ, inr, nat_eq, ltb, leb, true≢false, ◌+◌, ◌-◌, ◌<◌, List, [], ◌∷◌, ◌++◌, length, take, Option, Bool, true, false, refl, sym, ap, ◌∙◌, append_assoc, subst, arith}
-use Rattle.std.proofs.lemmas.Grind.{common_steps}
+use Rattle.std.proofs.Common.{Result, Ok, Err, OnErr, OnOk, ◌≡◌, ℕ, inr, nat_eq, nat_lt, true≢false, ◌+◌, ◌-◌, ◌<◌, List, [], ◌∷◌, ◌++◌, length, take, Option, Bool, true, false, refl, sym, ap, ◌∙◌, append_assoc, subst, arith}
+use Rattle.std.proofs.lemmas.Bool.Decides.{nat_tests}
 use Rattle.std.proofs.lemmas.List.{length-append, take-append-le}
 use Rattle.std.proofs.KnownBytes.{Appends-trans}
 use Rattle.std.specs.Io.KnownBytes.{Appends}
@@ -23,29 +23,37 @@ more_written a b c o p q xs ys first then = record {
 }
 
 -- more than a newline is left of a line, so not all of its text was written
-pub short : (n m count : ℕ) → m ≡ n + 1 → leb (m - count) 1 ≡ false → count < n
-short n m count e h = grind (arith, common_steps)
+short : (n m count : ℕ) → m ≡ n + 1 → count < m → ¬ (m - count ≡ 1) → count < n
+short n m count size fewer left = omega (arith, size, fewer, left)
 
 -- and a newline is pending
-pub below : (n m count : ℕ) → m ≡ n + 1 → count < n → ltb count m ≡ true
-below n m count e h = grind (arith, common_steps)
+some_count : (count : ℕ) → 0 < count → nat_lt 0 count ≡ true
+some_count count some = grind (arith, nat_tests)
 
 -- the first bytes of a line, if no newline was pending; one is pending afterwards
-pub cut_written : (a b : Option (List ℕ)) (text line : List ℕ) (count : ℕ) (was is : Bool) → was ≡ false → is ≡ ltb count (length line) → line ≡ text ++ 10 ∷ [] → 0 < count → leb (length line - count) 1 ≡ false → Appends a b (take count line)
-    → (cut : List ℕ) × IsCutOff text cut × LinesWritten a b was is cut
-cut_written a b text line count was is w e l some left p =
+pub cut_written : (a b : Option (List ℕ)) (text line : List ℕ) (count : ℕ) (was : Bool) → was ≡ false → line ≡ text ++ 10 ∷ [] → 0 < count → count < length line → ¬ (length line - count ≡ 1) → Appends a b (take count line)
+    → (cut : List ℕ) × IsCutOff text cut × LinesWritten a b was (nat_lt 0 count) cut
+cut_written a b text line count was w l some fewer left p =
     let size : length line ≡ length text + 1 = ap length l ∙ length-append text (10 ∷ []) in
-    let fewer : count < length text = short (length text) (length line) count size left in
-    let first : take count line ≡ take count text = ap (take count) l ∙ take-append-le count text (10 ∷ []) (omega (arith, fewer)) in
-    let after : is ≡ true = e ∙ below (length text) (length line) count size fewer in (
+    let within : count < length text = short (length text) (length line) count size fewer left in
+    let first : take count line ≡ take count text = ap (take count) l ∙ take-append-le count text (10 ∷ []) (omega (arith, within)) in (
       take count text ++ 10 ∷ [],
-      inr (count, some, fewer, refl),
+      inr (count, some, within, refl),
       record {
         taken = take count text;
         appended = subst (Appends a b) first p;
-        whole = ap (λ o. take count text ++ pending o) after ∙ sym (ap (λ o. pending o ++ (take count text ++ 10 ∷ [])) w);
+        whole = ap (λ o. take count text ++ pending o) (some_count count some) ∙ sym (ap (λ o. pending o ++ (take count text ++ 10 ∷ [])) w);
       },
     )
+
+-- no byte of a line, if no newline was pending; none is pending afterwards
+none_at : (a b : Option (List ℕ)) (was : Bool) → was ≡ false → Appends a b [] → LinesWritten a b was false []
+none_at a b was w p = record { taken = []; appended = p; whole = ap (λ o. pending o ++ []) (sym w) }
+
+pub none_written : (a b : Option (List ℕ)) (line : List ℕ) (count : ℕ) (was : Bool) → was ≡ false → count ≡ 0 → Appends a b (take count line)
+    → LinesWritten a b was (nat_lt 0 count) []
+none_written a b line count was w none p =
+    subst (λ k. LinesWritten a b was (nat_lt 0 k) []) (sym none) (none_at a b was w (subst (λ k. Appends a b (take k line)) none p))
 
 -- the line of a batch with items
 pub line_of : {R : Type 0} (form : BatchForm R) (of : Parts) (batch : List R) (text : List ℕ) → false ≡ nat_eq (length batch) 0 → IsTextOf text (batch_value form of batch) → IsLineOf form of batch (text ++ 10 ∷ [])

@@ -23,7 +23,7 @@ use Rattle.otel_otlp.specs.StreamClient.{max_body_len, asking, Comes, stays, mov
 use Rattle.otel_otlp.specs.StreamClient.{StopsAt, EndsEarly, FindsBadHead, LacksMore, LacksAnswer, Breaks, IsNoAnswer}
 use Rattle.otel_otlp.proofs.StreamSteps.{no_interim}
 use Rattle.otel_otlp.specs.declared.otlp_http.client.HttpError.{HttpError}
-use Rattle.otel_otlp.specs.declared.otlp_http.client.HttpError.TheVariants.{Memory, Malformed, Unreachable}
+use Rattle.otel_otlp.specs.declared.otlp_http.client.HttpError.TheVariants.{Io, Memory, Malformed, Unopened, Unreachable}
 use Rattle.otel_otlp.specs.declared.otlp_http.stream_client.source.Source.{Source}
 
 -- a read that isn't `Ok` has failed
@@ -37,18 +37,24 @@ module _ {R : Type 0} (remaining : R → Option (List ℕ)) where
   pub breaks_now : (old new : Source R) (Lacks : List ℕ → Type 0) (e : HttpError)
       → Consumes (remaining old.reader) (remaining new.reader) [] → (e ≡ Malformed → Lacks old.unread.items) → Breaks remaining old new Lacks e
   breaks_now old new Lacks Unreachable none why = tt
+  breaks_now old new Lacks (Io cause) none why = tt
+  breaks_now old new Lacks (Unopened path cause) none why = tt
   breaks_now old new Lacks Malformed none why = ([], none, subst Lacks (sym (append-nil old.unread.items)) (why refl))
   breaks_now old new Lacks (Memory failed) none why = tt
 
   pub breaks_front : (old new : Source R) (Lacks : List ℕ → Type 0) (e : HttpError)
       → Consumes (remaining old.reader) (remaining new.reader) [] → (e ≡ Malformed → Lacks (old.unread.items ++ [])) → Breaks remaining old new Lacks e
   breaks_front old new Lacks Unreachable none why = tt
+  breaks_front old new Lacks (Io cause) none why = tt
+  breaks_front old new Lacks (Unopened path cause) none why = tt
   breaks_front old new Lacks Malformed none why = ([], none, why refl)
   breaks_front old new Lacks (Memory failed) none why = tt
 
   pub breaks_ended : (old new : Source R) (Lacks : List ℕ → Type 0) (e : HttpError)
       → (e ≡ Malformed → Consumes (remaining old.reader) (remaining new.reader) [] × Lacks old.unread.items) → Breaks remaining old new Lacks e
   breaks_ended old new Lacks Unreachable why = tt
+  breaks_ended old new Lacks (Io cause) why = tt
+  breaks_ended old new Lacks (Unopened path cause) why = tt
   breaks_ended old new Lacks Malformed why = let (none, lacks) = why refl in ([], none, subst Lacks (sym (append-nil old.unread.items)) lacks)
   breaks_ended old new Lacks (Memory failed) why = tt
 
@@ -58,6 +64,8 @@ module _ {R : Type 0} (remaining : R → Option (List ℕ)) where
       → ((more : List ℕ) → Lacks (mid.unread.items ++ more) → Whole ((old.unread.items ++ before) ++ more))
       → (e : HttpError) → Breaks remaining mid new Lacks e → Breaks remaining old new Whole e
   breaks_after old mid new Lacks Whole before first whole Unreachable b = tt
+  breaks_after old mid new Lacks Whole before first whole (Io cause) b = tt
+  breaks_after old mid new Lacks Whole before first whole (Unopened path cause) b = tt
   breaks_after old mid new Lacks Whole before first whole Malformed b =
       let (came, then, lacks) = b in
       (before ++ came, Consumes-trans _ _ _ before came first then, subst Whole (append_assoc old.unread.items before came) (whole came lacks))
@@ -67,6 +75,8 @@ module _ {R : Type 0} (remaining : R → Option (List ℕ)) where
   pub breaks_client : (may_read : Result ℕ Error → Type 0) (p : Request.Parts) (body : List ℕ) (old new : Source R) (connection : Client) → connection ≡ asking p body
       → (e : HttpError) → Breaks remaining old new (LacksAnswer may_read connection) e → IsNoAnswer remaining may_read p body old.reader old.unread.items new.reader e
   breaks_client may_read p body old new connection asked Unreachable b = tt
+  breaks_client may_read p body old new connection asked (Io cause) b = tt
+  breaks_client may_read p body old new connection asked (Unopened path cause) b = tt
   breaks_client may_read p body old new connection asked Malformed b =
       let (came, consumed, lacks) = b in
       (came, consumed, subst (λ k. LacksAnswer may_read k (old.unread.items ++ came)) asked lacks)

@@ -24,21 +24,32 @@ is_torn (Some byte) = if byte == 10 then false else true
 abbrev pub begins_line : Appending → List ℕ → Bool
 begins_line f bytes = if f.is_within_line then false else is_torn (slice_get bytes 0)
 
--- A line was appended, after a newline if the file's last line lacks its own. `ends` relates a path
--- and the file's last byte, and `appends` a path, bytes and an answer.
-module _ (ends : List ℕ → Option ℕ → Type 0)
-    (appends : List ℕ → List ℕ → Result ℕ Error → Type 0) (path bytes : List ℕ)
-    (answer : Result ℕ Error) where
+-- The path's file was opened and locked, and this was done to it; or that failed with this error.
+-- `locks` relates a path and the file that was opened there and locked.
+module _ {F : Type 0} (locks : List ℕ → Result F Error → Type 0) (path : List ℕ)
+    (answer : Result ℕ Error) (Does : F → Type 0) where
+  abbrev pub AnswersFor : Result F Error → Type 0
+  AnswersFor (Ok file) = Does file
+  AnswersFor (Err error) = answer ≡ Err error
+
+  abbrev pub UnderLock : Type 0
+  UnderLock = (locked : Result F Error) × locks path locked × AnswersFor locked
+
+-- A line was appended to an open file, after a newline if its last line lacks its own. `ends`
+-- relates the file and its last byte, and `appends` the file, bytes and an answer.
+module _ {F : Type 0} (ends : F → Option ℕ → Type 0)
+    (appends : F → List ℕ → Result ℕ Error → Type 0) (bytes : List ℕ)
+    (answer : Result ℕ Error) (file : F) where
   -- a newline was appended, and then the bytes; or the newline wasn't taken, and this is its answer
   abbrev pub FollowsNewline : Type 0
   FollowsNewline =
-      (appends path (10 ∷ []) (Ok 1) × appends path bytes answer)
-      ⊎ (appends path (10 ∷ []) answer × TakesNone answer)
+      (appends file (10 ∷ []) (Ok 1) × appends file bytes answer)
+      ⊎ (appends file (10 ∷ []) answer × TakesNone answer)
 
   pub record AppendsLine : Type 0 where
     pub last : Option ℕ
-    pub looked : ends path last
-    pub whole : is_torn last ≡ false → appends path bytes answer
+    pub looked : ends file last
+    pub whole : is_torn last ≡ false → appends file bytes answer
     pub torn : is_torn last ≡ true → FollowsNewline
 
 -- whether the line lacks its newline once so many of the bytes are appended

@@ -1,19 +1,20 @@
 -- The view of an exporter that writes lines of JSON, and the bytes that its writer gets
 -- [OpenTelemetry protocol file exporter, "JSON Lines file"].
 use Rattle.std.specs.Prelude.{◌≡◌, ◌⊎◌, ◌<◌, ℕ, Bool, true, false, List, [], ◌∷◌, ◌++◌, length}
-use Rattle.std.specs.Prelude.{take, Option, Result, Err, ⊤, IsTrue, OnOk, IfErr, IsErrOf}
+use Rattle.std.specs.Prelude.{take, Option, Result, Err, ⊤, IsTrue, OnOk, IsErrOf}
 use Rattle.std.specs.Prelude.{MatchResult}
 use Rattle.std.specs.Prelude.{if◌then◌else◌, alloc_error, codes, string_bytes}
 use Rattle.std.specs.Io.KnownBytes.{Appends}
 use Rattle.std.specs.declared.io.Error.{Error}
 use Rattle.otel_sdk_base.specs.Export.{Calls}
-use Rattle.otel_sdk_base.specs.Writers.{FlushesOnce, IsStuck, IsWritersError}
+use Rattle.otel_sdk_base.specs.Writers.{FlushesOnce, FailsWith, IsWritersError}
 use Rattle.otel_sdk_base.specs.Resource as resource
 use Rattle.otel_sdk_base.specs.Resource.{Parts}
 use Rattle.otel_sdk_base.specs.declared.error.OTelSdkError.{OTelSdkError}
 use Rattle.otel_sdk_base.specs.declared.error.OTelSdkError.TheVariants as error
 use Rattle.otel_otlp.specs.Groups.{BatchForm, batch_value}
 use Rattle.otel_otlp.specs.Json.{IsTextOf}
+use Rattle.otel_otlp.specs.Written.{TakesNoByte}
 use Rattle.otel_otlp.specs.declared.lines.Lines.{Lines}
 
 -- the batches that it has accepted, its writer with whether a newline is pending there, the
@@ -81,22 +82,21 @@ IsCutOffLineOf form resource batch line =
     ⊎ ((text : List ℕ) × IsTextOf text (batch_value form resource batch) × IsCutOff text line)
 
 -- ---- calls
--- the error says this of the writer; its text is empty if memory ran out too
+-- the error says this; its text is empty if memory ran out too
 abbrev pub Says : List ℕ → OTelSdkError → Type 0
 Says text (error.InternalFailure message) =
     (string_bytes message ≡ text) ⊎ (string_bytes message ≡ [])
 Says text other = ⊥
 
--- the error says that the writer didn't take a line, or that memory ran out
-abbrev pub SaysOfLine : OTelSdkError → Type 0
-SaysOfLine (error.Memory cause) = ⊤
-SaysOfLine other = Says (codes "the writer didn't take the line") other
+-- the error is the very one of a write that failed, or says this of a write that took no byte
+abbrev pub Tells : (List ℕ → Result ℕ Error → Type 0) → List ℕ → OTelSdkError → Type 0
+Tells may_write text (error.Io cause) = FailsWith may_write cause
+Tells may_write text told = TakesNoByte may_write × Says text told
 
--- the error says that the writer wasn't flushed, or didn't take the pending newline before
-abbrev pub SaysOfFlush : OTelSdkError → Type 0
-SaysOfFlush told =
-    Says (codes "the writer wasn't flushed") told
-    ⊎ Says (codes "the writer didn't take the newline") told
+-- why a line wasn't taken, unless memory ran out
+abbrev pub SaysOfLine : (List ℕ → Result ℕ Error → Type 0) → OTelSdkError → Type 0
+SaysOfLine may_write (error.Memory cause) = ⊤
+SaysOfLine may_write told = Tells may_write (codes "the writer didn't take the line") told
 
 -- an exporter that was shut down returns this error and is unchanged, and no other returns it
 pub record RefusesIfShutDown {W R : Type 0} (result : Result ⊤ OTelSdkError)
@@ -105,35 +105,36 @@ pub record RefusesIfShutDown {W R : Type 0} (result : Result ⊤ OTelSdkError)
   pub only_then : IsErrOf result error.AlreadyShutdown → IsTrue old.is_shut_down
   pub unchanged : IsTrue old.is_shut_down → new ≡ old
 
--- only the pending newline is written, and on `Ok` it is written; each error says how the writer
--- failed, so none that the exporter was shut down
+-- only the pending newline is written, and on `Ok` it is written; no error says that the exporter
+-- was shut down
 pub record Flushes {W : Type 0} (contents : W → Option (List ℕ)) (result : Result ⊤ OTelSdkError)
     (old new : Lines W) : Type 0 where
   pub written : OnOk result (new.newline_is_pending ≡ false)
   pub writes : Writes contents old new []
   pub goes_on : IsErrOf result error.AlreadyShutdown → ⊥
-  pub fails : IfErr result SaysOfFlush
 
--- the answer to a flush: the writer was flushed once, and said so; or a write before failed.
--- Only the writer's calls show `may_write` and `flushed`.
+-- The answer to a flush: the writer was flushed once. The error says that this failed, or why the
+-- pending newline wasn't taken before. Only the writer's calls show `may_write` and `flushed`.
 abbrev pub IsFlushed : {W : Type 0} → (List ℕ → Result ℕ Error → Type 0)
     → (W → List Bool → Type 0) → Result ⊤ OTelSdkError → Lines W → Lines W → Type 0
 IsFlushed may_write flushed answer old new =
     MatchResult answer
     (λ _. FlushesOnce flushed true old.writer new.writer)
-    (λ _. FlushesOnce flushed false old.writer new.writer ⊎ IsStuck may_write)
+    (λ told.
+    (FlushesOnce flushed false old.writer new.writer × Says (codes "the writer wasn't flushed") told)
+    ⊎ Tells may_write (codes "the writer didn't take the newline") told)
 
 -- an open exporter refused a batch: without a call of the writer if memory ran out, and otherwise
--- because the writer failed; the error says which
+-- because the writer took no more
 pub record RefusesBatch {W R : Type 0} (may_write : List ℕ → Result ℕ Error → Type 0)
     (told : OTelSdkError) (old new : Exporting W R) : Type 0 where
   pub refuses : RefusesIfShutDown (Err told) old new
   pub failed : old.is_shut_down ≡ false → IsWritersError may_write told
-  pub says : old.is_shut_down ≡ false → SaysOfLine told
+  pub says : old.is_shut_down ≡ false → SaysOfLine may_write told
   pub memory : told ≡ error.Memory alloc_error → new ≡ old
 
 -- only the pending newline is written, and on `Ok` it is written; nothing else changes. The writer
--- of an open exporter was flushed, and each error says how it failed
+-- of an open exporter was flushed, or the error says why not
 pub record ForceFlushes {W R : Type 0} (contents : W → Option (List ℕ))
     (may_write : List ℕ → Result ℕ Error → Type 0) (flushed : W → List Bool → Type 0)
     (result : Result ⊤ OTelSdkError) (old new : Exporting W R) : Type 0 where
@@ -141,7 +142,6 @@ pub record ForceFlushes {W R : Type 0} (contents : W → Option (List ℕ))
   pub written : OnOk result (new.lines.newline_is_pending ≡ false)
   pub writes : Writes contents old.lines new.lines []
   pub answered : old.is_shut_down ≡ false → IsFlushed may_write flushed result old.lines new.lines
-  pub fails : old.is_shut_down ≡ false → IfErr result SaysOfFlush
   pub rest : new ≡ record old { lines = new.lines }
 
 -- the same, and the exporter is shut down
@@ -152,7 +152,6 @@ pub record ShutsDown {W R : Type 0} (contents : W → Option (List ℕ))
   pub written : OnOk result (new.lines.newline_is_pending ≡ false)
   pub writes : Writes contents old.lines new.lines []
   pub answered : old.is_shut_down ≡ false → IsFlushed may_write flushed result old.lines new.lines
-  pub fails : old.is_shut_down ≡ false → IfErr result SaysOfFlush
   pub rest : new ≡ record old { lines = new.lines; is_shut_down = true }
 
 -- What the exporter says about its calls. Only if it was shut down, a batch is refused with

@@ -1,6 +1,6 @@
 -- What a client over two files was asked to send, and its answers.
-use Rattle.std.specs.Prelude.{◌⊎◌, ℕ, List, [], ◌++◌, codes, Option, Some, None, ⊤}
-use Rattle.std.specs.Prelude.{Bool, Result}
+use Rattle.std.specs.Prelude.{◌≡◌, ◌⊎◌, ℕ, List, [], ◌++◌, codes, Option, ⊤, string_bytes}
+use Rattle.std.specs.Prelude.{Bool, Result, Ok, Err}
 use Rattle.std.specs.declared.io.Error.{Error}
 use Rattle.std.specs.Io.KnownBytes.{Appends}
 use Rattle.http.specs.declared.request.Parts as Request
@@ -9,8 +9,7 @@ use Rattle.otel_otlp.specs.StreamClient.{Streaming, Answers, ReadsAnswer, reques
 use Rattle.otel_otlp.specs.StreamClient.{Fails, IsNoAnswer}
 use Rattle.otel_otlp.specs.StreamClient as stream
 use Rattle.otel_otlp.specs.declared.otlp_http.client.HttpError.{HttpError}
-use Rattle.otel_otlp.specs.declared.otlp_http.client.HttpError.TheVariants.{Memory, Unreachable}
-use Rattle.otel_otlp.specs.declared.otlp_http.client.HttpError.TheVariants.{Malformed}
+use Rattle.otel_otlp.specs.declared.otlp_http.client.HttpError.TheVariants.{Memory, Unopened}
 
 -- the requests that it was asked to send, and the path of its folder
 pub record Filing : Type 0 where
@@ -31,26 +30,28 @@ pub record IsAnswered (p : Request.Parts) (answer : Received) : Type 0 where
 abbrev pub file_in : List ℕ → List ℕ → List ℕ
 file_in folder name = folder ++ codes "/" ++ name
 
--- the file of the folder with this name couldn't be opened, or memory ran out
-abbrev pub IsUnopened : {F : Type 0} → (List ℕ → Option F → Type 0) → List ℕ → List ℕ
+-- the file of the folder with this name couldn't be opened, and the error names its path and why;
+-- or memory ran out
+abbrev pub IsUnopened : {F : Type 0} → (List ℕ → Result F Error → Type 0) → List ℕ → List ℕ
     → HttpError → Type 0
-IsUnopened opens folder name Unreachable = opens (file_in folder name) None
-IsUnopened opens folder name Malformed = ⊥
+IsUnopened opens folder name (Unopened path cause) =
+    (string_bytes path ≡ file_in folder name) × opens (file_in folder name) (Err cause)
 IsUnopened opens folder name (Memory failed) = ⊤
+IsUnopened opens folder name other = ⊥
 
--- `outputs` and `inputs` relate a path and the file that was opened there, or `None` if that
--- failed; `inputs` also the file that was opened before
-module _ {F : Type 0} (outputs : List ℕ → Option F → Type 0)
-    (inputs : F → List ℕ → Option F → Type 0) where
+-- `outputs` and `inputs` relate a path and the file that was opened there, or the error of that;
+-- `inputs` also the file that was opened before
+module _ {F : Type 0} (outputs : List ℕ → Result F Error → Type 0)
+    (inputs : F → List ℕ → Result F Error → Type 0) where
   -- both files of the folder were opened, the one for the request first
   pub record Opens (folder : List ℕ) (input output : F) : Type 0 where
-    pub written : outputs (file_in folder (codes "request")) (Some output)
-    pub read : inputs output (file_in folder (codes "response")) (Some input)
+    pub written : outputs (file_in folder (codes "request")) (Ok output)
+    pub read : inputs output (file_in folder (codes "response")) (Ok input)
 
   -- the file for the request was opened; the other couldn't be, or memory ran out
   abbrev pub IsUnread : List ℕ → HttpError → Type 0
   IsUnread folder error =
-      (output : F) × outputs (file_in folder (codes "request")) (Some output)
+      (output : F) × outputs (file_in folder (codes "request")) (Ok output)
       × IsUnopened (inputs output) folder (codes "response") error
 
   -- Both files were opened, and a client over them failed. `contents` are the bytes that a file

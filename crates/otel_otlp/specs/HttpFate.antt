@@ -14,6 +14,7 @@ use Rattle.otel_otlp.specs.HttpResponse.{Tells, SaysOfItems, HasText}
 use Rattle.otel_otlp.specs.HttpStatus.{class_of, IsSeconds}
 use Rattle.otel_otlp.specs.declared.otlp_http.fate.Fate.{Fate}
 use Rattle.otel_otlp.specs.declared.otlp_http.fate.Fate.TheVariants as fate
+use Rattle.otel_otlp.specs.declared.otlp_http.fate.Reason.TheVariants.{Answered, NoResponse}
 use Rattle.otel_otlp.specs.declared.otlp_http.fate.Refusal.{Refusal}
 use Rattle.otel_otlp.specs.declared.otlp_http.response.Partial.{Partial}
 use Rattle.otel_otlp.specs.declared.otlp_http.status.StatusClass.{StatusClass}
@@ -39,7 +40,7 @@ IsAskedWait now response wait =
 -- ---- the meaning of an answer
 -- the response says when to send again
 pub record IsAgain (now : ℕ) (response : Received) (refusal : Refusal) : Type 0 where
-  pub status : refusal.status ≡ Some (head_of response).status
+  pub status : refusal.reason ≡ Answered (head_of response).status
   pub wait : IsAskedWait now response refusal.wait
 
 -- the meaning of a response whose status has this meaning; the name is that of the member with the
@@ -57,8 +58,9 @@ IsFateOf name now response status.Never f =
     × IfOk message (Tells (HasText (body_of response).items))
 
 -- the meaning of an answer at this second since 1970; if there is no response, the request is to be
--- sent again
+-- sent again, and the reason is the client's
 abbrev pub IsFate : List ℕ → ℕ → Answer → Fate → Type 0
 IsFate name now (Ok response) f =
     IsFateOf name now response (class_of (head_of response).status) f
-IsFate name now (Err error) f = f ≡ fate.Stays (record { status = None; wait = None })
+IsFate name now (Err error) f =
+    f ≡ fate.Stays (record { reason = NoResponse error; wait = None })

@@ -1,29 +1,31 @@
 -- When a refused request may be sent again.
 use Rattle.std.specs.Prelude.{◌≡◌, ◌⊎◌, ◌≤◌, ℕ, ◌+◌, ◌-◌, ◌*◌, ◌/◌, ◌%◌, ◌==◌, List, [], ◌∷◌, ◌++◌}
-use Rattle.std.specs.Prelude.{Option, Some, None}
+use Rattle.std.specs.Prelude.{Option, Some, None, ⊤}
 use Rattle.std.specs.Prelude.{string_bytes, codes, decimal, if◌then◌else◌, refl}
 use Rattle.opentelemetry.specs.Clock.{within_u64}
 use Rattle.otel_sdk_base.specs.declared.error.OTelSdkError.{OTelSdkError}
 use Rattle.otel_sdk_base.specs.declared.error.OTelSdkError.TheVariants as error
 use Rattle.otel_otlp.specs.Backoff as backoff
+use Rattle.otel_otlp.specs.declared.otlp_http.fate.Reason.{Reason}
+use Rattle.otel_otlp.specs.declared.otlp_http.fate.Reason.TheVariants.{Answered, NoResponse}
 use Rattle.otel_otlp.specs.declared.otlp_http.fate.Refusal.{Refusal}
 
 -- The next wait before the factor, in milliseconds; the moment before which nothing is sent, in
--- nanoseconds since 1970; the status of the last refusal, if the collector has answered; and the
--- moments that the clock showed, one for each time that it was asked.
+-- nanoseconds since 1970; the reason of the last refusal, if there is one; and the moments that the
+-- clock showed, one for each time that it was asked.
 pub record PauseOf : Type 0 where
   pub delay : ℕ
   pub not_before : ℕ
-  pub status : Option ℕ
+  pub reason : Option Reason
   pub shown : List ℕ
 
 -- no refusal yet
 abbrev pub started : PauseOf
-started = record { delay = backoff.first; not_before = 0; status = None; shown = [] }
+started = record { delay = backoff.first; not_before = 0; reason = None; shown = [] }
 
 -- a request has left: the next refusal is the first in a row
 abbrev pub restarted : PauseOf → PauseOf
-restarted pause = record pause { delay = backoff.first; not_before = 0; status = None }
+restarted pause = record pause { delay = backoff.first; not_before = 0; reason = None }
 
 -- the clock was asked, and showed this moment
 abbrev pub after_reading : ℕ → PauseOf → PauseOf
@@ -35,7 +37,7 @@ after_refusal now factor refusal pause = record pause {
   delay = backoff.next pause.delay;
   not_before =
       within_u64 (now + within_u64 (backoff.wait pause.delay factor refusal.wait * 1000000));
-  status = refusal.status;
+  reason = Some refusal.reason;
 }
 
 -- the same, with a factor between 0.8 and 1.2
@@ -51,20 +53,26 @@ abbrev pub seconds_left : ℕ → ℕ → ℕ
 seconds_left now moment =
     (moment - now) / 1000000000 + (if (moment - now) % 1000000000 == 0 then 0 else 1)
 
--- why the request is to be sent again
-abbrev pub reason : Option ℕ → List ℕ
-reason None = codes "no response came"
-reason (Some status) = codes "the collector answered " ++ decimal status
+abbrev pub answered_text : ℕ → List ℕ
+answered_text status = codes "the collector answered " ++ decimal status
+
+-- why the request is to be sent again: the status, or how the client's error prints, of which no
+-- contract of std speaks
+abbrev pub IsReasonText : Option Reason → List ℕ → Type 0
+IsReasonText None text = text ≡ codes "no response came"
+IsReasonText (Some (Answered status)) text = text ≡ answered_text status
+IsReasonText (Some (NoResponse error)) text = ⊤
 
 -- the reason, and the wait in seconds
-abbrev pub refusal_text : Option ℕ → ℕ → List ℕ
-refusal_text status seconds =
-    reason status ++ codes "; to be sent again in " ++ decimal seconds ++ codes " s"
+abbrev pub IsRefusalText : Option Reason → ℕ → List ℕ → Type 0
+IsRefusalText reason seconds text =
+    (why : List ℕ) × IsReasonText reason why
+    × (text ≡ why ++ codes "; to be sent again in " ++ decimal seconds ++ codes " s")
 
 -- the error names the reason and the wait, unless memory ran out, when it has no text
 abbrev pub NamesWait : ℕ → PauseOf → OTelSdkError → Type 0
 NamesWait now pause (error.InternalFailure text) =
-    (string_bytes text ≡ refusal_text pause.status (seconds_left now pause.not_before))
+    IsRefusalText pause.reason (seconds_left now pause.not_before) (string_bytes text)
     ⊎ (string_bytes text ≡ [])
 NamesWait now pause other = ⊥
 

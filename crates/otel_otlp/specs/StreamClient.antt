@@ -51,11 +51,12 @@ use Rattle.http1.specs.Client.{reading, ClientReads, ClientRefuses, client_eof}
 use Rattle.http1.specs.ServerTrace.{SeenBody, no_body}
 use Rattle.http1.specs.ClientTrace.{SeenResponse, answer_view, Seen, Trace, IsBetween}
 use Rattle.http1_typed.specs.Parts.{fields_of, version_of, ResponseError}
-use Rattle.otel_sdk_base.specs.Writers.{FlushesOnce, IsStuck, TakesNone}
+use Rattle.otel_sdk_base.specs.Writers.{FlushesOnce, FailsWith, TakesNone}
 use Rattle.otel_otlp.specs.HttpClient.{Sent, Received}
+use Rattle.otel_otlp.specs.Written.{TakesNoByte}
 use Rattle.otel_otlp.specs.declared.otlp_http.client.HttpError.{HttpError}
 use Rattle.otel_otlp.specs.declared.otlp_http.client.HttpError.TheVariants.{Memory, Unreachable}
-use Rattle.otel_otlp.specs.declared.otlp_http.client.HttpError.TheVariants.{Malformed}
+use Rattle.otel_otlp.specs.declared.otlp_http.client.HttpError.TheVariants.{Io, Malformed, Unopened}
 use Rattle.otel_otlp.specs.declared.otlp_http.stream_client.source.Source.{Source}
 
 -- the limits of a response: 64 KiB for its head, 16 KiB for its trailers, and for its chunks'
@@ -161,15 +162,23 @@ pub record IsWritable (p : Request.Parts) (body : List ℕ) : Type 0 where
 -- why a connection doesn't write the request: it can't, or memory ran out
 abbrev pub CannotWrite : Request.Parts → List ℕ → HttpError → Type 0
 CannotWrite p body Unreachable = ¬ (IsWritable p body)
-CannotWrite p body Malformed = ⊥
 CannotWrite p body (Memory failed) = ⊤
+CannotWrite p body other = ⊥
 
--- why the request wasn't written: the same; or a write got no further, or the flush failed
+-- why its text wasn't sent: a write failed with this very error, or took no byte; or the flush
+-- failed
+abbrev pub IsUnsent : {W : Type 0} → (List ℕ → Result ℕ Error → Type 0)
+    → (W → List Bool → Type 0) → W → W → HttpError → Type 0
+IsUnsent may_write flushed old new (Io cause) = FailsWith may_write cause
+IsUnsent may_write flushed old new Unreachable =
+    TakesNoByte may_write ⊎ FlushesOnce flushed false old new
+IsUnsent may_write flushed old new other = ⊥
+
+-- why the request wasn't sent
 abbrev pub IsWriteError : {W : Type 0} → (List ℕ → Result ℕ Error → Type 0)
     → (W → List Bool → Type 0) → Request.Parts → List ℕ → W → W → HttpError → Type 0
 IsWriteError may_write flushed p body old new error =
-    CannotWrite p body error
-    ⊎ ((error ≡ Unreachable) × (IsStuck may_write ⊎ FlushesOnce flushed false old new))
+    CannotWrite p body error ⊎ IsUnsent may_write flushed old new error
 
 -- a read got no further: it gave no byte, or an error
 abbrev pub ReadsNone : (Result ℕ Error → Type 0) → Type 0
@@ -179,12 +188,24 @@ ReadsNone may_read = (answer : Result ℕ Error) × may_read answer × TakesNone
 abbrev pub HasAnswered : (Result ℕ Error → Type 0) → Type 0
 HasAnswered may_read = (answer : Result ℕ Error) × may_read answer
 
--- why no answer was read: a read got no further; or the bytes are no answer, after a read unless
--- there were unread ones; or memory ran out
+-- the error is one of the bytes that were read, or of memory
+abbrev pub IsOfBytes : HttpError → Type 0
+IsOfBytes Malformed = ⊤
+IsOfBytes (Memory failed) = ⊤
+IsOfBytes other = ⊥
+
+-- if the error is the reader's: a read got no further, or failed with this very error
+abbrev pub IsReaders : (Result ℕ Error → Type 0) → HttpError → Type 0
+IsReaders may_read Unreachable = ReadsNone may_read
+IsReaders may_read (Io cause) = may_read (Err cause)
+IsReaders may_read (Unopened path cause) = ⊥
+IsReaders may_read other = ⊤
+
+-- why no answer was read: the reader's error; or the bytes are no answer, after a read unless there
+-- were unread ones; or memory ran out
 abbrev pub IsReadError : (Result ℕ Error → Type 0) → List ℕ → HttpError → Type 0
-IsReadError may_read unread Unreachable = ReadsNone may_read
 IsReadError may_read unread Malformed = unread ≡ [] → HasAnswered may_read
-IsReadError may_read unread (Memory failed) = ⊤
+IsReadError may_read unread other = IsReaders may_read other
 
 -- why an open client has no answer: the request wasn't written; or it was written whole, and
 -- flushed, and no answer was read
@@ -457,17 +478,15 @@ module _ {R : Type 0} (remaining : R → Option (List ℕ)) where
   -- if the error says that the bytes are no response: the source has read bytes, and of what it had
   -- unread, followed by them, this holds
   abbrev pub Breaks : Source R → Source R → (List ℕ → Type 0) → HttpError → Type 0
-  Breaks old new Lacks Unreachable = ⊤
   Breaks old new Lacks Malformed =
       (came : List ℕ) × Consumes (remaining old.reader) (remaining new.reader) came
       × Lacks (old.unread.items ++ came)
-  Breaks old new Lacks (Memory failed) = ⊤
+  Breaks old new Lacks other = ⊤
 
   -- the same for a client, which had these bytes unread, and has asked this
   abbrev pub IsNoAnswer : (Result ℕ Error → Type 0) → Request.Parts → List ℕ
       → R → List ℕ → R → HttpError → Type 0
-  IsNoAnswer may_read p body old unread new Unreachable = ⊤
   IsNoAnswer may_read p body old unread new Malformed =
       (came : List ℕ) × Consumes (remaining old) (remaining new) came
       × LacksAnswer may_read (asking p body) (unread ++ came)
-  IsNoAnswer may_read p body old unread new (Memory failed) = ⊤
+  IsNoAnswer may_read p body old unread new other = ⊤

@@ -1,16 +1,20 @@
--- The number of bytes that a writer accepted in a call.
-use Rattle.std.specs.Prelude.{ℕ, ◌==◌, if◌then◌else◌, Option, Some, None, Result, Ok, Err}
-use Rattle.std.specs.IoError.{error_kind}
+-- Why a writer took no more bytes, and how many it took.
+use Rattle.std.specs.Prelude.{◌<◌, ℕ, List, length, take, Option, Result, Ok}
+use Rattle.std.specs.Io.KnownBytes.{Appends}
 use Rattle.std.specs.declared.io.Error.{Error}
-use Rattle.std.specs.declared.io.ErrorKind.{ErrorKind}
-use Rattle.std.specs.declared.io.ErrorKind.TheVariants.{Interrupted}
+use Rattle.otel_sdk_base.specs.Writers.{FailsWith}
+use Rattle.otel_otlp.specs.declared.written.Cause.{Cause}
+use Rattle.otel_otlp.specs.declared.written.Cause.TheVariants.{Failed, TookNone}
 
--- none, to be tried again, if the call was interrupted; other errors are failures
-abbrev pub accepted_of_kind : ErrorKind → Option ℕ
-accepted_of_kind Interrupted = Some 0
-accepted_of_kind _ = None
+-- a write of one or more bytes took none
+abbrev pub TakesNoByte : (List ℕ → Result ℕ Error → Type 0) → Type 0
+TakesNoByte may_write = (bytes : List ℕ) × (0 < length bytes) × may_write bytes (Ok 0)
 
--- the number of bytes; a writer that accepts none has failed
-abbrev pub accepted : Result ℕ Error → Option ℕ
-accepted (Ok count) = if count == 0 then None else Some count
-accepted (Err error) = accepted_of_kind (error_kind error)
+-- a write failed with this very error, or took no byte
+abbrev pub IsCause : (List ℕ → Result ℕ Error → Type 0) → Cause → Type 0
+IsCause may_write (Failed error) = FailsWith may_write error
+IsCause may_write TookNone = TakesNoByte may_write
+
+-- the writer took so many of the bytes, and not all; `old` and `new` are what it held and holds
+abbrev pub IsCutAt : ℕ → Option (List ℕ) → Option (List ℕ) → List ℕ → Type 0
+IsCutAt count old new bytes = (count < length bytes) × Appends old new (take count bytes)

@@ -4,63 +4,91 @@ ghost use Rattle.std.specs.Prelude.{option_copied};
 ghost use Rattle.std.specs.Io.{WritesAtMost};
 ghost use Rattle.std.specs.Io.KnownBytes.{Keeps, WriteAppends};
 ghost use Rattle.otel_otlp.specs.AppendFile as spec;
-ghost use Rattle.otel_otlp.specs.AppendFile.{initial, begins_line, after_write, AppendsLine};
+ghost use Rattle.otel_otlp.specs.AppendFile.{initial, begins_line, after_write, AppendsLine, UnderLock};
 
 use std::fs::{self, File, Files, OpenOptions};
 use std::io::{self, Read, Seek, SeekFrom, Write};
 use std::marker::Model;
 
-/// The calls that append to a file, whose bytes no contract of [`Files`] sees. Every [`Files`] has
-/// them.
+/// The calls that append to a file, whose bytes no contract of [`Files`] sees. Every [`Files`] that
+/// opens files of the system has them.
 ///
-/// The ghost member `ends` relates a path and the file's last byte, and `appends` a path, bytes and
-/// an answer. Code that is generic over this trait knows nothing of them: only a call shows an
-/// answer.
+/// The ghost member `locks` relates a path and the file that was opened there and locked, `ends` an
+/// open file and its last byte, and `appends` an open file, bytes and an answer. Code that is
+/// generic over this trait knows nothing of them: only a call shows an answer.
 pub trait AppendCalls {
     ghost use Rattle.std.specs.Prelude.{ℕ, List, Option, Result};
     ghost use Rattle.std.specs.declared.io.Error.{Error};
 
-    ghost ends: { List ℕ → Option ℕ → Type 0 };
+    /// An open file. Its lock ends when it is dropped.
+    type Locked: Drop;
 
-    ghost appends: { List ℕ → List ℕ → Result ℕ Error → Type 0 };
+    ghost locks: { List ℕ → Result Self.Locked Error → Type 0 };
 
-    /// Returns the last byte of the path's file. Returns `None` if the file is empty, missing, no
-    /// regular file, such as a pipe or a device, or can't be read.
-    fn last_byte(&self, path: &str) -> Option<u8>
-        ensures { ends path.now result };
+    ghost ends: { Self.Locked → Option ℕ → Type 0 };
 
-    /// Opens the file of the path, or creates it, and appends the bytes in one write of the system.
-    /// Returns how many it took.
+    ghost appends: { Self.Locked → List ℕ → Result ℕ Error → Type 0 };
+
+    /// Opens the file of the path to append to it, or creates it, and takes its exclusive advisory
+    /// lock. Waits while another open file holds one. A pipe or a device isn't locked, nor is a file
+    /// whose file system has no locks.
+    ///
+    /// # Errors
+    ///
+    /// The file's own error. No file is open.
+    fn lock(&self, path: &str) -> io::Result<Self::Locked>
+        ensures { locks path.now result };
+
+    /// Returns the last byte of the file. Returns `None` if the file is empty, no regular file, such
+    /// as a pipe or a device, or can't be read.
+    fn last_byte(&self, file: &Self::Locked) -> Option<u8>
+        ensures { ends file.now result };
+
+    /// Appends the bytes in one write of the system. Returns how many it took.
     ///
     /// # Errors
     ///
     /// The file's own error. Nothing was written.
-    fn append(&self, path: &str, bytes: &[u8]) -> io::Result<usize>
+    fn append(&self, file: &Self::Locked, bytes: &[u8]) -> io::Result<usize>
         ensures bound { WritesAtMost result bytes.now }
-        ensures answered { appends path.now bytes.now result };
+        ensures answered { appends file.now bytes.now result };
 }
 
-impl<R: Files> AppendCalls for R {
+impl<R: Files<File = File>> AppendCalls for R {
+    type Locked = File;
+
+    ghost locks = { λ _ _. Unit {0} };
+
     ghost ends = { λ _ _. Unit {0} };
 
     ghost appends = { λ _ _ _. Unit {0} };
 
-    fn last_byte(&self, path: &str) -> Option<u8> {
-        // To open a pipe would wait for its writer, and to read a device may take what is there.
-        if !fs::metadata(self, path).ok()?.is_file() {
-            return None;
+    fn lock(&self, path: &str) -> io::Result<File> {
+        let mut options = OpenOptions::new();
+        options.append(true).create(true);
+        // A pipe that is open to be read would wait for its own writer, and to read a device may
+        // take what is there.
+        if fs::metadata(self, path).is_ok_and(|it| !it.is_file()) {
+            return options.open(self, path);
         }
-        let mut file = File::open(self, path).ok()?;
+        let file = match options.read(true).open(self, path) {
+            Ok(file) => file,
+            Err(_) => options.read(false).open(self, path)?,
+        };
+        let _ = file.lock();
+        Ok(file)
+    }
+
+    fn last_byte(&self, file: &File) -> Option<u8> {
+        let mut file = file;
         file.seek(SeekFrom::End(-1)).ok()?;
         let mut last = [0];
         file.read_exact(&mut last).ok()?;
         Some(last[0])
     }
 
-    fn append(&self, path: &str, bytes: &[u8]) -> io::Result<usize> {
-        let mut options = OpenOptions::new();
-        options.append(true).create(true);
-        let mut file = options.open(self, path)?;
+    fn append(&self, file: &File, bytes: &[u8]) -> io::Result<usize> {
+        let mut file = file;
         file.write(bytes)
     }
 }
@@ -84,6 +112,9 @@ fn is_torn(last: Option<u8>) -> bool
 /// If the file's last line has no newline, since another program was killed or its disk was full, a
 /// newline is written before the next line: so the fragment is a line by itself. If the file can be
 /// written but not read, its end isn't seen, and lines are appended as they are.
+///
+/// A write locks the file (`flock`), so that the end that it sees isn't within the write of another
+/// process, and waits for each other lock.
 ///
 /// Contracts see the path, and whether the last line that was written here lacks its newline.
 pub struct AppendFile<R> {
@@ -129,23 +160,22 @@ impl<R> AppendFile<R> {
 }
 
 impl<R: AppendCalls> AppendFile<R> {
-    // Appends the bytes, after a newline if the file's last line lacks its own. Returns 0 if the
-    // newline wasn't taken.
-    fn append_line(&self, bytes: &[u8]) -> io::Result<usize>
+    // Appends the bytes to the open file, after a newline if its last line lacks its own. Returns 0
+    // if the newline wasn't taken.
+    fn append_line(&self, file: &R::Locked, bytes: &[u8]) -> io::Result<usize>
         ensures bound { WritesAtMost result bytes.now }
-        ensures appended { AppendsLine R.ends R.appends self.now.path bytes.now result }
+        ensures appended { AppendsLine R.ends R.appends bytes.now result file.now }
     {
-        let path = self.path.as_str();
-        if is_torn(self.files.last_byte(path)) && self.files.append(path, b"\n")? == 0 {
+        if is_torn(self.files.last_byte(file)) && self.files.append(file, b"\n")? == 0 {
             return Ok(0);
         }
-        self.files.append(path, bytes)
+        self.files.append(file, bytes)
     }
 }
 
 impl<R: AppendCalls> Write for AppendFile<R> {
-    /// Opens the file, and appends the bytes in one write of the system. Bytes that begin a line
-    /// are appended after a newline, if the file's last line lacks its own.
+    /// Opens and locks the file, and appends the bytes in one write of the system. Bytes that begin
+    /// a line are appended after a newline, if the file's last line lacks its own.
     ///
     /// # Errors
     ///
@@ -154,15 +184,17 @@ impl<R: AppendCalls> Write for AppendFile<R> {
         ensures bound { WritesAtMost result bytes.now }
         ensures bytes { WriteAppends None None result bytes.now }
         ensures line { begins_line self.old bytes.now ≡ true
-            → AppendsLine R.ends R.appends self.old.path bytes.now result }
+            → UnderLock R.locks self.old.path result
+            (AppendsLine R.ends R.appends bytes.now result) }
         ensures within { begins_line self.old bytes.now ≡ false
-            → R.appends self.old.path bytes.now result }
+            → UnderLock R.locks self.old.path result (λ file. R.appends file bytes.now result) }
         ensures after { self.new ≡ after_write self.old bytes.now result }
     {
         let begins_line = !self.is_within_line && is_torn(bytes.first().copied());
+        let file = self.files.lock(self.path.as_str())?;
         let count = match begins_line {
-            true => self.append_line(bytes)?,
-            false => self.files.append(self.path.as_str(), bytes)?,
+            true => self.append_line(&file, bytes)?,
+            false => self.files.append(&file, bytes)?,
         };
         if count > 0 {
             self.is_within_line = is_torn(bytes.get(count - 1).copied());

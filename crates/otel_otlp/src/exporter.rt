@@ -97,7 +97,7 @@ fn write_batch<W: WriterCalls, R: Grouped>(
         → lines.new ≡ lines.old }
     ensures open { IsErrOf result OTelSdkError.AlreadyShutdown → ⊥ }
     ensures failed { IfErr result (IsWritersError W.may_write) }
-    ensures says { IfErr result SaysOfLine }
+    ensures says { IfErr result (SaysOfLine W.may_write) }
     ensures empty { batch.now ≡ [] → IsOk result }
     ensures unflushed { FlushesNever W.flushed lines.old.writer lines.new.writer }
 {
@@ -164,8 +164,9 @@ impl<W: WriterCalls + Drop, R: Grouped> Exporter<R> for OtlpJsonExporter<W, R> {
     ///
     /// - `AlreadyShutdown` after [`Exporter::shutdown`]. Nothing is written.
     /// - `Memory` if out of memory. Nothing is written.
-    /// - `InternalFailure` if the writer didn't accept the pending newline or every byte of the
-    ///   object. The accepted bytes remain as a truncated line.
+    /// - `Io` with the writer's own error if it failed before it had accepted the pending newline
+    ///   and every byte of the object, and `InternalFailure` if it accepted no byte. The accepted
+    ///   bytes remain as a truncated line.
     fn export(&mut self, batch: &[R]) -> OTelSdkResult
         ensures ok { OnOk result (self.new.accepted ≡ self.old.accepted ++ batch.now ∷ []) }
         ensures err { OnErr result (self.new.accepted ≡ self.old.accepted) }
@@ -174,7 +175,7 @@ impl<W: WriterCalls + Drop, R: Grouped> Exporter<R> for OtlpJsonExporter<W, R> {
             → self.new ≡ self.old }
         ensures failed { self.old.is_shut_down ≡ false
             → IfErr result (IsWritersError W.may_write) }
-        ensures says { self.old.is_shut_down ≡ false → IfErr result SaysOfLine }
+        ensures says { self.old.is_shut_down ≡ false → IfErr result (SaysOfLine W.may_write) }
         ensures empty { self.old.is_shut_down ≡ false → batch.now ≡ [] → IsOk result }
         ensures line { OnOk result ((line : List ℕ)
             × IsLineOf R.form self.old.resource batch.now line
@@ -201,7 +202,9 @@ impl<W: WriterCalls + Drop, R: Grouped> Exporter<R> for OtlpJsonExporter<W, R> {
     /// # Errors
     ///
     /// - `AlreadyShutdown` after [`Exporter::shutdown`].
-    /// - `InternalFailure` if the writer failed. Its text is empty if out of memory.
+    /// - `Io` with the writer's own error if the write of the newline failed.
+    /// - `InternalFailure` if the writer didn't accept the newline, or wasn't flushed. Its text is
+    ///   empty if out of memory.
     fn force_flush(&mut self) -> OTelSdkResult
         ensures same { self.new.accepted ≡ self.old.accepted }
         ensures flushes { ForceFlushes W.contents W.may_write W.flushed
@@ -219,7 +222,9 @@ impl<W: WriterCalls + Drop, R: Grouped> Exporter<R> for OtlpJsonExporter<W, R> {
     /// # Errors
     ///
     /// - `AlreadyShutdown` on a second call.
-    /// - `InternalFailure` if the writer failed. Its text is empty if out of memory.
+    /// - `Io` with the writer's own error if the write of the newline failed.
+    /// - `InternalFailure` if the writer didn't accept the newline, or wasn't flushed. Its text is
+    ///   empty if out of memory.
     fn shutdown(&mut self) -> OTelSdkResult
         ensures down { self.new ≡ record self.old {
           lines = self.new.lines;

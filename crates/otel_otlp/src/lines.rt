@@ -1,12 +1,13 @@
 //! Writes lines to a writer. Each line is complete, or a fragment on a line by itself.
-ghost use Rattle.std.specs.Prelude.{◌≡◌, ◌<◌, ◌++◌, ◌∷◌, ℕ, List, [], length, true, false};
+ghost use Rattle.std.specs.Prelude.{◌≡◌, ◌++◌, ◌∷◌, ℕ, List, [], false};
 ghost use Rattle.std.specs.Prelude.{IsTrue, IsOk, OnOk, OnErr, IfErr, IsErrOf, alloc_error, ◌↔◌};
-ghost use Rattle.std.specs.Prelude.{string_bytes};
-ghost use Rattle.otel_sdk_base.specs.Writers.{FlushesNever, IsStuck, IsWritersError};
+ghost use Rattle.std.specs.Prelude.{codes, string_bytes};
+ghost use Rattle.otel_sdk_base.specs.Writers.{FlushesNever, IsWritersError};
 ghost use Rattle.otel_otlp.specs.Exporter.{Writes, Flushes, IsFlushed, IsCutOff};
-ghost use Rattle.otel_otlp.specs.Exporter.{Says, SaysOfLine, SaysOfFlush};
+ghost use Rattle.otel_otlp.specs.Exporter.{Says, Tells, SaysOfLine};
+ghost use Rattle.otel_otlp.specs.Written.{IsCause};
 
-use crate::written::write_bytes;
+use crate::written::{Cause, write_bytes};
 use otel_sdk_base::WriterCalls;
 use otel_sdk_base::error::{OTelSdkError, OTelSdkResult};
 use std::alloc::Global;
@@ -24,7 +25,7 @@ fn failure(alloc: Global, message: &str) -> OTelSdkError
 // Returns `Ok` if the writer was flushed, and otherwise that it failed.
 fn flush_result(alloc: Global, flushed: bool) -> OTelSdkResult
     ensures same { IsOk result ↔ IsTrue flushed }
-    ensures failure { IfErr result SaysOfFlush }
+    ensures failure { IfErr result (Says (codes "the writer wasn't flushed")) }
 {
     if flushed {
         return Ok(());
@@ -42,34 +43,74 @@ pub struct Lines<W> {
 }
 
 impl<W: WriterCalls> Lines<W> {
-    // Writes the pending newline, if there is one. Returns `true` if none is pending afterwards.
-    fn write_pending_newline(&mut self) -> bool
-        ensures written { IsTrue result → self.new.newline_is_pending ≡ false }
-        ensures stuck { result ≡ false → IsStuck W.may_write }
+    // Returns the writer's own error, or the message if it took no byte.
+    fn error_of(alloc: Global, cause: Cause, message: &str) -> OTelSdkError
+        requires { IsCause W.may_write cause }
+        ensures failed { IsWritersError W.may_write result }
+        ensures told { Tells W.may_write message.now result }
+    {
+        match cause {
+            Cause::Failed(error) => OTelSdkError::Io(error),
+            Cause::TookNone => failure(alloc, message),
+        }
+    }
+
+    // Writes the pending newline, if there is one. After `Ok` none is pending.
+    fn write_pending_newline(&mut self) -> Result<(), Cause>
+        ensures written { OnOk result (self.new.newline_is_pending ≡ false) }
+        ensures stuck { IfErr result (IsCause W.may_write) }
         ensures writes { Writes W.contents self.old self.new [] }
         ensures unflushed { FlushesNever W.flushed self.old.writer self.new.writer }
     {
-        if self.newline_is_pending && write_bytes(&mut self.writer, b"\n") == 1 {
-            self.newline_is_pending = false;
+        if !self.newline_is_pending {
+            return Ok(());
         }
-        !self.newline_is_pending
+        match write_bytes(&mut self.writer, b"\n") {
+            Ok(()) => {
+                self.newline_is_pending = false;
+                Ok(())
+            }
+            Err(cut) => Err(cut.cause),
+        }
     }
 
-    // Writes the line: in one call, if the writer takes all of it. Returns `true` if the writer
+    // Writes the line: in one call, if the writer takes all of it. Returns `Ok` if the writer
     // accepted every byte before its newline. A newline is pending from the first accepted byte
     // to the last.
-    fn write_object(&mut self, line: &str) -> bool
+    fn write_object(&mut self, line: &str) -> Result<(), Cause>
         requires { self.old.newline_is_pending ≡ false }
-        ensures whole { IsTrue result → (text : List ℕ) → line.now ≡ text ++ 10 ∷ []
-            → Writes W.contents self.old self.new line.now }
-        ensures cut { result ≡ false → (text : List ℕ) → line.now ≡ text ++ 10 ∷ []
-            → (cut : List ℕ) × IsCutOff text cut × Writes W.contents self.old self.new cut }
-        ensures stuck { result ≡ false → 0 < length line.now → IsStuck W.may_write }
+        ensures whole { OnOk result ((text : List ℕ) → line.now ≡ text ++ 10 ∷ []
+            → Writes W.contents self.old self.new line.now) }
+        ensures cut { OnErr result ((text : List ℕ) → line.now ≡ text ++ 10 ∷ []
+            → (cut : List ℕ) × IsCutOff text cut × Writes W.contents self.old self.new cut) }
+        ensures stuck { IfErr result (IsCause W.may_write) }
         ensures unflushed { FlushesNever W.flushed self.old.writer self.new.writer }
     {
-        let count = write_bytes(&mut self.writer, line.as_bytes());
-        self.newline_is_pending = count > 0 && count < line.len();
-        count > 0 && line.len() - count <= 1
+        match write_bytes(&mut self.writer, line.as_bytes()) {
+            Ok(()) => Ok(()),
+            Err(cut) => {
+                self.newline_is_pending = cut.count > 0;
+                if cut.count > 0 && line.len() - cut.count == 1 {
+                    return Ok(());
+                }
+                Err(cut.cause)
+            }
+        }
+    }
+
+    // Writes the pending newline, if there is one, and then the line, as `write_object`.
+    fn write_after_newline(&mut self, line: &str) -> Result<(), Cause>
+        ensures whole { OnOk result ((text : List ℕ) → line.now ≡ text ++ 10 ∷ []
+            → Writes W.contents self.old self.new line.now) }
+        ensures cut { OnErr result ((text : List ℕ) → line.now ≡ text ++ 10 ∷ []
+            → (cut : List ℕ) × IsCutOff text cut × Writes W.contents self.old self.new cut) }
+        ensures stuck { IfErr result (IsCause W.may_write) }
+        ensures unflushed { FlushesNever W.flushed self.old.writer self.new.writer }
+    {
+        match self.write_pending_newline() {
+            Ok(()) => self.write_object(line),
+            Err(cause) => Err(cause),
+        }
     }
 
     /// Writes the pending newline, if there is one, and then the text as a line. The line is
@@ -78,8 +119,9 @@ impl<W: WriterCalls> Lines<W> {
     /// # Errors
     ///
     /// - `Memory` if out of memory. Nothing is written.
-    /// - `InternalFailure` if the writer didn't accept the pending newline or every byte of the
-    ///   text. The accepted bytes remain as a truncated line.
+    /// - `Io` with the error of the write if one failed before every byte of the text was accepted,
+    ///   and `InternalFailure` if the writer accepted no byte. The accepted bytes remain as a
+    ///   truncated line.
     pub(crate) fn write_line(&mut self, alloc: Global, mut text: String) -> OTelSdkResult
         ensures ok { OnOk result
             (Writes W.contents self.old self.new (string_bytes text ++ 10 ∷ [])) }
@@ -89,28 +131,37 @@ impl<W: WriterCalls> Lines<W> {
             → self.new ≡ self.old }
         ensures open { IsErrOf result OTelSdkError.AlreadyShutdown → ⊥ }
         ensures failed { IfErr result (IsWritersError W.may_write) }
-        ensures says { IfErr result SaysOfLine }
+        ensures says { IfErr result (SaysOfLine W.may_write) }
         ensures unflushed { FlushesNever W.flushed self.old.writer self.new.writer }
     {
         text.push('\n')?;
-        if !self.write_pending_newline() || !self.write_object(text.as_str()) {
-            return Err(failure(alloc, "the writer didn't take the line"));
+        match self.write_after_newline(text.as_str()) {
+            Ok(()) => Ok(()),
+            Err(cause) => Err(Lines::<W>::error_of(
+                alloc,
+                cause,
+                "the writer didn't take the line",
+            )),
         }
-        Ok(())
     }
 
     /// Writes the pending newline, if there is one, and flushes the writer.
     ///
     /// # Errors
     ///
-    /// `InternalFailure` if the writer failed.
+    /// - `Io` with the error of the write if the one of the newline failed.
+    /// - `InternalFailure` if the writer didn't accept the newline, or wasn't flushed.
     pub(crate) fn flush(&mut self, alloc: Global) -> OTelSdkResult
         ensures flushes { Flushes W.contents result self.old self.new }
         ensures answered { IsFlushed W.may_write W.flushed result self.old self.new }
     {
-        if !self.write_pending_newline() {
-            return Err(failure(alloc, "the writer didn't take the newline"));
+        match self.write_pending_newline() {
+            Ok(()) => flush_result(alloc, self.writer.flush_all()),
+            Err(cause) => Err(Lines::<W>::error_of(
+                alloc,
+                cause,
+                "the writer didn't take the newline",
+            )),
         }
-        flush_result(alloc, self.writer.flush_all())
     }
 }

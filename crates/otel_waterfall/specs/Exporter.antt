@@ -1,12 +1,12 @@
 -- Contracts' view of an exporter that draws spans. Not in the Rust crates.
-use Rattle.std.specs.Prelude.{◌≡◌, ◌⊎◌, ℕ, Bool, true, false, List, [], take, codes}
+use Rattle.std.specs.Prelude.{◌≡◌, ◌⊎◌, ◌<◌, ℕ, Bool, true, false, List, [], length, take, codes}
 use Rattle.std.specs.Prelude.{string_bytes}
-use Rattle.std.specs.Prelude.{Option, Result, Err, is_ok, ⊤, alloc_error}
+use Rattle.std.specs.Prelude.{Option, Result, Ok, Err, is_ok, ⊤, alloc_error}
 use Rattle.std.specs.Prelude.{IsTrue, IsErrOf, IfErr}
 use Rattle.std.specs.Io.KnownBytes.{Appends, Keeps}
 use Rattle.std.specs.declared.io.Error.{Error}
 use Rattle.otel_sdk_base.specs.Export.{Calls}
-use Rattle.otel_sdk_base.specs.Writers.{FlushesOnce, IsStuck}
+use Rattle.otel_sdk_base.specs.Writers.{FlushesOnce, FailsWith, IsWritersError}
 use Rattle.otel_sdk_base.specs.declared.error.OTelSdkError.{OTelSdkError}
 use Rattle.otel_sdk_base.specs.declared.error.OTelSdkError.TheVariants as error
 use Rattle.otel_sdk_span.specs.SpanData.{SpanRecord}
@@ -36,10 +36,17 @@ SaysThatWriterFailed (error.InternalFailure message) =
     (string_bytes message ≡ codes "the writer failed") ⊎ (string_bytes message ≡ [])
 SaysThatWriterFailed other = ⊥
 
--- memory ran out, or a write got no further, and the error says which
-abbrev pub IsWritersError : (List ℕ → Result ℕ Error → Type 0) → OTelSdkError → Type 0
-IsWritersError may_write (error.Memory cause) = ⊤
-IsWritersError may_write other = IsStuck may_write × SaysThatWriterFailed other
+-- the error is the very one of a write that failed, or says that a write of one or more bytes took
+-- none
+abbrev pub TellsOfWrite : (List ℕ → Result ℕ Error → Type 0) → OTelSdkError → Type 0
+TellsOfWrite may_write (error.Io cause) = FailsWith may_write cause
+TellsOfWrite may_write other =
+    (bytes : List ℕ) × (0 < length bytes) × may_write bytes (Ok 0) × SaysThatWriterFailed other
+
+-- why a picture wasn't written, unless memory ran out
+abbrev pub SaysOfPicture : (List ℕ → Result ℕ Error → Type 0) → OTelSdkError → Type 0
+SaysOfPicture may_write (error.Memory cause) = ⊤
+SaysOfPicture may_write other = TellsOfWrite may_write other
 
 -- ---- calls
 
@@ -49,6 +56,7 @@ pub record RefusesBatch {W : Type 0} (may_write : List ℕ → Result ℕ Error 
     (told : OTelSdkError) (old new : Waterfall W) : Type 0 where
   pub refuses : RefusesIfShutDown (Err told) old new
   pub failed : old.is_shut_down ≡ false → IsWritersError may_write told
+  pub says : old.is_shut_down ≡ false → SaysOfPicture may_write told
   pub memory : told ≡ error.Memory alloc_error → new ≡ old
 
 -- the writer of an open exporter was flushed once, and got no bytes; an error says that it failed

@@ -1,14 +1,14 @@
 //! The exporter.
-ghost use Rattle.std.specs.Prelude.{◌≡◌, ◌≢◌, ◌≤◌, ◌<◌, ℕ, [], ◌∷◌, ◌++◌, length, take};
-ghost use Rattle.std.specs.Prelude.{false, true, None, Some, alloc_error, is_ok};
-ghost use Rattle.std.specs.Prelude.{IsTrue, IsOk, IsErrOf, IfErr, IfOk, IfSome, OnOk, OnErr};
+ghost use Rattle.std.specs.Prelude.{◌≡◌, ◌≤◌, ◌<◌, ℕ, [], ◌∷◌, ◌++◌, length, take};
+ghost use Rattle.std.specs.Prelude.{false, true, alloc_error, is_ok};
+ghost use Rattle.std.specs.Prelude.{IsOk, IsErrOf, IfErr, IfOk, OnOk, OnErr};
 ghost use Rattle.std.specs.Io.KnownBytes.{Appends, Keeps};
 ghost use Rattle.std.specs.String.{string_bytes};
-ghost use Rattle.otel_sdk_base.specs.Writers.{FlushesNever, FlushesOnce, IsStuck};
+ghost use Rattle.otel_sdk_base.specs.Writers.{FlushesNever, FlushesOnce, IsWritersError};
 ghost use Rattle.otel_waterfall.specs.Columns.{picture_width};
 ghost use Rattle.otel_waterfall.specs.Exporter.{AddsPicture, AddsPartOfPicture};
-ghost use Rattle.otel_waterfall.specs.Exporter.{IsWritersError, RefusesIfShutDown};
-ghost use Rattle.otel_waterfall.specs.Exporter.{SaysThatWriterFailed};
+ghost use Rattle.otel_waterfall.specs.Exporter.{RefusesIfShutDown, SaysOfPicture};
+ghost use Rattle.otel_waterfall.specs.Exporter.{SaysThatWriterFailed, TellsOfWrite};
 ghost use Rattle.otel_waterfall.specs.Picture.{IsPictureOf};
 
 use crate::columns::Style;
@@ -112,47 +112,64 @@ impl<W> WaterfallExporter<W> {
 }
 
 /// Writes some of the bytes. An interrupted write is tried again. Returns the number of bytes that
-/// the writer took, or `None` if it failed or took none.
-fn write_some<W: WriterCalls>(output: &mut W, bytes: &[u8]) -> Option<usize>
+/// the writer took, one or more.
+///
+/// # Errors
+///
+/// `Io` with the error of a write that failed, and `InternalFailure` if a write took no byte.
+fn write_some<W: WriterCalls>(
+    alloc: Global,
+    output: &mut W,
+    bytes: &[u8],
+) -> Result<usize, OTelSdkError>
     requires { 0 < length bytes.now }
-    ensures some { IfSome result (λ n. (n ≤ length bytes.now)
+    ensures some { IfOk result (λ n. (0 < n) × (n ≤ length bytes.now)
         × Appends (W.contents output.old) (W.contents output.new) (take n bytes.now)) }
-    ensures more { result ≢ Some 0 }
-    ensures none { result ≡ None → Keeps (W.contents output.old) (W.contents output.new) }
-    ensures stuck { result ≡ None → IsStuck W.may_write }
+    ensures none { OnErr result (Keeps (W.contents output.old) (W.contents output.new)) }
+    ensures failed { IfErr result (IsWritersError W.may_write) }
+    ensures says { IfErr result (TellsOfWrite W.may_write) }
     ensures unflushed { FlushesNever W.flushed output.old output.new }
 {
+    let mut interrupted = None;
     for _ in 0..u64::MAX {
         match output.write_some(bytes) {
-            Ok(0) => return None,
-            Ok(count) => return Some(count),
-            Err(error) => {
-                if error.kind() != ErrorKind::Interrupted {
-                    return None;
-                }
-            }
+            Ok(0) => return Err(writer_failed(alloc)),
+            Ok(count) => return Ok(count),
+            Err(error) => match error.kind() {
+                ErrorKind::Interrupted => interrupted = Some(error),
+                _ => return Err(OTelSdkError::Io(error)),
+            },
         }
     }
-    None
+    match interrupted {
+        Some(error) => Err(OTelSdkError::Io(error)),
+        None => Err(writer_failed(alloc)),
+    }
 }
 
-/// Writes all bytes. Returns whether the writer accepted them.
-fn write_all<W: WriterCalls>(output: &mut W, bytes: &[u8]) -> bool
-    ensures all { IsTrue result
-        → Appends (W.contents output.old) (W.contents output.new) bytes.now }
+/// Writes all bytes.
+///
+/// # Errors
+///
+/// `Io` with the error of a write that failed, and `InternalFailure` if a write took no byte. The
+/// writer may have taken the first bytes.
+fn write_all<W: WriterCalls>(alloc: Global, output: &mut W, bytes: &[u8]) -> OTelSdkResult
+    ensures all { OnOk result
+        (Appends (W.contents output.old) (W.contents output.new) bytes.now) }
     ensures cut { (n : ℕ) × Appends (W.contents output.old) (W.contents output.new)
         (take n bytes.now) }
-    ensures stuck { result ≡ false → IsStuck W.may_write }
+    ensures failed { IfErr result (IsWritersError W.may_write) }
+    ensures says { IfErr result (TellsOfWrite W.may_write) }
     ensures unflushed { FlushesNever W.flushed output.old output.new }
 {
     let mut rest = bytes;
     while !rest.is_empty() {
-        match write_some(output, rest) {
-            Some(count) => rest = &rest[count..],
-            None => return false,
+        match write_some(alloc, output, rest) {
+            Ok(count) => rest = &rest[count..],
+            Err(error) => return Err(error),
         }
     }
-    true
+    Ok(())
 }
 
 /// Returns the picture of a batch of spans.
@@ -190,6 +207,7 @@ fn write_picture<W: WriterCalls>(
         → output.new ≡ output.old }
     ensures open { IsErrOf result OTelSdkError.AlreadyShutdown → ⊥ }
     ensures failed { IfErr result (IsWritersError W.may_write) }
+    ensures says { IfErr result (SaysOfPicture W.may_write) }
     ensures empty { batch.now ≡ [] → IsOk result }
     ensures unflushed { FlushesNever W.flushed output.old output.new }
 {
@@ -197,10 +215,7 @@ fn write_picture<W: WriterCalls>(
         return Ok(());
     }
     let text = picture_of(alloc, style, batch)?;
-    if !write_all(output, text.as_bytes()) {
-        return Err(writer_failed(alloc));
-    }
-    Ok(())
+    write_all(alloc, output, text.as_bytes())
 }
 
 /// Flushes the writer.
@@ -233,8 +248,8 @@ impl<W: WriterCalls + Drop> Exporter<SpanData> for WaterfallExporter<W> {
     ///
     /// - `AlreadyShutdown` after [`Exporter::shutdown`], and `Memory` if out of memory. Nothing is
     ///   written then.
-    /// - `InternalFailure` if the writer failed. It may have written a part of the picture. The
-    ///   text is empty if out of memory.
+    /// - `Io` with the writer's own error if a write failed, and `InternalFailure` if it took no
+    ///   byte, with an empty text if out of memory. It may have taken a part of the picture.
     fn export(&mut self, batch: &[SpanData]) -> OTelSdkResult
         ensures ok { OnOk result (self.new.accepted ≡ self.old.accepted ++ batch.now ∷ []) }
         ensures err { OnErr result (self.new.accepted ≡ self.old.accepted) }
@@ -247,6 +262,8 @@ impl<W: WriterCalls + Drop> Exporter<SpanData> for WaterfallExporter<W> {
             (W.contents self.old.output) (W.contents self.new.output)) }
         ensures failed { self.old.is_shut_down ≡ false
             → IfErr result (IsWritersError W.may_write) }
+        ensures says { self.old.is_shut_down ≡ false
+            → IfErr result (SaysOfPicture W.may_write) }
         ensures empty { self.old.is_shut_down ≡ false → batch.now ≡ [] → IsOk result }
         ensures unflushed { FlushesNever W.flushed self.old.output self.new.output }
         ensures nothing { batch.now ≡ [] → OnOk result

@@ -99,8 +99,9 @@ impl HttpClient for Dial {
 
     fn send_bytes(&mut self, request: &Request<Vec<u8>>) -> Result<Response<Vec<u8>>, HttpError> {
         self.sent = self.sent.and_one(request);
-        let Ok(stream) = TcpStream::connect(&self.rt, self.address.as_str()) else {
-            return Err(HttpError::Unreachable);
+        let stream = match TcpStream::connect(&self.rt, self.address.as_str()) {
+            Ok(stream) => stream,
+            Err(error) => return Err(HttpError::Io(error)),
         };
         StreamClient::new(self.rt.alloc(), self.keys, &stream, &stream).send_bytes(request)
     }

@@ -3,14 +3,21 @@ ghost use Rattle.std.specs.Prelude.{◌≡◌, [], ◌∷◌, ◌++◌};
 
 use http::{Request, Response};
 use std::alloc::AllocError;
+use std::io;
 use thiserror::Error;
 
 /// The reason why no response came.
 #[derive(Debug, Drop, Error)]
 pub enum HttpError {
-    /// No response came. Whether the server got the request isn't known.
+    /// No response came, and no error says why. Whether the server got the request isn't known.
     #[error("no response came")]
     Unreachable,
+    /// A connection, a read or a write failed. Whether the server got the request isn't known.
+    #[error("no response came: {0}")]
+    Io(io::Error),
+    /// The file of this path, such as a named pipe, couldn't be opened.
+    #[error("no response came: {0}: {1}")]
+    Unopened(String, io::Error),
     /// The received bytes are no HTTP response.
     #[error("the response isn't HTTP")]
     Malformed,
@@ -40,8 +47,8 @@ pub trait HttpClient: Drop {
     ///
     /// # Errors
     ///
-    /// - `Unreachable` if no response came, and `Malformed` if the received bytes are no response.
-    ///   The server may have got the request.
+    /// - `Io`, `Unopened` or `Unreachable` if no response came, and `Malformed` if the received
+    ///   bytes are no response. The server may have got the request.
     /// - `Memory` if out of memory. The server may have got the request.
     fn send_bytes(&mut self, request: &Request<Vec<u8>>) -> Result<Response<Vec<u8>>, HttpError>
         ensures sends { sent self.new ≡ sent self.old ++ request.now ∷ [] }

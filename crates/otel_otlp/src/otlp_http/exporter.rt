@@ -254,7 +254,7 @@ impl<C: HttpClient, R: Signal, S: RandomSource + Drop, K: ClockCalls> OtlpHttpEx
     {
         let answer = self.link.post(self.alloc, self.outbox.first().body());
         let now = self.pause.now_after(&answer);
-        let fate = fate_of(self.alloc, &answer, R::rejected_name(), now / 1_000_000_000);
+        let fate = fate_of(self.alloc, answer, R::rejected_name(), now / 1_000_000_000);
         (now, fate)
     }
 
@@ -352,8 +352,8 @@ impl<C: HttpClient, R: Signal, S: RandomSource + Drop, K: ClockCalls> Exporter<R
     /// Nothing of the batch is sent.
     ///
     /// - `AlreadyShutdown` after [`Exporter::shutdown`].
-    /// - `InternalFailure` if an earlier part still waits. The text names the status and the wait
-    ///   in seconds; it is empty if out of memory.
+    /// - `InternalFailure` if an earlier part still waits. The text names the status, or why no
+    ///   response came, and the wait in seconds; it is empty if out of memory.
     /// - `Memory` if out of memory.
     fn export(&mut self, batch: &[R]) -> OTelSdkResult
         ensures ok { OnOk result (self.new.accepted ≡ self.old.accepted ++ batch.now ∷ []) }
@@ -379,8 +379,9 @@ impl<C: HttpClient, R: Signal, S: RandomSource + Drop, K: ClockCalls> Exporter<R
     /// # Errors
     ///
     /// - `AlreadyShutdown` after [`Exporter::shutdown`].
-    /// - `InternalFailure` if a part still waits. The text names the status and the wait in
-    ///   seconds; it is empty if out of memory. Before the moment of the next try nothing is sent.
+    /// - `InternalFailure` if a part still waits. The text names the status, or why no response
+    ///   came, and the wait in seconds; it is empty if out of memory. Before the moment of the next
+    ///   try nothing is sent.
     fn force_flush(&mut self) -> OTelSdkResult
         ensures same { self.new.accepted ≡ self.old.accepted }
         ensures flushes { Flushes C.sent C.answers K.shows R.rejected_member

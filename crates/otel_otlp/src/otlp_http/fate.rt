@@ -1,6 +1,8 @@
 //! The meaning of a collector's answer for the request.
 ghost use Rattle.std.specs.Prelude.{◌≡◌, IfSome, MatchOption};
-ghost use Rattle.otel_otlp.specs.HttpFate.{IsWaitOf, IsAskedWait, IsAgain, IsFate};
+ghost use Rattle.http.specs.Response.{head_of};
+ghost use Rattle.otel_otlp.specs.HttpFate.{IsWaitOf, IsAskedWait, IsAgain, IsFate, IsFateOf};
+ghost use Rattle.otel_otlp.specs.HttpStatus.{class_of};
 
 use crate::otlp_http::client::HttpError;
 use crate::otlp_http::response::{Partial, message_of, read_partial};
@@ -8,11 +10,20 @@ use crate::otlp_http::status::{StatusClass, class_of, wait_of};
 use http::{HeaderValue, Response};
 use std::alloc::{AllocError, Global};
 
+/// Why a request is to be sent again.
+#[derive(Debug, Drop)]
+pub enum Reason {
+    /// The collector has answered with this status.
+    Answered(u16),
+    /// No response came, for this reason.
+    NoResponse(HttpError),
+}
+
 /// A request that is to be sent again.
-#[derive(Clone, Copy, Debug)]
+#[derive(Debug, Drop)]
 pub struct Refusal {
-    /// The status, if the collector has answered.
-    pub status: Option<u16>,
+    /// Why.
+    pub reason: Reason,
     /// The wait in seconds that the collector asked for.
     pub wait: Option<u64>,
 }
@@ -55,8 +66,20 @@ fn refusal_of(response: &Response<Vec<u8>>, now: u64) -> Refusal
     ensures { IsAgain now response.now result }
 {
     Refusal {
-        status: Some(response.status().as_u16()),
+        reason: Reason::Answered(response.status().as_u16()),
         wait: asked_wait(response, now),
+    }
+}
+
+/// Returns the meaning of the response at this second since 1970. The name is that of the member
+/// with the number of rejected items.
+fn fate_of_response(alloc: Global, response: &Response<Vec<u8>>, name: &str, now: u64) -> Fate
+    ensures { IsFateOf name.now now response.now (class_of (head_of response.now).status) result }
+{
+    match class_of(response.status()) {
+        StatusClass::Taken => Fate::Taken(read_partial(alloc, response.body().as_slice(), name)),
+        StatusClass::Again => Fate::Stays(refusal_of(response, now)),
+        StatusClass::Never => Fate::GivenUp(message_of(alloc, response.body().as_slice())),
     }
 }
 
@@ -64,21 +87,17 @@ fn refusal_of(response: &Response<Vec<u8>>, now: u64) -> Refusal
 /// the number of rejected items.
 pub(crate) fn fate_of(
     alloc: Global,
-    answer: &Result<Response<Vec<u8>>, HttpError>,
+    answer: Result<Response<Vec<u8>>, HttpError>,
     name: &str,
     now: u64,
 ) -> Fate
-    ensures { IsFate name.now now answer.now result }
+    ensures { IsFate name.now now answer result }
 {
-    let Ok(response) = answer else {
-        return Fate::Stays(Refusal {
-            status: None,
+    match answer {
+        Ok(response) => fate_of_response(alloc, &response, name, now),
+        Err(error) => Fate::Stays(Refusal {
+            reason: Reason::NoResponse(error),
             wait: None,
-        });
-    };
-    match class_of(response.status()) {
-        StatusClass::Taken => Fate::Taken(read_partial(alloc, response.body().as_slice(), name)),
-        StatusClass::Again => Fate::Stays(refusal_of(response, now)),
-        StatusClass::Never => Fate::GivenUp(message_of(alloc, response.body().as_slice())),
+        }),
     }
 }

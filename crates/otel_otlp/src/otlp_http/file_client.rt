@@ -1,5 +1,5 @@
 //! A client over two files, which are opened anew for each request.
-ghost use Rattle.std.specs.Prelude.{◌≡◌, [], ◌∷◌, ◌++◌, IfOk, IfErr, Some, codes, string_bytes};
+ghost use Rattle.std.specs.Prelude.{◌≡◌, [], ◌∷◌, ◌++◌, IfOk, IfErr, Ok, codes, string_bytes};
 ghost use Rattle.http.specs.Request.{head_of, body_of};
 ghost use Rattle.otel_otlp.specs.FileClient.{initial, file_in, IsAnswered, Reads};
 ghost use Rattle.otel_otlp.specs.FileClient.{IsUnopened, IsUnanswered};
@@ -101,26 +101,28 @@ impl<R: FileCalls + Drop> FileClient<R> {
     // Opens the folder's file `request` to write to it.
     fn open_request(&self) -> Result<R::Stream, HttpError>
         ensures ok { IfOk result (λ file.
-            R.outputs (file_in self.now.folder (codes "request")) (Some file)) }
+            R.outputs (file_in self.now.folder (codes "request")) (Ok file)) }
         ensures err { IfErr result (IsUnopened R.outputs self.now.folder (codes "request")) }
     {
         let path = self.path("request").map_err(HttpError::Memory)?;
-        self.files
-            .open_output(path.as_str())
-            .ok_or(HttpError::Unreachable)
+        match self.files.open_output(path.as_str()) {
+            Ok(file) => Ok(file),
+            Err(error) => Err(HttpError::Unopened(path, error)),
+        }
     }
 
     // Opens the folder's file `response` to read it, once `output` is open.
     fn open_response(&self, output: &R::Stream) -> Result<R::Stream, HttpError>
         ensures ok { IfOk result (λ file.
-            R.inputs output.now (file_in self.now.folder (codes "response")) (Some file)) }
+            R.inputs output.now (file_in self.now.folder (codes "response")) (Ok file)) }
         ensures err { IfErr result
             (IsUnopened (R.inputs output.now) self.now.folder (codes "response")) }
     {
         let path = self.path("response").map_err(HttpError::Memory)?;
-        self.files
-            .open_input(path.as_str(), output)
-            .ok_or(HttpError::Unreachable)
+        match self.files.open_input(path.as_str(), output) {
+            Ok(file) => Ok(file),
+            Err(error) => Err(HttpError::Unopened(path, error)),
+        }
     }
 }
 
@@ -135,7 +137,9 @@ where
     ///
     /// # Errors
     ///
-    /// - `Unreachable` if a file can't be opened, written or read, or if the response is empty.
+    /// - `Unopened` with the path and the file's own error if a file can't be opened.
+    /// - `Io` with the file's own error if it can't be written or read, and `Unreachable` if it
+    ///   takes no byte, or if the response is empty.
     /// - `Malformed` if the response isn't HTTP, as for a [`StreamClient`].
     /// - `Memory` if out of memory.
     fn send_bytes(&mut self, request: &Request<Vec<u8>>) -> Result<Response<Vec<u8>>, HttpError>

@@ -1,12 +1,12 @@
 //! When a refused request may be sent again.
 ghost use Rattle.std.specs.Prelude.{◌≡◌, ◌≤◌, ◌↔◌, Some, None, IsTrue, IfOk, string_bytes};
 ghost use Rattle.otel_otlp.specs.HttpPause as spec;
-ghost use Rattle.otel_otlp.specs.HttpPause.{IsRefused, NamesWait};
+ghost use Rattle.otel_otlp.specs.HttpPause.{IsRefused, IsReasonText, IsRefusalText, NamesWait};
 
 use crate::otlp_http::backoff::{Backoff, drawn_factor};
 use crate::otlp_http::client::HttpError;
 use crate::otlp_http::clock_calls::ClockCalls;
-use crate::otlp_http::fate::Refusal;
+use crate::otlp_http::fate::{Reason, Refusal};
 use http::Response;
 use itoa::Buffer;
 use otel_sdk_base::Accepted;
@@ -24,7 +24,7 @@ const SECOND: u64 = 1_000_000_000;
 pub struct Pause<S, K> {
     backoff: Backoff,
     not_before: u64,
-    status: Option<u16>,
+    reason: Option<Reason>,
     source: S,
     clock: K,
     shown: Accepted<u64>,
@@ -39,7 +39,7 @@ impl<S, K> Model for Pause<S, K> {
     ghost view = { λ p. record {
       delay = p.backoff;
       not_before = p.not_before;
-      status = p.status;
+      reason = p.reason;
       shown = items_of p.shown.batches;
     } };
 }
@@ -52,19 +52,33 @@ fn seconds_left(now: u64, moment: u64) -> u64
     left / SECOND + u64::from(left % SECOND != 0)
 }
 
-/// Returns the text of a refusal.
-fn refusal_text(alloc: Global, status: Option<u16>, seconds: u64) -> Result<String, AllocError>
-    ensures { IfOk result (λ text. string_bytes text ≡ spec.refusal_text status seconds) }
+/// Returns the text of the status.
+fn answered_text(alloc: Global, status: u16) -> Result<String, AllocError>
+    ensures { IfOk result (λ text. string_bytes text ≡ spec.answered_text status) }
 {
     let mut digits = Buffer::new();
-    let mut text = String::new(alloc);
-    match status {
-        Some(status) => {
-            text.push_str("the collector answered ")?;
-            text.push_str(digits.format(status))?;
-        }
-        None => text.push_str("no response came")?,
+    let mut text = String::from_str(alloc, "the collector answered ")?;
+    text.push_str(digits.format(status))?;
+    Ok(text)
+}
+
+/// Returns the text of the reason.
+fn reason_text(alloc: Global, reason: &Option<Reason>) -> Result<String, AllocError>
+    ensures { IfOk result (λ text. IsReasonText reason.now (string_bytes text)) }
+{
+    match reason {
+        Some(Reason::Answered(status)) => answered_text(alloc, *status),
+        Some(Reason::NoResponse(error)) => error.to_string(alloc),
+        None => String::from_str(alloc, "no response came"),
     }
+}
+
+/// Returns the text of a refusal.
+fn refusal_text(alloc: Global, reason: &Option<Reason>, seconds: u64) -> Result<String, AllocError>
+    ensures { IfOk result (λ text. IsRefusalText reason.now seconds (string_bytes text)) }
+{
+    let mut digits = Buffer::new();
+    let mut text = reason_text(alloc, reason)?;
     text.push_str("; to be sent again in ")?;
     text.push_str(digits.format(seconds))?;
     text.push_str(" s")?;
@@ -79,7 +93,7 @@ impl<S: RandomSource, K: ClockCalls> Pause<S, K> {
         Pause {
             backoff: Backoff::new(),
             not_before: 0,
-            status: None,
+            reason: None,
             source,
             clock,
             shown: Accepted::new(),
@@ -126,7 +140,7 @@ impl<S: RandomSource, K: ClockCalls> Pause<S, K> {
     {
         self.backoff.accepted();
         self.not_before = 0;
-        self.status = None;
+        self.reason = None;
     }
 
     // Counts a refusal at this moment, with this factor in thousandths.
@@ -135,7 +149,7 @@ impl<S: RandomSource, K: ClockCalls> Pause<S, K> {
     {
         let wait = self.backoff.refused(factor, refusal.wait);
         self.not_before = now.saturating_add(wait.saturating_mul(1_000_000));
-        self.status = refusal.status;
+        self.reason = Some(refusal.reason);
     }
 
     /// Counts a refusal at this moment.
@@ -150,7 +164,7 @@ impl<S: RandomSource, K: ClockCalls> Pause<S, K> {
     pub(crate) fn error(&self, alloc: Global, now: u64) -> OTelSdkError
         ensures { NamesWait now self.now result }
     {
-        match refusal_text(alloc, self.status, seconds_left(now, self.not_before)) {
+        match refusal_text(alloc, &self.reason, seconds_left(now, self.not_before)) {
             Ok(text) => OTelSdkError::InternalFailure(text),
             Err(_) => OTelSdkError::InternalFailure(String::new(alloc)),
         }

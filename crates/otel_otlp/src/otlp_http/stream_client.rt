@@ -9,7 +9,7 @@ ghost use Rattle.http1.specs.declared.conn.Reading.TheVariants as Reading;
 ghost use Rattle.otel_sdk_base.specs.Writers.{FlushesOnce};
 ghost use Rattle.otel_otlp.specs.StreamClient.{initial, request_text, asking, IsRequest};
 ghost use Rattle.otel_otlp.specs.StreamClient.{IsWritable, ReadsAnswer, IsWriteError, Fails};
-ghost use Rattle.otel_otlp.specs.StreamClient.{IsNoAnswer};
+ghost use Rattle.otel_otlp.specs.StreamClient.{IsNoAnswer, IsUnsent};
 
 mod request;
 mod source;
@@ -18,7 +18,7 @@ use crate::otlp_http::client::{HttpClient, HttpError};
 use crate::otlp_http::reader_calls::ReaderCalls;
 use crate::otlp_http::stream_client::request::write_request;
 use crate::otlp_http::stream_client::source::Source;
-use crate::written::write_bytes;
+use crate::written::{Cause, write_bytes};
 use bytes::BytesMut;
 use http::{Request, Response};
 use http1::{Client, Limits};
@@ -130,6 +130,26 @@ impl<R, W> StreamClient<R, W> {
     }
 }
 
+// Writes the text, and flushes the writer.
+fn send<W: WriterCalls>(writer: &mut W, text: &[u8]) -> Result<(), HttpError>
+    ensures part { (count : ℕ) × Appends (W.contents writer.old) (W.contents writer.new)
+        (take count text.now) }
+    ensures whole { OnOk result (Appends (W.contents writer.old) (W.contents writer.new) text.now) }
+    ensures flushed { OnOk result (FlushesOnce W.flushed true writer.old writer.new) }
+    ensures failed { IfErr result (IsUnsent W.may_write W.flushed writer.old writer.new) }
+{
+    if let Err(cut) = write_bytes(writer, text) {
+        return match cut.cause {
+            Cause::Failed(error) => Err(HttpError::Io(error)),
+            Cause::TookNone => Err(HttpError::Unreachable),
+        };
+    }
+    match writer.flush_all() {
+        true => Ok(()),
+        false => Err(HttpError::Unreachable),
+    }
+}
+
 // Writes the request, and flushes the writer. Returns the connection, which waits for the response.
 fn write<W: WriterCalls>(
     alloc: Global,
@@ -153,10 +173,10 @@ fn write<W: WriterCalls>(
 {
     let mut connection = Client::new(LIMITS);
     let text = write_request(alloc, &mut connection, request)?;
-    if write_bytes(writer, &text) < text.len() || !writer.flush_all() {
-        return Err(HttpError::Unreachable);
+    match send(writer, &text) {
+        Ok(()) => Ok(connection),
+        Err(error) => Err(error),
     }
-    Ok(connection)
 }
 
 // Returns `true` if another request can be sent: the connection is kept, and no byte is unread.
@@ -175,8 +195,9 @@ impl<R: ReaderCalls + Drop, W: WriterCalls + Drop> HttpClient for StreamClient<R
     ///
     /// After each, no other request is sent.
     ///
+    /// - `Io` with the error of the writer or the reader if one failed.
     /// - `Unreachable` if no other request can be sent or this one can't be written, if the writer
-    ///   or the reader failed, or if the reader ended before the response.
+    ///   took no byte or wasn't flushed, or if the reader ended before the response.
     /// - `Malformed` if the bytes are no response: also if its head has more than 64 KiB or 128
     ///   headers, its body more than 4 MiB, or the reader ended in it.
     /// - `Memory` if out of memory.

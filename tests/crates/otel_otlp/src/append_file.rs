@@ -2,10 +2,12 @@
 use crate::batches::{root, scope};
 use crate::pipes::folder;
 use crate::records::observed;
-use otel_otlp::{AppendFile, OtlpJsonLogExporter, OtlpJsonSpanExporter, logs_text, traces_text};
+use otel_otlp::{
+    AppendCalls, AppendFile, OtlpJsonLogExporter, OtlpJsonSpanExporter, logs_text, traces_text,
+};
 use otel_sdk::resource::Resource;
 use otel_sdk_base::Exporter;
-use std::fs;
+use std::fs::{self, File, TryLockError};
 use std::io::Write;
 use std::test::Fail;
 
@@ -76,6 +78,25 @@ fn each_line_looks_at_the_end_anew(rt: HostRuntime) -> Result<(), Fail> {
     }
     let text = fs::read_to_string(&rt, path.as_str())?;
     assert_eq!(rt; text.as_str(), "a\n{\nb\n}\n");
+    Ok(fs::remove_dir_all(&rt, folder.as_str())?)
+}
+
+/// The lock that a write takes keeps each other one out, and ends with the write.
+#[test]
+fn a_file_is_locked_while_it_is_open(rt: HostRuntime) -> Result<(), Fail> {
+    let folder = folder(rt)?;
+    let path = format!(in rt.alloc(); "{folder}/lines")?;
+    let ours = rt.lock(path.as_str())?;
+    let other = File::open(&rt, path.as_str())?;
+    assert!(rt; matches!(other.try_lock(), Err(TryLockError::WouldBlock)));
+    assert_eq!(rt; rt.last_byte(&ours), None);
+    assert_eq!(rt; rt.append(&ours, b"{")?, 1);
+    assert_eq!(rt; rt.last_byte(&ours), Some(b'{'));
+    drop(ours);
+    assert!(rt; other.try_lock().is_ok());
+    other.unlock()?;
+    assert_eq!(rt; AppendFile::new(rt, path).write(b"one\n")?, 4);
+    assert!(rt; other.try_lock().is_ok());
     Ok(fs::remove_dir_all(&rt, folder.as_str())?)
 }
 

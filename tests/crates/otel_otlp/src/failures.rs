@@ -1,10 +1,12 @@
 //! A writer that fails at each write in turn. After later flushes each span and each log record is
-//! exported once.
+//! exported once. An error tells why the writer failed.
 use crate::batches::{root, scope};
 use crate::records::observed;
 use otel_otlp::{OtlpJsonLogExporter, OtlpJsonSpanExporter};
+use otel_sdk::error::OTelSdkError;
 use otel_sdk::logs::{BatchConfigBuilder as LogConfigBuilder, BatchLogProcessor, LogProcessor};
 use otel_sdk::trace::{BatchConfigBuilder, BatchSpanProcessor, SpanProcessor};
+use otel_sdk_base::Exporter;
 use serde_json::Value;
 use std::alloc::Global;
 use std::io;
@@ -177,5 +179,73 @@ fn each_log_record_is_exported_once(rt: HostRuntime) -> Result<(), Fail> {
         }
     }
     assert!(rt; all_cut > 4, "{all_cut} lines cut off");
+    Ok(())
+}
+
+/// A writer whose writes fail with an error of the system, or take no byte.
+#[derive(Drop)]
+struct Refusing {
+    code: Option<i32>,
+}
+
+impl Write for Refusing {
+    fn write(&mut self, _bytes: &[u8]) -> io::Result<usize> {
+        match self.code {
+            Some(code) => Err(io::Error::from_raw_os_error(code)),
+            None => Ok(0),
+        }
+    }
+
+    fn flush(&mut self) -> io::Result<()> {
+        Ok(())
+    }
+}
+
+/// The numbers of errors of Linux, and how they print. Each is the writer's own, also the one of a
+/// system without memory.
+const REASONS: [(i32, &'static str); 3] = [
+    (28, "No space left on device (os error 28)"),
+    (13, "Permission denied (os error 13)"),
+    (12, "Cannot allocate memory (os error 12)"),
+];
+
+#[test]
+fn an_error_is_the_writers(rt: HostRuntime) -> Result<(), Fail> {
+    let alloc = rt.alloc();
+    let span = [root(alloc, 1, scope(alloc, "s")?)?];
+    let record = [observed(alloc, 5, scope(alloc, "s")?)];
+    for (code, text) in REASONS {
+        let writer = || Refusing { code: Some(code) };
+        let mut spans = OtlpJsonSpanExporter::new(alloc, writer())?;
+        let mut logs = OtlpJsonLogExporter::new(alloc, writer())?.with_pending_newline();
+        for answer in [
+            spans.export(&span),
+            logs.export(&record),
+            logs.force_flush(),
+        ] {
+            let Err(OTelSdkError::Io(error)) = answer else {
+                return Err(Fail::from(text));
+            };
+            assert_eq!(rt; error.raw_os_error(), Some(code));
+            assert_eq!(rt;
+                format!(in alloc; "{}", OTelSdkError::Io(error))?.as_str(),
+                text
+            );
+        }
+    }
+    Ok(())
+}
+
+#[test]
+fn a_writer_that_takes_no_byte_is_named(rt: HostRuntime) -> Result<(), Fail> {
+    let alloc = rt.alloc();
+    let span = [root(alloc, 1, scope(alloc, "s")?)?];
+    let mut spans = OtlpJsonSpanExporter::new(alloc, Refusing { code: None })?;
+    let error = spans.export(&span).err().ok_or("no error")?;
+    let text = format!(in alloc; "{error}")?;
+    assert_eq!(rt;
+        text.as_str(),
+        "Operation failed: the writer didn't take the line"
+    );
     Ok(())
 }

@@ -55,7 +55,7 @@ fn a_line_of_records_that_was_cut_off_stands_alone(rt: HostRuntime) -> Result<()
     let line = object(alloc)?;
     let mut exporter = exporter(alloc, 60, 1)?;
     let refused = exporter.export(&batch(alloc)?);
-    assert!(rt; matches!(refused, Err(OTelSdkError::InternalFailure(_))));
+    assert!(rt; matches!(refused, Err(OTelSdkError::Io(_))));
     assert!(rt; exporter.export(&batch(alloc)?).is_ok());
     let mut wanted = String::from_str(alloc, line.as_str().get(0..60).ok_or("short")?)?;
     wanted.push_str("\n")?;

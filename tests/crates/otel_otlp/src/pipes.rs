@@ -99,6 +99,13 @@ fn without_pipes_a_batch_stays(rt: HostRuntime) -> Result<(), Fail> {
     batch.push(root(alloc, 1, scope(alloc, "s")?)?)?;
     exporter.export(&batch)?;
     assert_eq!(rt; exporter.waiting(), 1);
+    let error = exporter.shutdown().err().ok_or("no error")?;
+    let wanted = format!(in alloc;
+        "Operation failed: no response came: {folder}/request: \
+        No such file or directory (os error 2); to be sent again in "
+    )?;
+    let text = format!(in alloc; "{error}")?;
+    assert!(rt; text.as_str().starts_with(wanted.as_str()), "{text}");
     fs::remove_dir_all(&rt, folder.as_str())?;
     Ok(())
 }

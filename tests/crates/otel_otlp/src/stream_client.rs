@@ -10,6 +10,7 @@ use http::{Request, Response};
 use otel_otlp::{HttpClient, HttpError, StreamClient};
 use std::alloc::Global;
 use std::hash::RandomState;
+use std::io::ErrorKind;
 use std::process::Abort;
 use std::random::RandomSource;
 use std::test::Fail;
@@ -122,6 +123,16 @@ const SENT: &'static [u8] =
 fn kind_of(error: &HttpError) -> &'static str {
     match error {
         HttpError::Unreachable => "unreachable",
+        HttpError::Io(error) => match error.kind() {
+            ErrorKind::BrokenPipe => "broken pipe",
+            ErrorKind::ConnectionReset => "reset",
+            _ => "io",
+        },
+        HttpError::Unopened(path, error) => match error.kind() {
+            ErrorKind::NotFound if path.as_str().ends_with("/request") => "no request",
+            ErrorKind::NotFound if path.as_str().ends_with("/response") => "no response",
+            _ => "unopened",
+        },
         HttpError::Malformed => "malformed",
         HttpError::Memory(_) => "memory",
     }
@@ -198,7 +209,7 @@ fn no_answer_that_is_cut_off_is_read(rt: HostRuntime) -> Result<(), Fail> {
             };
             check(alloc, &rt, given(alloc, &text[..place])?, &wanted)?;
             let failing = given(alloc, text)?.failing_at(place);
-            check(alloc, &rt, failing, &Err("unreachable"))?;
+            check(alloc, &rt, failing, &Err("reset"))?;
         }
     }
     Ok(())
@@ -210,7 +221,7 @@ fn a_reader_that_fails_ends_no_body(rt: HostRuntime) -> Result<(), Fail> {
     let text = "HTTP/1.1 200 OK\r\n\r\n{}";
     for place in 0..text.len() + 1 {
         let failing = given(alloc, text)?.failing_at(place);
-        check(alloc, &rt, failing, &Err("unreachable"))?;
+        check(alloc, &rt, failing, &Err("reset"))?;
     }
     Ok(())
 }

@@ -33,7 +33,7 @@ struct Full;
 
 impl Write for Full {
     fn write(&mut self, _buf: &[u8]) -> io::Result<usize> {
-        Err(ErrorKind::StorageFull.into())
+        Err(io::Error::from_raw_os_error(28))
     }
 
     fn flush(&mut self) -> io::Result<()> {
@@ -116,7 +116,11 @@ fn a_full_disk_behind_a_buffer(rt: HostRuntime) -> Result<(), Fail> {
     let alloc = rt.alloc();
     let batch = [span(alloc, 7, (1, 0), "a", 5, 5)?];
     let answer = WaterfallExporter::new(alloc, Full).export(&batch);
-    assert!(rt; says_that_the_writer_failed(&answer));
+    let Err(OTelSdkError::Io(error)) = answer else {
+        return Err(Fail::from("another answer"));
+    };
+    let text = format!(in alloc; "{}", OTelSdkError::Io(error))?;
+    assert_eq!(rt; text.as_str(), "No space left on device (os error 28)");
     let mut exporter = WaterfallExporter::new(alloc, BufWriter::new(alloc, Full)?);
     assert!(rt; exporter.export(&batch).is_ok());
     let answer = exporter.force_flush();

@@ -10,7 +10,7 @@ ghost use Rattle.otel_otlp.specs.StreamClient.{Gains, Reads, StepsToHead, FindsH
 ghost use Rattle.otel_otlp.specs.StreamClient.{FindsBody, Replies, StaysOpen, is_kept};
 ghost use Rattle.otel_otlp.specs.StreamClient.{max_body_len, max_headers};
 ghost use Rattle.otel_otlp.specs.StreamClient.{HasAnswered, IsReadError, HasBadParts, no_parts};
-ghost use Rattle.otel_otlp.specs.StreamClient.{ReadsNone};
+ghost use Rattle.otel_otlp.specs.StreamClient.{IsOfBytes, IsReaders};
 ghost use Rattle.otel_otlp.specs.StreamClient.{Breaks, Comes, GoesOn};
 ghost use Rattle.otel_otlp.specs.StreamClient.{LacksMore, LacksAnswer, ClosesAtEnd};
 
@@ -67,7 +67,7 @@ fn take_head(
     requires { IsResponseWithin unread.old.items spans.now head.now }
     ensures parts { IfOk result (IsResponseParts unread.old.items spans.now head.now) }
     ensures rest { OnOk result (unread.new.items ≡ drop head.now.len unread.old.items) }
-    ensures failed { IfErr result (λ error. error ≢ HttpError.Unreachable) }
+    ensures failed { IfErr result IsOfBytes }
     ensures malformed { IfErr result (λ error. error ≡ HttpError.Malformed
         → HasBadParts unread.old.items spans.now head.now) }
 {
@@ -85,7 +85,7 @@ fn add_piece(body: &mut Vec<u8>, piece: &[u8]) -> Result<(), HttpError>
     requires { length body.old.items ≤ max_body_len }
     ensures added { OnOk result (body.new.items ≡ body.old.items ++ piece.now) }
     ensures within { OnOk result (length body.new.items ≤ max_body_len) }
-    ensures failed { IfErr result (λ error. error ≢ HttpError.Unreachable) }
+    ensures failed { IfErr result IsOfBytes }
     ensures malformed { IfErr result (λ error. error ≡ HttpError.Malformed
         → max_body_len < length (body.old.items ++ piece.now)) }
 {
@@ -102,8 +102,7 @@ impl<R: ReaderCalls> Source<R> {
         ensures gains { IfOk result (λ count. (came : List ℕ) × (length came ≡ count)
             × Gains R.remaining self.old came self.new) }
         ensures answered { IfOk result (λ count. R.may_read (Ok count)) }
-        ensures failed { IfErr result (λ error. error ≡ HttpError.Unreachable
-            → ReadsNone R.may_read) }
+        ensures failed { IfErr result (IsReaders R.may_read) }
         ensures no_bytes { IfErr result (λ error. error ≢ HttpError.Malformed) }
     {
         self.unread.reserve(READ_SIZE).map_err(HttpError::Memory)?;
@@ -112,7 +111,7 @@ impl<R: ReaderCalls> Source<R> {
                 Ok(count) => return Ok(count),
                 Err(error) => match error.kind() {
                     ErrorKind::Interrupted => {}
-                    _ => return Err(HttpError::Unreachable),
+                    _ => return Err(HttpError::Io(error)),
                 },
             }
         }
@@ -168,8 +167,7 @@ impl<R: ReaderCalls> Source<R> {
             (λ given left. Comes connection.old given connection.new left [])) }
         ensures begun { IfOk result (λ found. IsTrue (is_some found)
             → reading connection.new ≢ Reading.Head) }
-        ensures failed { IfErr result (λ error. error ≡ HttpError.Unreachable
-            → ReadsNone R.may_read) }
+        ensures failed { IfErr result (IsReaders R.may_read) }
         ensures malformed { IfErr result (Breaks R.remaining self.old self.new
             (LacksAnswer R.may_read connection.old)) }
     {
@@ -197,7 +195,8 @@ impl<R: ReaderCalls> Source<R> {
     ///
     /// # Errors
     ///
-    /// - `Unreachable` if the reader failed, or ended before the first byte.
+    /// - `Io` with the reader's own error if it failed, and `Unreachable` if it ended before the
+    ///   first byte.
     /// - `Malformed` if the bytes are no head within the limits, or the reader ended in it.
     /// - `Memory` if out of memory.
     pub(crate) fn read_head(&mut self, connection: &mut Client) -> Result<Parts, HttpError>
@@ -208,8 +207,7 @@ impl<R: ReaderCalls> Source<R> {
         ensures comes { OnOk result (Reads R.remaining self.old self.new
             (λ given left. Comes connection.old given connection.new left [])) }
         ensures begun { OnOk result (reading connection.new ≢ Reading.Head) }
-        ensures failed { IfErr result (λ error. error ≡ HttpError.Unreachable
-            → ReadsNone R.may_read) }
+        ensures failed { IfErr result (IsReaders R.may_read) }
         ensures malformed { IfErr result (Breaks R.remaining self.old self.new
             (LacksAnswer R.may_read connection.old)) }
     {
@@ -240,8 +238,7 @@ impl<R: ReaderCalls> Source<R> {
         ensures keeps { IfOk result (λ ended. StaysOpen ended connection.old connection.new) }
         ensures comes { IfOk result (λ ended. ended ≡ false → GoesOn R.remaining self.old self.new
             body.old.items body.new.items connection.old connection.new) }
-        ensures failed { IfErr result (λ error. error ≡ HttpError.Unreachable
-            → ReadsNone R.may_read) }
+        ensures failed { IfErr result (IsReaders R.may_read) }
         ensures malformed { IfErr result (Breaks R.remaining self.old self.new
             (LacksMore R.may_read body.old.items connection.old)) }
     {
@@ -265,7 +262,8 @@ impl<R: ReaderCalls> Source<R> {
                 }
                 match connection.read_eof() {
                     Ok(Event::End(_)) => Ok(true),
-                    _ => Err(HttpError::Malformed),
+                    Ok(_) => Err(HttpError::Malformed),
+                    Err(_) => Err(HttpError::Malformed),
                 }
             }
             _ => Err(HttpError::Malformed),
@@ -276,7 +274,7 @@ impl<R: ReaderCalls> Source<R> {
     ///
     /// # Errors
     ///
-    /// - `Unreachable` if the reader failed.
+    /// - `Io` with the reader's own error if it failed.
     /// - `Malformed` if the bytes are no body within the limits, or the reader ended in it.
     /// - `Memory` if out of memory.
     pub(crate) fn read_body(&mut self, connection: &mut Client) -> Result<Vec<u8>, HttpError>
@@ -287,8 +285,7 @@ impl<R: ReaderCalls> Source<R> {
             (λ given left. FindsBody connection.old given body.items left)) }
         ensures keeps { OnOk result
             (IsIdle connection.new ↔ IsTrue (is_kept connection.old)) }
-        ensures failed { IfErr result (λ error. error ≡ HttpError.Unreachable
-            → ReadsNone R.may_read) }
+        ensures failed { IfErr result (IsReaders R.may_read) }
         ensures malformed { IfErr result (Breaks R.remaining self.old self.new
             (LacksAnswer R.may_read connection.old)) }
     {

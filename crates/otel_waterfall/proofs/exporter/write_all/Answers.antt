@@ -1,4 +1,4 @@
-use Rattle.std.proofs.Common.{◌≡◌, ℕ, ◌-◌, List, ◌++◌, length, take, drop, refl, sym, ap, ◌∙◌, append_assoc, take-append-drop, subst}
+use Rattle.std.proofs.Common.{◌≡◌, ℕ, ◌-◌, List, ◌++◌, length, take, drop, sym, ap, ◌∙◌, append_assoc, take-append-drop, subst}
 use Rattle.std.specs.Prelude.{Option, Some, None}
 use Rattle.std.proofs.lemmas.List.{take_rest}
 use Rattle.std.proofs.Math.Seq.{take-append_seam}
@@ -28,24 +28,24 @@ returns-clause-cut g c =
     let (done, split, appended, unflushed) = c.loop-rest.invariant in
     cut_at _ _ _ done _ split appended
 
-pub returns-in-None-clause-cut : goal.returns-in-None-clause-cut
-returns-in-None-clause-cut g c =
+pub returns-in-Err-clause-cut : goal.returns-in-Err-clause-cut
+returns-in-Err-clause-cut g c =
     let (done, split, appended, unflushed) = c.loop-rest.invariant in
-    cut_at _ _ _ done _ split (Appends-kept _ _ _ done appended (c.in-None.ensures.none refl))
+    cut_at _ _ _ done _ split (Appends-kept _ _ _ done appended (c.in-Err.ensures.none))
 
 pub loop-rest-preserved : goal.loop-rest-preserved
 loop-rest-preserved g c =
     let (done, split, appended, unflushed) = c.loop-rest.invariant in
     let rest = c.loop-rest.rest.now in (
-      done ++ take c.in-Some.count rest,
-      moves_front _ done rest c.in-Some.count split,
-      Appends-trans _ _ _ _ _ appended c.in-Some.ensures.some.1,
-      λ answers before. c.in-Some.ensures.unflushed answers (unflushed answers before),
+      done ++ take c.in-Ok.count rest,
+      moves_front _ done rest c.in-Ok.count split,
+      Appends-trans _ _ _ _ _ appended c.in-Ok.ensures.some.2,
+      λ answers before. c.in-Ok.ensures.unflushed answers (unflushed answers before),
     )
 
 pub returns-clause-unflushed : goal.returns-clause-unflushed
 returns-clause-unflushed g c = c.loop-rest.invariant.3
 
-pub returns-in-None-clause-unflushed : goal.returns-in-None-clause-unflushed
-returns-in-None-clause-unflushed g c = λ answers before.
-    c.in-None.ensures.unflushed answers (c.loop-rest.invariant.3 answers before)
+pub returns-in-Err-clause-unflushed : goal.returns-in-Err-clause-unflushed
+returns-in-Err-clause-unflushed g c = λ answers before.
+    c.in-Err.ensures.unflushed answers (c.loop-rest.invariant.3 answers before)

@@ -10,7 +10,7 @@ pub type Row = (Reply, Counts, Option<&'static str>);
 
 const NONE: Counts = (0, 0, 0, None);
 
-pub const ANSWERS: [Row; 34] = [
+pub const ANSWERS: [Row; 35] = [
     (Reply::Response(200, None, "{}"), NONE, None),
     (Reply::Response(202, None, ""), NONE, None),
     (Reply::Response(204, None, ""), NONE, None),
@@ -131,7 +131,12 @@ pub const ANSWERS: [Row; 34] = [
     (
         Reply::Malformed,
         NONE,
-        Some("no response came; to be sent again in 1 s"),
+        Some("the response isn't HTTP; to be sent again in 1 s"),
+    ),
+    (
+        Reply::Refused(111),
+        NONE,
+        Some("no response came: Connection refused (os error 111); to be sent again in 1 s"),
     ),
     (
         Reply::Response(400, None, "{\"code\":3,\"message\":\"bad\"}"),

@@ -16,6 +16,8 @@ pub enum Reply {
     Response(u16, Option<&'static str>, &'static str),
     /// No response.
     Nothing,
+    /// The error of the system with this number.
+    Refused(i32),
     /// No HTTP.
     Malformed,
 }
@@ -61,6 +63,7 @@ fn response(alloc: Global, reply: &Reply) -> Result<Response<Vec<u8>>, HttpError
     let (status, wait, body) = match reply {
         Reply::Response(status, wait, body) => (*status, *wait, *body),
         Reply::Nothing => return Err(HttpError::Unreachable),
+        Reply::Refused(code) => return Err(HttpError::Io(io::Error::from_raw_os_error(*code))),
         Reply::Malformed => return Err(HttpError::Malformed),
     };
     let body = Vec::from_slice(alloc, body.as_bytes()).map_err(HttpError::Memory)?;

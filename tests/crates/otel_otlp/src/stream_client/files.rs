@@ -4,7 +4,7 @@ use otel_otlp::{FileCalls, FileClient, HttpClient};
 use std::cell::Cell;
 use std::fs;
 use std::hash::RandomState;
-use std::io::{self, Read, Write};
+use std::io::{self, ErrorKind, Read, Write};
 use std::random::RandomSource;
 use std::test::Fail;
 
@@ -32,8 +32,8 @@ const FOLDERS: [(Option<&'static str>, Option<&'static str>, Answer); 7] = [
         Some("HTTP/1.1 200 OK\r\nContent-Length: 2\r\n\r\n{"),
         Err("malformed"),
     ),
-    (Some(""), None, Err("unreachable")),
-    (None, Some(OK), Err("unreachable")),
+    (Some(""), None, Err("no response")),
+    (None, Some(OK), Err("no request")),
     (Some(""), Some(OK), Ok((200, "{}", false))),
 ];
 
@@ -108,21 +108,19 @@ impl FileCalls for Counting<'_> {
 
     ghost inputs = { λ _ _ _. Unit {0} };
 
-    fn open_output(&self, path: &str) -> Option<Open> {
+    fn open_output(&self, path: &str) -> io::Result<Open> {
         self.outputs.set(self.outputs.get() + 1);
-        if path == "f/request" {
-            Some(Open { is_read: false })
-        } else {
-            None
+        match path {
+            "f/request" => Ok(Open { is_read: false }),
+            _ => Err(ErrorKind::NotFound.into()),
         }
     }
 
-    fn open_input(&self, path: &str, _output: &Open) -> Option<Open> {
+    fn open_input(&self, path: &str, _output: &Open) -> io::Result<Open> {
         self.inputs.set(self.inputs.get() + 1);
-        if path == "f/response" {
-            Some(Open { is_read: false })
-        } else {
-            None
+        match path {
+            "f/response" => Ok(Open { is_read: false }),
+            _ => Err(ErrorKind::NotFound.into()),
         }
     }
 }

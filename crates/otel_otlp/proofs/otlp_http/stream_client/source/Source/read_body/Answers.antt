@@ -1,6 +1,6 @@
 use Rattle.std.proofs.Common.{ℕ, ◌≤◌, List, [], ◌++◌, length, ◌∙◌, refl, sym, append-nil, append_assoc, subst, subst₂, arith}
 use Rattle.std.proofs.KnownBytes.{Consumes-nil, Consumes-trans}
-use Rattle.otel_otlp.specs.StreamClient.{Gives, StepsInBody, StaysOpen, Comes, stays, max_body_len, LacksMore, LacksAnswer, Breaks}
+use Rattle.otel_otlp.specs.StreamClient.{Gives, StepsInBody, StaysOpen, Comes, IsReaders, stays, max_body_len, LacksMore, LacksAnswer, Breaks}
 use Rattle.otel_otlp.proofs.StreamErrors.{passed}
 use Rattle.otel_otlp.proofs.StreamFaults.{breaks_after, comes_then, comes_lacks}
 use Rattle.otel_otlp.proofs.Streams.{gives_none, gives_gives}
@@ -61,3 +61,8 @@ loop-init g c =
         subst₂ (λ (s xs : List ℕ). Comes conn s conn input xs) (sym none) (sym empty) (stays conn input),
       ),
     )
+
+pub returns-in_err-step_body-clause-failed : goal.returns-in_err-step_body-clause-failed
+returns-in_err-step_body-clause-failed g c =
+    let may = g.R.ReaderCalls.may_read in
+    passed (IsReaders may) c.from_residual.result c.in_err-step_body.field-0.0 c.from_residual.ensures.1 c.in_err-step_body.ensures.failed

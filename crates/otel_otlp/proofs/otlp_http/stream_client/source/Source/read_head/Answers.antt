@@ -3,7 +3,7 @@ use Rattle.std.proofs.KnownBytes.{Consumes-nil, Consumes-trans}
 use Rattle.http1.specs.declared.client.Client.{Client}
 use Rattle.http1.specs.Conn.{awaits_head}
 use Rattle.http1.specs.Client.{reading, writing}
-use Rattle.otel_otlp.specs.StreamClient.{FindsHead, Skips, StepsToHead, Comes, stays, LacksAnswer, Breaks}
+use Rattle.otel_otlp.specs.StreamClient.{FindsHead, Skips, StepsToHead, Comes, IsReaders, stays, LacksAnswer, Breaks}
 use Rattle.otel_otlp.proofs.StreamErrors.{passed}
 use Rattle.otel_otlp.proofs.StreamFaults.{breaks_after, comes_then, comes_lacks}
 use Rattle.otel_otlp.proofs.Streams.{skips_none, skips_skips, skips_finds}
@@ -78,3 +78,8 @@ loop-init g c =
         subst (λ (s : List ℕ). Comes c.args.connection.now s c.args.connection.now c.args.self.now.unread.items []) (sym none) (stays c.args.connection.now c.args.self.now.unread.items),
       ),
     )
+
+pub returns-in_err-parts-clause-failed : goal.returns-in_err-parts-clause-failed
+returns-in_err-parts-clause-failed g c =
+    let may = g.R.ReaderCalls.may_read in
+    passed (IsReaders may) c.from_residual.result c.in_err-parts.field-0.0 c.from_residual.ensures.1 c.in_err-parts.ensures.failed

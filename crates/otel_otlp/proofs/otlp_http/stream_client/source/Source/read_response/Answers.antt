@@ -3,8 +3,8 @@ use Rattle.std.proofs.KnownBytes.{Consumes-trans}
 use Rattle.http1.specs.Client.{IsIdle}
 use Rattle.http1.specs.ServerTrace.{SeenBody, no_body}
 use Rattle.http1.specs.ClientTrace.{Trace}
-use Rattle.otel_otlp.specs.StreamClient.{with_body, Comes, LacksAnswer, Breaks}
-use Rattle.otel_otlp.proofs.StreamErrors.{passed}
+use Rattle.otel_otlp.specs.StreamClient.{with_body, Comes, IsReadError, LacksAnswer, Breaks}
+use Rattle.otel_otlp.proofs.StreamErrors.{passed, read_fault}
 use Rattle.otel_otlp.proofs.StreamFaults.{breaks_after, comes_lacks}
 use Rattle.otel_otlp.proofs.otlp_http.stream_client.source.Source.read_response.Goals as goal
 
@@ -59,3 +59,19 @@ returns-in_err-body-clause-malformed g c =
     (Consumes-trans _ _ _ begun first more.1 before)
     (λ came. comes_lacks may c.args.connection.now c.read_head.new.connection (old ++ (begun ++ first)) c.read_head.new.self.unread.items came [] [] come)
     e c.in_err-body.ensures.malformed)
+
+pub returns-in_err-parts-clause-failed : goal.returns-in_err-parts-clause-failed
+returns-in_err-parts-clause-failed g c =
+    let may = g.R.ReaderCalls.may_read in
+    let old = c.args.self.now.unread.items in
+    let e = c.in_err-parts.field-0.0 in
+    passed (IsReadError may old) c.from_residual-in_err-parts.result e c.from_residual-in_err-parts.ensures.1
+    (read_fault may old e c.in_err-parts.ensures.failed c.in_ok-start.ensures.answered)
+
+pub returns-in_err-body-clause-failed : goal.returns-in_err-body-clause-failed
+returns-in_err-body-clause-failed g c =
+    let may = g.R.ReaderCalls.may_read in
+    let old = c.args.self.now.unread.items in
+    let e = c.in_err-body.field-0.0 in
+    passed (IsReadError may old) c.from_residual-in_err-body.result e c.from_residual-in_err-body.ensures.1
+    (read_fault may old e c.in_err-body.ensures.failed c.in_ok-start.ensures.answered)

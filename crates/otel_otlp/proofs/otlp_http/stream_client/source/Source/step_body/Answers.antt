@@ -5,9 +5,9 @@ use Rattle.std.specs.Io.KnownBytes.{Consumes}
 use Rattle.httparse.specs.Spans.{span_bytes}
 use Rattle.http1.specs.declared.conn.Event.TheVariants as Found
 use Rattle.http1.specs.Client.{ClientReads, ClientRefuses, reading, IsIdle}
-use Rattle.otel_otlp.specs.StreamClient.{max_body_len, LacksMore, Breaks}
+use Rattle.otel_otlp.specs.StreamClient.{max_body_len, IsReaders, LacksMore, Breaks}
 use Rattle.otel_otlp.specs.declared.otlp_http.client.HttpError.TheVariants.{Malformed}
-use Rattle.otel_otlp.proofs.StreamErrors.{passed}
+use Rattle.otel_otlp.proofs.StreamErrors.{passed, of_bytes}
 use Rattle.otel_otlp.proofs.StreamFaults.{refuses, breaks_now, breaks_front, lacks_here, over, ends_in_body, last_step_by, one_step_by, goes_on}
 use Rattle.otel_otlp.proofs.StreamSteps.{gives_data, gives_more, finds_end, finds_close, until_close, stays_by_data, stays_by_need, stays_at_end, stays_at_eof, eof_closes}
 use Rattle.otel_otlp.proofs.otlp_http.stream_client.source.Source.step_body.Goals as goal
@@ -130,8 +130,8 @@ returns-in_default-event-clause-malformed g c =
     breaks_now g.R.Read.remaining c.args.self.now c.args.self.now (LacksMore may c.args.body.now.items c.args.connection.now) Malformed (Consumes-nil _)
     (λ _. lacks_here may c.args.body.now.items c.args.connection.now input (inr (over _ _ input _ c.in-Ok.read found c.in_default-event.not-Data c.in_default-event.not-End c.in_default-event.not-NeedMore c.requires.begun)))
 
-pub returns-in_default-read_eof-2-clause-malformed : goal.returns-in_default-read_eof-2-clause-malformed
-returns-in_default-read_eof-2-clause-malformed g c =
+pub returns-in-Err-clause-malformed : goal.returns-in-Err-clause-malformed
+returns-in-Err-clause-malformed g c =
     let may = g.R.ReaderCalls.may_read in
     let input = c.args.self.now.unread.items in
     let found = subst (λ (xs : List ℕ). ClientReads c.args.connection.now xs c.read.new.headers c.read.new.self c.in-Ok.read) c.as_slice.ensures c.in-Ok.ensures.ok in
@@ -144,7 +144,7 @@ returns-in_default-read_eof-2-clause-malformed g c =
     (λ _. lacks_here may c.args.body.now.items c.args.connection.now input (inl (inl (inr (
       ended,
       ends_in_body _ _ input _ c.in-Ok.read found c.in-NeedMore.is
-          (λ count is. let it = sym c.in_default-read_eof.is ∙ c.read_eof.ensures.answer ∙ is in cc),
+          (λ count is. let it = sym c.in-Err.is ∙ c.read_eof.ensures.answer ∙ is in cc),
     )))))
 
 pub returns-in_ok-add_piece-in-Data-clause-comes : goal.returns-in_ok-add_piece-in-Data-clause-comes
@@ -174,3 +174,14 @@ returns-then-branch-gt0-clause-comes g c =
       comes = rw (gained.0, c.advance-in-NeedMore.ensures.items) (one_step_by _ _ input _ c.in-Ok.read found Found.NeedMore c.in-NeedMore.is (λ count is. cc) refl came);
       begun = goes_on _ _ input _ c.in-Ok.read found c.requires.begun Found.NeedMore c.in-NeedMore.is (λ count is. cc);
     }
+
+pub returns-in_err-add_piece-in-Data-clause-failed : goal.returns-in_err-add_piece-in-Data-clause-failed
+returns-in_err-add_piece-in-Data-clause-failed g c =
+    let may = g.R.ReaderCalls.may_read in
+    let e = c.in_err-add_piece-in-Data.field-0.0 in
+    passed (IsReaders may) c.from_residual.result e c.from_residual.ensures.1 (of_bytes may e c.in_err-add_piece-in-Data.ensures.failed)
+
+pub returns-in_err-fill-in-NeedMore-clause-failed : goal.returns-in_err-fill-in-NeedMore-clause-failed
+returns-in_err-fill-in-NeedMore-clause-failed g c =
+    let may = g.R.ReaderCalls.may_read in
+    passed (IsReaders may) c.from_residual-in_err-fill-in-NeedMore.result c.in_err-fill-in-NeedMore.field-0.0 c.from_residual-in_err-fill-in-NeedMore.ensures.1 c.in_err-fill-in-NeedMore.ensures.failed

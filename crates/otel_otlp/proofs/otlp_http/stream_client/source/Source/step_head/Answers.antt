@@ -5,9 +5,9 @@ use Rattle.httparse.specs.declared.spans.ResponseSpans.{ResponseSpans}
 use Rattle.http1.specs.Conn.{IsEventWithin}
 use Rattle.http1.specs.declared.conn.Event.TheVariants as Found
 use Rattle.http1.specs.Client.{ClientReads, ClientRefuses}
-use Rattle.otel_otlp.specs.StreamClient.{FindsHead, Comes, LacksAnswer, Breaks}
+use Rattle.otel_otlp.specs.StreamClient.{FindsHead, Comes, IsReaders, LacksAnswer, Breaks}
 use Rattle.otel_otlp.specs.declared.otlp_http.client.HttpError.TheVariants.{Malformed}
-use Rattle.otel_otlp.proofs.StreamErrors.{passed}
+use Rattle.otel_otlp.proofs.StreamErrors.{passed, of_bytes, of_reader}
 use Rattle.otel_otlp.proofs.StreamFaults.{refuses, breaks_now, breaks_ended, lacks_here, ends_in_head, none_other, last_step_by, waiting_step, begins}
 use Rattle.otel_otlp.proofs.StreamSteps.{waits, skips_one, finds_head}
 use Rattle.otel_otlp.proofs.otlp_http.stream_client.source.Source.step_head.Goals as goal
@@ -107,3 +107,15 @@ returns-in_ok-fill_head-in-NeedMore-clause-comes g c =
     let found = subst (λ (xs : List ℕ). ClientReads c.args.connection.now xs c.read.new.headers c.read.new.self c.in-Ok.read) c.as_slice.ensures c.in-Ok.ensures.ok in
     let (came, gained) = c.in_ok-fill_head-in-NeedMore.ensures.gains in
     (came, gained.1, rw gained.0 (waiting_step _ _ input _ c.in-Ok.read found c.requires.head c.in-NeedMore.is came))
+
+pub returns-in_err-parts-in-Head-clause-failed : goal.returns-in_err-parts-in-Head-clause-failed
+returns-in_err-parts-in-Head-clause-failed g c =
+    let may = g.R.ReaderCalls.may_read in
+    let e = c.in_err-parts-in-Head.field-0.0 in
+    passed (IsReaders may) c.from_residual.result e c.from_residual.ensures.1 (of_bytes may e c.in_err-parts-in-Head.ensures.failed)
+
+pub returns-in_err-fill_head-in-NeedMore-clause-failed : goal.returns-in_err-fill_head-in-NeedMore-clause-failed
+returns-in_err-fill_head-in-NeedMore-clause-failed g c =
+    let may = g.R.ReaderCalls.may_read in
+    let e = c.in_err-fill_head-in-NeedMore.field-0.0 in
+    passed (IsReaders may) c.from_residual-in_err-fill_head-in-NeedMore.result e c.from_residual-in_err-fill_head-in-NeedMore.ensures.1 (of_reader may [] e c.in_err-fill_head-in-NeedMore.ensures.failed)
