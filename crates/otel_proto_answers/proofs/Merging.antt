@@ -128,7 +128,8 @@ response_joins s xs ys =
     ap (option_and_then (scalars s)) (ap merged (values_both as_bytes 1 xs ys) ∙ merged_both (values as_bytes 1 xs) (values as_bytes 1 ys))
     ∙ through s (message_of 1 xs) (message_of 1 ys)
 
-one_merged : (o : Option (List Field)) → option_and_then (λ (fields : List Field). option_map (λ (others : List Field). fields ++ others) (Some [])) o ≡ o
+-- of one message
+pub one_merged : (o : Option (List Field)) → option_and_then (λ (fields : List Field). option_map (λ (others : List Field). fields ++ others) (Some [])) o ≡ o
 one_merged None = refl
 one_merged (Some fs) = ap Some (append-nil fs)
 

@@ -16,7 +16,7 @@ same_before : (n m k : ℕ) (o : Option (Item × List ℕ)) → ((rest : List �
 same_before n m k None same shorter = refl
 same_before n m k (Some r) same shorter = ap (option_map (λ (more : List Item). r.0 ∷ more)) (same r.1 (shorter r.0 r.1 refl))
 
-enough : (n m : ℕ) (bs : List ℕ) → length bs ≤ n → length bs ≤ m → items_within n bs ≡ items_within m bs
+pub enough : (n m : ℕ) (bs : List ℕ) → length bs ≤ n → length bs ≤ m → items_within n bs ≡ items_within m bs
 enough zero zero [] h g = refl
 enough zero (suc m) [] h g = refl
 enough (suc n) zero [] h g = refl

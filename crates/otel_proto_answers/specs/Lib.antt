@@ -1,4 +1,5 @@
 pub mod Answers
+pub mod Laws
 pub mod Parts
 pub mod Seen
 pub mod Views

@@ -4,6 +4,7 @@
 
 mod answers;
 mod error;
+pub mod laws;
 mod parts;
 mod scalars;
 mod wire;

@@ -55,6 +55,6 @@ fn rows(rt: HostRuntime) -> Result<(), Fail> {
 fn two_rejected_items_with_a_message(rt: HostRuntime) -> Result<(), Fail> {
     let alloc = rt.alloc();
     let partial = read_partial(alloc, b"\x0a\x05\x08\x02\x12\x01m")?;
-    assert_eq!(&rt; partial.rejected, 2);
+    assert_eq!(rt; partial.rejected, 2);
     Ok(())
 }
