@@ -49,16 +49,19 @@ a_varint : (cs bs : List ℕ) → Goes cs (varint_at bs) (varint_at (bs ++ cs))
 a_varint cs bs = mapped cs (λ (r : ℕ × List ℕ). (r.0 % 2 ^ 64, r.1)) (varint_within 10 bs) (varint_within 10 (bs ++ cs)) (λ r. refl) (numbers cs 10 bs)
 
 -- ---- values
+both : {s t u v : List ℕ} → s ≡ t → u ≡ v → ◌≡◌ {A = Option (List ℕ × List ℕ)} (Some (s, u)) (Some (t, v))
+both p q i = Some (p i, q i)
+
 parted : (cs : List ℕ) (n : ℕ) (bs : List ℕ) (b : Bool) → nat_le n (length bs) ≡ b → Goes cs (if b then Some (take n bs, drop n bs) else None) (split n (bs ++ cs))
 parted cs n bs false e = nothing cs (split n (bs ++ cs))
 parted cs n bs true e =
     let fits : n ≤ length bs = grind (arith, nat_tests) in
     let longer : n ≤ length (bs ++ cs) = omega (arith, fits, length-append bs cs) in
     let test : nat_le n (length (bs ++ cs)) ≡ true = grind (arith, nat_tests) in
-    let same : split n (bs ++ cs) ≡ Some (take n bs, drop n bs ++ cs) =
-    ap (λ (t : Bool). if t then Some (take n (bs ++ cs), drop n (bs ++ cs)) else None) test
-    ∙ (λ i. Some (take-append-le n bs cs fits i, drop-append-le n bs cs fits i)) in
-    λ r h. same ∙ there cs (take n bs) (drop n bs) r h
+    let first : split n (bs ++ cs) ≡ Some (take n (bs ++ cs), drop n (bs ++ cs)) = ap (λ (t : Bool). if t then Some (take n (bs ++ cs), drop n (bs ++ cs)) else None) test in
+    let front : take n (bs ++ cs) ≡ take n bs = take-append-le n bs cs fits in
+    let back : drop n (bs ++ cs) ≡ drop n bs ++ cs = drop-append-le n bs cs fits in
+    λ r h. first ∙ both front back ∙ there cs (take n bs) (drop n bs) r h
 
 a_split : (cs : List ℕ) (n : ℕ) (bs : List ℕ) → Goes cs (split n bs) (split n (bs ++ cs))
 a_split cs n bs = parted cs n bs (nat_le n (length bs)) refl

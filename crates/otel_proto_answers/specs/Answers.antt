@@ -146,9 +146,9 @@ other_type_example :
 other_type_example = refl
 
 -- a message that isn't UTF-8, though another follows
-not_text_example : response (0x0a ∷ 6 ∷ 0x12 ∷ 1 ∷ 255 ∷ 0x12 ∷ 1 ∷ 0x6d ∷ []) ≡ None
+not_utf8_example : response (0x0a ∷ 6 ∷ 0x12 ∷ 1 ∷ 255 ∷ 0x12 ∷ 1 ∷ 0x6d ∷ []) ≡ None
 unfolding is_utf8 chars encode_utf8
-not_text_example = refl
+not_utf8_example = refl
 
 -- the code 3 and the message `bad`
 status_example :

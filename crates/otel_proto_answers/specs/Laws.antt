@@ -15,16 +15,16 @@ integer_unless_zero number z =
 
 -- the fields of a response with this number of rejected items and this message, as they are written
 abbrev pub response_fields : ℤ → List ℕ → List Field
-response_fields rejected text =
-    message 1 (integer_unless_zero 1 rejected ++ bytes_unless_empty 2 text) ∷ []
+response_fields rejected string =
+    message 1 (integer_unless_zero 1 rejected ++ bytes_unless_empty 2 string) ∷ []
 
--- a response that is written is read as what it says, whatever number of 64 bits and text it has
+-- a response that is written is read as what it says, whatever number of 64 bits and string it has
 abbrev pub WrittenResponseReadsBack : Type 0
 WrittenResponseReadsBack =
-    (rejected : ℤ) (text : List ℕ) → FitsSigned w64 rejected → IsUtf8 text
-    → AreShort (response_fields rejected text)
-    → response (bytes_of (response_fields rejected text))
-    ≡ Some (record { rejected = rejected; message = unless_empty text })
+    (rejected : ℤ) (string : List ℕ) → FitsSigned w64 rejected → IsUtf8 string
+    → AreShort (response_fields rejected string)
+    → response (bytes_of (response_fields rejected string))
+    ≡ Some (record { rejected = rejected; message = unless_empty string })
 
 -- messages that are read as one are read as their bytes, one after the other
 abbrev pub MergedMessagesAreJoined : Type 0
