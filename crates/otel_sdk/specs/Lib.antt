@@ -12,6 +12,7 @@ pub mod EnvWarnings
 pub mod Exports
 pub mod IdGenerator
 pub mod LastExport
+pub mod LossLaws
 pub mod ParentBased
 pub mod Parents
 pub mod Processor
