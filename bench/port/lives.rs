@@ -4,9 +4,10 @@ use crate::sdk::{Traced, fill_current, no_memory, traced};
 use opentelemetry::trace::{Entered, Tracing};
 use otel_sdk::error::OTelSdkResult;
 use otel_sdk::resource::Resource;
-use otel_sdk::trace::{Exporter, Exports, Sampler, SpanData, SpanProcessor};
+use otel_sdk::trace::{Exporter, Exports, Losses, Sampler, SpanData, SpanProcessor};
 use otel_sdk_base::Accepted;
 use std::alloc::{AllocError, Global};
+use std::default::Default;
 use std::rc::Rc;
 
 /// The number of spans in a batch.
@@ -42,6 +43,14 @@ impl Exporter<SpanData> for SpanCounter {
 
     fn set_resource(&mut self, resource: Rc<Resource>) {
         drop(resource);
+    }
+
+    fn losses(&self) -> Losses {
+        Losses::default()
+    }
+
+    fn last_message(&self) -> Option<&str> {
+        None
     }
 }
 

@@ -1,5 +1,5 @@
 -- How the parts that wait are delivered, and the place of each record.
-use Rattle.std.proofs.Common.{◌≡◌, ℕ, ◌+◌, true, Option, Some, None, List, [], ◌∷◌, ◌++◌, length, Result, Ok, Err, OnErr, refl, sym, ap, ◌∙◌, subst, append_assoc, append-nil, inl, inr, arith}
+use Rattle.std.proofs.Common.{◌≡◌, ℕ, ◌+◌, min, true, Option, Some, None, List, [], ◌∷◌, ◌++◌, length, Result, Ok, Err, OnErr, refl, sym, ap, ◌∙◌, subst, append_assoc, append-nil, inl, inr, arith}
 use Rattle.std.proofs.lemmas.Grind.{flat_map-append, common_steps}
 use Rattle.std.proofs.lemmas.List.Sums.{sum_by-append}
 use Rattle.std.specs.Bool.{⊤}
@@ -58,13 +58,18 @@ pub counts_none : (old : ℕ) (n : ℕ) → old ≡ within_u64 n → old ≡ wit
 counts_none old n e = grind (arith, common_steps, e)
 
 -- what a response counts
-pub taken_given_up : (partial : Option Partial) (t : TallyOf) → (after_taken partial t).given_up ≡ t.given_up
-taken_given_up None t = refl
-taken_given_up (Some p) t = refl
+pub taken_given_up : (count : ℕ) (partial : Option Partial) (t : TallyOf) → (after_taken count partial t).given_up ≡ t.given_up
+taken_given_up count None t = refl
+taken_given_up count (Some p) t = refl
 
-pub taken_rejected : (partial : Option Partial) (t : TallyOf) (n : ℕ) → t.rejected ≡ within_u64 n → (after_taken partial t).rejected ≡ within_u64 (t.rejected + rejected_in partial)
-taken_rejected None t n e = counts_none t.rejected n e
-taken_rejected (Some p) t n e = refl
+none-of : (count : ℕ) → min 0 count ≡ 0
+none-of count = grind arith
+
+pub taken_rejected : (count : ℕ) (partial : Option Partial) (t : TallyOf) (n : ℕ) → t.rejected ≡ within_u64 n
+    → (after_taken count partial t).rejected ≡ within_u64 (t.rejected + min (rejected_in partial) count)
+taken_rejected count None t n e =
+    counts_none t.rejected n e ∙ ap (λ k. within_u64 (t.rejected + k)) (sym (none-of count))
+taken_rejected count (Some p) t n e = refl
 
 module _ {C R : Type 0} where
   -- The part that was first has left, and is counted. The accepted batches are the same.
@@ -76,7 +81,7 @@ module _ {C R : Type 0} where
     pub accepted : new.accepted ≡ old.accepted
     pub closed : new.is_shut_down ≡ old.is_shut_down
     pub given_up : IsAccounted old → new.tally.given_up ≡ within_u64 (old.tally.given_up + given_up_by end (length part.items))
-    pub rejected : IsAccounted old → new.tally.rejected ≡ within_u64 (old.tally.rejected + rejected_by end)
+    pub rejected : IsAccounted old → new.tally.rejected ≡ within_u64 (old.tally.rejected + rejected_by end (length part.items))
 
   -- each record is in the same place, or in the next one
   pub left_accounted : (old new : Sending C R) → HasLeft old new → IsAccounted old → IsAccounted new
@@ -101,7 +106,7 @@ module _ {C R : Type 0} where
             counts (λ l. given_up_by l.end (length l.items)) left last old.tally.given_up new.tally.given_up is.given_up (h.given_up is)
             ∙ ap (λ b. within_u64 (count_given_up b.left)) (sym h.outbox);
         rejected =
-            counts (λ l. rejected_by l.end) left last old.tally.rejected new.tally.rejected is.rejected (h.rejected is)
+            counts (λ l. rejected_by l.end (length l.items)) left last old.tally.rejected new.tally.rejected is.rejected (h.rejected is)
             ∙ ap (λ b. within_u64 (count_rejected b.left)) (sym h.outbox);
       }
 
@@ -134,8 +139,8 @@ module _ {C R : Type 0} (sent : C → List Sent) (answers : C → Sent → Answe
     outbox = ap (λ s. s.outbox) e;
     accepted = ap (λ s. s.accepted) e;
     closed = ap (λ s. s.is_shut_down) e;
-    given_up = λ is. ap (λ s. s.tally.given_up) e ∙ taken_given_up (result_unwrap_or told None) old.tally ∙ counts_none old.tally.given_up (count_given_up old.outbox.left) is.given_up;
-    rejected = λ is. ap (λ s. s.tally.rejected) e ∙ taken_rejected (result_unwrap_or told None) old.tally (count_rejected old.outbox.left) is.rejected;
+    given_up = λ is. ap (λ s. s.tally.given_up) e ∙ taken_given_up (length part.items) (result_unwrap_or told None) old.tally ∙ counts_none old.tally.given_up (count_given_up old.outbox.left) is.given_up;
+    rejected = λ is. ap (λ s. s.tally.rejected) e ∙ taken_rejected (length part.items) (result_unwrap_or told None) old.tally (count_rejected old.outbox.left) is.rejected;
   }
   end_left (fate.GivenUp message) part now client old new first e = record {
     part = part;

@@ -28,6 +28,7 @@ pub mod StreamText
 pub mod StreamRequest
 pub mod HttpParts
 pub mod HttpDelivery
+mod HttpLosses
 pub mod HeaderLists
 pub mod ReadLists
 pub mod ReadTrees

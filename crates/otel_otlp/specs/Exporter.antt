@@ -1,12 +1,13 @@
 -- The view of an exporter that writes lines of JSON, and the bytes that its writer gets
 -- [OpenTelemetry protocol file exporter, "JSON Lines file"].
 use Rattle.std.specs.Prelude.{◌≡◌, ◌⊎◌, ◌<◌, ℕ, Bool, true, false, List, [], ◌∷◌, ◌++◌, length}
-use Rattle.std.specs.Prelude.{take, Option, Result, Err, ⊤, IsTrue, OnOk, IsErrOf}
+use Rattle.std.specs.Prelude.{take, Option, Result, Err, ⊤, IsTrue, OnOk, IsErrOf, None}
 use Rattle.std.specs.Prelude.{MatchResult}
 use Rattle.std.specs.Prelude.{if◌then◌else◌, alloc_error, codes, string_bytes}
 use Rattle.std.specs.Io.KnownBytes.{Appends}
 use Rattle.std.specs.declared.io.Error.{Error}
 use Rattle.otel_sdk_base.specs.Export.{Calls}
+use Rattle.otel_sdk_base.specs.Losses as losses
 use Rattle.otel_sdk_base.specs.Writers.{FlushesOnce, FailsWith, IsWritersError}
 use Rattle.otel_sdk_base.specs.Resource as resource
 use Rattle.otel_sdk_base.specs.Resource.{Parts}
@@ -164,4 +165,6 @@ exporter_calls contents may_write flushed = record {
   shuts_down = λ old answer new. ShutsDown contents may_write flushed answer old new;
   takes_resource = λ old resource new. new ≡ record old { resource = resource };
   flushed = λ _ _. Unit {0};
+  losses = λ _. losses.none;
+  last_message = λ _. None;
 }

@@ -1,7 +1,7 @@
 -- An exporter that sends batches to a collector by OTLP over HTTP, and the place of each record.
 use Rattle.std.specs.Prelude.{◌≡◌, ◌⊎◌, ℕ, ◌<◌, ◌≤◌, Bool, true, false, List, [], ◌∷◌, ◌++◌, length}
 use Rattle.std.specs.Prelude.{Option, Some, None, Result, Ok, Err, ⊤, IsTrue, alloc_error}
-use Rattle.std.specs.Prelude.{option_map}
+use Rattle.std.specs.Prelude.{◌+◌, ◌-◌, ◌^◌, option_map}
 use Rattle.std.specs.Prelude.{string_bytes, ◌/◌}
 use Rattle.std.specs.List.{flat_map}
 use Rattle.std.specs.Result.{result_unwrap_or}
@@ -9,16 +9,19 @@ use Rattle.http.specs.Request.{head_of, body_of}
 use Rattle.http.specs.declared.request.Parts as http
 use Rattle.opentelemetry.specs.Clock.{within_u64}
 use Rattle.otel_sdk_base.specs.Export.{Calls, items_of}
+use Rattle.otel_sdk_base.specs.Losses.{total}
 use Rattle.otel_sdk_base.specs.Resource as resource
 use Rattle.otel_sdk_base.specs.Resource.{Parts}
 use Rattle.otel_sdk_base.specs.declared.error.OTelSdkError.{OTelSdkError}
 use Rattle.otel_sdk_base.specs.declared.error.OTelSdkError.TheVariants as error
+use Rattle.otel_sdk_base.specs.declared.losses.Losses.{Losses}
 use Rattle.otel_otlp.specs.Groups.{BatchForm}
 use Rattle.otel_otlp.specs.HttpClient.{Sent, Answer}
 use Rattle.otel_otlp.specs.HttpConfig.{Config, IsHead}
 use Rattle.otel_otlp.specs.HttpFate.{IsFate}
 use Rattle.otel_otlp.specs.HttpPart.{PartOf, Box, leave, ArePartsOf}
-use Rattle.otel_otlp.specs.HttpPart.{count_given_up, count_rejected}
+use Rattle.otel_otlp.specs.HttpPart.{count_given_up, count_received, count_rejected}
+use Rattle.otel_otlp.specs.HttpPart.{count_waiting}
 use Rattle.otel_otlp.specs.HttpPause as pause
 use Rattle.otel_otlp.specs.HttpPause.{PauseOf, IsRefused, NamesWait}
 use Rattle.otel_otlp.specs.HttpTally as tally
@@ -72,13 +75,30 @@ pub record IsAccounted {C R : Type 0} (s : Sending C R) : Type 0 where
   pub given_up : s.tally.given_up ≡ within_u64 (count_given_up s.outbox.left)
   pub rejected : s.tally.rejected ≡ within_u64 (count_rejected s.outbox.left)
 
+module _ {C R : Type 0} where
+  -- the records of the accepted batches that the collector doesn't have: it rejected them, they
+  -- were given up, or they wait
+  abbrev pub losses_of : Sending C R → Losses
+  losses_of s = record {
+    rejected = s.tally.rejected;
+    given_up = s.tally.given_up;
+    dropped = 0;
+    held = within_u64 (count_waiting s.outbox.waiting);
+  }
+
+  -- Each record of the accepted batches is counted once: the collector has it, or it is lost, for
+  -- one cause. No number stopped at the maximum.
+  abbrev pub RecordsAreCounted : Sending C R → Type 0
+  RecordsAreCounted s = IsAccounted s → total (losses_of s) < 2 ^ 64 - 1
+      → length (items_of s.accepted) ≡ count_received s.outbox.left + total (losses_of s)
+
 -- ---- one part
 module _ {C R : Type 0} where
   -- the collector has taken the part that waits first, or that part was given up
   abbrev pub taken : PartOf R → Option Partial → Sending C R → Sending C R
   taken part partial s = record s {
     outbox = leave (Taken (tally.rejected_in partial)) part s.outbox;
-    tally = tally.after_taken partial s.tally;
+    tally = tally.after_taken (length part.items) partial s.tally;
     pause = pause.restarted s.pause;
   }
 
@@ -265,4 +285,11 @@ module _ {C R : Type 0} (sent : C → List Sent) (answers : C → Sent → Answe
     shuts_down = ShutsDown;
     takes_resource = λ old resource new. new ≡ record old { resource = resource };
     flushed = λ _ _. Unit {0};
+    losses = losses_of;
+    last_message = λ s. s.tally.last_message;
   }
+
+  -- a shutdown accepts no batch, and drops none
+  abbrev pub ShutdownKeepsAccepted : Sending C R → Type 0
+  ShutdownKeepsAccepted old = (answer : Result ⊤ OTelSdkError) (new : Sending C R)
+      → ShutsDown old answer new → new.accepted ≡ old.accepted

@@ -1,6 +1,6 @@
 -- The parts of a batch, each of which is one request, and the parts that have left the exporter.
-use Rattle.std.specs.Prelude.{◌≡◌, ◌⊎◌, ℕ, ◌<◌, ◌≤◌, ◌/◌, List, [], ◌∷◌, ◌++◌, length, take, drop}
-use Rattle.std.specs.Prelude.{sum_by}
+use Rattle.std.specs.Prelude.{◌≡◌, ◌⊎◌, ℕ, ◌<◌, ◌≤◌, ◌-◌, ◌/◌, List, [], ◌∷◌, ◌++◌, length, take}
+use Rattle.std.specs.Prelude.{drop, min, sum_by}
 use Rattle.otel_sdk_base.specs.Resource.{Parts}
 use Rattle.otel_otlp.specs.Groups.{BatchForm, batch_value}
 use Rattle.otel_otlp.specs.Json.{IsTextOf}
@@ -24,22 +24,36 @@ pub record Box (R : Type 0) : Type 0 where
   pub waiting : List (PartOf R)
 
 -- ---- counts
--- how many items the collector rejected, and how many were given up
-abbrev pub rejected_by : End → ℕ
-rejected_by (Taken rejected) = rejected
-rejected_by GivenUp = 0
+-- how many of the items of a part, which are so many, the collector has: it took the part, and
+-- didn't reject them
+abbrev pub received_by : End → ℕ → ℕ
+received_by (Taken rejected) count = count - rejected
+received_by GivenUp count = 0
 
+-- how many it rejected, which aren't more, whatever it says
+abbrev pub rejected_by : End → ℕ → ℕ
+rejected_by (Taken rejected) count = min rejected count
+rejected_by GivenUp count = 0
+
+-- how many were given up
 abbrev pub given_up_by : End → ℕ → ℕ
 given_up_by (Taken rejected) count = 0
 given_up_by GivenUp count = count
 
 module _ {R : Type 0} where
-  -- the items of these parts that the collector rejected, and those that were given up
+  -- the items of these parts that the collector has, that it rejected, and that were given up
+  abbrev pub count_received : List (LeftOf R) → ℕ
+  count_received = sum_by (λ l. received_by l.end (length l.items))
+
   abbrev pub count_rejected : List (LeftOf R) → ℕ
-  count_rejected = sum_by (λ l. rejected_by l.end)
+  count_rejected = sum_by (λ l. rejected_by l.end (length l.items))
 
   abbrev pub count_given_up : List (LeftOf R) → ℕ
   count_given_up = sum_by (λ l. given_up_by l.end (length l.items))
+
+  -- the items of these parts, which wait
+  abbrev pub count_waiting : List (PartOf R) → ℕ
+  count_waiting = sum_by (λ p. length p.items)
 
   -- the part that waits first has left
   abbrev pub leave : End → PartOf R → Box R → Box R

@@ -1,5 +1,5 @@
 -- What an exporter counts of the items that don't arrive, and the collector's last message.
-use Rattle.std.specs.Prelude.{ℕ, ◌+◌, List, Option, Some, None, option_map, string_bytes}
+use Rattle.std.specs.Prelude.{ℕ, ◌+◌, min, List, Option, Some, None, option_map, string_bytes}
 use Rattle.opentelemetry.specs.Clock.{within_u64}
 use Rattle.otel_otlp.specs.declared.otlp_http.response.Partial.{Partial}
 
@@ -24,11 +24,12 @@ abbrev pub rejected_in : Option Partial → ℕ
 rejected_in None = 0
 rejected_in (Some p) = p.rejected
 
--- the collector has taken a request, and its response says this; `None` if it couldn't be read
-abbrev pub after_taken : Option Partial → TallyOf → TallyOf
-after_taken None t = record t { unread_responses = within_u64 (t.unread_responses + 1) }
-after_taken (Some p) t = record t {
-  rejected = within_u64 (t.rejected + p.rejected);
+-- the collector has taken a request with this many items, and its response says this; `None` if it
+-- couldn't be read; not more items are rejected than there were
+abbrev pub after_taken : ℕ → Option Partial → TallyOf → TallyOf
+after_taken count None t = record t { unread_responses = within_u64 (t.unread_responses + 1) }
+after_taken count (Some p) t = record t {
+  rejected = within_u64 (t.rejected + min p.rejected count);
   last_message = latest (option_map string_bytes p.message) t.last_message;
 }
 

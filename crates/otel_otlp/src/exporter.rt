@@ -11,10 +11,11 @@ use crate::groups::{Grouped, batch_text};
 use crate::lines::Lines;
 use otel_sdk_base::error::{OTelSdkError, OTelSdkResult};
 use otel_sdk_base::resource::Resource;
-use otel_sdk_base::{Accepted, Exporter, WriterCalls};
+use otel_sdk_base::{Accepted, Exporter, Losses, WriterCalls};
 use otel_sdk_logs::LogData;
 use otel_sdk_span::SpanData;
 use std::alloc::{AllocError, Global};
+use std::default::Default;
 use std::io::Write;
 use std::marker::Model;
 use std::rc::Rc;
@@ -246,5 +247,15 @@ impl<W: WriterCalls + Drop, R: Grouped> Exporter<R> for OtlpJsonExporter<W, R> {
         ensures { self.new ≡ record self.old { resource = rc_value resource } }
     {
         self.resource = resource;
+    }
+
+    /// Returns that nothing is lost: an accepted batch is written.
+    fn losses(&self) -> Losses {
+        Losses::default()
+    }
+
+    /// Returns `None`: a writer says nothing.
+    fn last_message(&self) -> Option<&str> {
+        None
     }
 }

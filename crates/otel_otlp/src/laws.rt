@@ -1,10 +1,14 @@
 //! Laws of the definitions, each the contract of a function that does nothing.
+ghost use Rattle.std.specs.Prelude.{ℕ, List};
+ghost use Rattle.otel_otlp.specs.HttpExporter.{RecordsAreCounted, Sending, ShutdownKeepsAccepted};
 ghost use Rattle.otel_otlp.specs.Lossless.{EqualValuesSaySame, EqualGroupsNameSame};
 ghost use Rattle.otel_otlp.specs.Lossless.{EqualBatchesSaySame, EqualTextsSaySame};
 ghost use Rattle.otel_otlp.specs.LogsReadBack.{RecordBatchesReadBack, RecordsReadBack};
 ghost use Rattle.otel_otlp.specs.LogsReadBack.{RecordBatchesAreShallow};
 ghost use Rattle.otel_otlp.specs.ReadBack.{BatchesReadBack, SpansReadBack};
 ghost use Rattle.otel_otlp.specs.Trees.{UncountedTreesAreWhole};
+
+use crate::otlp_http::{ClockCalls, HttpClient};
 
 /// States that spans with equal values have the same ids, the parent's too, the same flags, kind,
 /// name, times and status, the same attributes, events and links, the same counts of what was
@@ -76,4 +80,13 @@ pub fn record_batches_are_shallow()
 /// counted as cut.
 pub fn uncounted_trees_are_whole()
     ensures { UncountedTreesAreWhole }
+{}
+
+/// States that each record of the batches that an [`crate::OtlpHttpExporter`] has accepted is
+/// counted once: the collector took it and didn't reject it, or it is among the exporter's losses,
+/// for one cause. A shutdown changes no accepted batch.
+pub fn records_are_counted<C: HttpClient, R, K: ClockCalls>()
+    ensures counted { (s : Sending C R) → RecordsAreCounted s }
+    ensures kept { (name : List ℕ) (s : Sending C R)
+        → ShutdownKeepsAccepted C.sent C.answers K.shows name s }
 {}

@@ -3,6 +3,7 @@ mod DrawLemmas
 mod EnvLemmas
 mod EnvVariableLemmas
 mod ListedFields
+mod LossLemmas
 mod Outcomes
 mod ParentLemmas
 mod RateLemmas

@@ -1,8 +1,9 @@
 -- Readings of a clock while time is left, and tries between them.
-use Rattle.std.proofs.Common.{◌≡◌, ℕ, suc, Bool, ◌+◌, ◌<◌, ◌≤◌, ap, sym, subst, arith, Result, Ok, Err, IsErr, OnErr, false, true}
-use Rattle.otel_sdk.specs.LastExport.{Finishes, HasGivenUp, HasWaited, IsLast, StoodStill, TimeLeft, Tries, Waits, again, nanos_of, outcome_of, read_again, with_moment}
+use Rattle.std.proofs.Common.{◌≡◌, ℕ, suc, Bool, ◌+◌, ◌<◌, ◌≤◌, List, Option, ap, sym, subst, arith, Result, Ok, Err, IsErr, OnErr, false, true}
+use Rattle.otel_sdk.specs.LastExport.{Finishes, HasGivenUp, HasWaited, IsLast, IsOutcome, StoodStill, TimeLeft, Tries, Waits, again, nanos_of, read_again, with_moment}
 use Rattle.otel_sdk.specs.declared.trace.tracing.last_export.Unfinished.{Unfinished}
 use Rattle.otel_sdk_base.specs.declared.error.OTelSdkError.{OTelSdkError}
+use Rattle.otel_sdk_base.specs.declared.losses.Losses.{Losses}
 
 pub no_reading : (reads : ℕ → Type 0) (last : ℕ) → StoodStill reads 0 last
 unfolding StoodStill
@@ -45,11 +46,12 @@ module _ {T : Type 0} (Shuts : Result ℕ OTelSdkError → T → T → Type 0) (
   }
 
   -- the last shutdown of a timer with all of its time
-  pub finishes : (dropped : T → ℕ) (millis : ℕ) (start : TimeLeft) (shutdown : Result ℕ OTelSdkError)
-      (answer : Result (Unit {0}) Unfinished) (old new : T) → reads start.last → start.left ≡ nanos_of millis
-      → IsLast Shuts is_closed reads start shutdown old new → answer ≡ outcome_of shutdown (dropped new)
-      → Finishes Shuts is_closed reads dropped millis answer old new
-  finishes dropped millis start shutdown answer old new shown left last outcome = record {
+  pub finishes : (lost : T → Losses) (said : T → Option (List ℕ)) (millis : ℕ) (start : TimeLeft)
+      (shutdown : Result ℕ OTelSdkError) (answer : Result (Unit {0}) Unfinished) (old new : T)
+      → reads start.last → start.left ≡ nanos_of millis
+      → IsLast Shuts is_closed reads start shutdown old new → IsOutcome shutdown (lost new) (said new) answer
+      → Finishes Shuts is_closed reads lost said millis answer old new
+  finishes lost said millis start shutdown answer old new shown left last outcome = record {
     moment = start.last;
     shown = shown;
     shutdown = shutdown;

@@ -7,6 +7,7 @@ use Rattle.otel_base.specs.KeyValue.{Attribute}
 use Rattle.otel_base.specs.Value.{text}
 use Rattle.otel_context.specs.BaggageMember.{Member, member_of}
 use Rattle.otel_context.specs.Context.{ContextRecord}
+use Rattle.otel_sdk_base.specs.Losses as losses
 use Rattle.otel_sdk_base.specs.Queue.{one_more}
 use Rattle.otel_sdk_span.specs.Span.{SpanState, after_attribute, is_recording}
 use Rattle.otel_sdk.specs.Processor.{ProcessorCalls}
@@ -58,6 +59,8 @@ baggage_calls = record {
   IsEmpty = λ _. Unit {0};
   dropped = λ _. 0;
   queued = λ _. 0;
+  losses = λ _. losses.none;
+  last_message = λ _. None;
   AccountsFor = λ _ _. Unit {0};
 }
 

@@ -1,11 +1,13 @@
 -- The last export of a value that traces, which is tried again for some time. Not in the Rust
 -- crate.
-use Rattle.std.specs.Prelude.{◌≡◌, ◌≢◌, ◌⊎◌, ◌<◌, ◌≤◌, ◌-◌, ◌*◌, ◌==◌, ℕ, zero, suc, Bool}
-use Rattle.std.specs.Prelude.{Result, Ok, Err, OnErr, false, if◌then◌else◌, refl}
+use Rattle.std.specs.Prelude.{◌≡◌, ◌≢◌, ◌⊎◌, ◌<◌, ◌≤◌, ◌-◌, ◌*◌, ℕ, zero, suc, Bool, List, Option}
+use Rattle.std.specs.Prelude.{Result, Ok, Err, IfOk, IsOk, OnErr, None, false, option_map, refl}
+use Rattle.std.specs.Prelude.{string_bytes}
+use Rattle.std.specs.Result.{result_err}
 use Rattle.otel_sdk.specs.declared.trace.tracing.last_export.Unfinished.{Unfinished}
-use Rattle.otel_sdk.specs.declared.trace.tracing.last_export.Unfinished.TheVariants.{Dropped}
-use Rattle.otel_sdk.specs.declared.trace.tracing.last_export.Unfinished.TheVariants.{Refused}
+use Rattle.otel_sdk_base.specs.Losses as losses
 use Rattle.otel_sdk_base.specs.declared.error.OTelSdkError.{OTelSdkError}
+use Rattle.otel_sdk_base.specs.declared.losses.Losses.{Losses}
 
 -- the nanoseconds of these milliseconds
 abbrev pub nanos_of : ℕ → ℕ
@@ -19,10 +21,20 @@ pause = 100000000
 abbrev pub still : ℕ
 still = 10000000
 
--- the outcome of the last shutdown, before which this many spans were dropped
-abbrev pub outcome_of : Result ℕ OTelSdkError → ℕ → Result (Unit {0}) Unfinished
-outcome_of (Err error) dropped = Err (Refused error)
-outcome_of (Ok count) dropped = if dropped == 0 then Ok tt else Err (Dropped dropped)
+-- The error names the spans that are lost after the last shutdown, the error of that shutdown if it
+-- failed, and the last message of a receiver, unless memory ran out.
+pub record Tells (shutdown : Result ℕ OTelSdkError) (lost : Losses) (message : Option (List ℕ))
+    (told : Unfinished) : Type 0 where
+  pub numbers : told.losses ≡ lost
+  pub failed : told.error ≡ result_err shutdown
+  pub said : IfOk told.message (λ copy. option_map string_bytes copy ≡ message)
+
+-- the outcome is `Ok` if and only if the last shutdown succeeded, and no span is lost
+abbrev pub IsOutcome : Result ℕ OTelSdkError → Losses → Option (List ℕ)
+    → Result (Unit {0}) Unfinished → Type 0
+IsOutcome shutdown lost message (Ok _) = IsOk shutdown × (lost ≡ losses.none)
+IsOutcome shutdown lost message (Err told) =
+    Tells shutdown lost message told × (IsOk shutdown → lost ≢ losses.none)
 
 -- ---- time
 
@@ -85,21 +97,26 @@ module _ {T : Type 0} (Shuts : Result ℕ OTelSdkError → T → T → Type 0) (
     pub gave_up : OnErr answer (is_closed new ≡ false → HasGivenUp reads time)
 
   -- The clock was read, and then the shutdown was tried until one succeeded, or the last one
-  -- failed (`finish`).
-  pub record Finishes (dropped : T → ℕ) (millis : ℕ) (answer : Result (Unit {0}) Unfinished)
-      (old new : T) : Type 0 where
+  -- failed (`finish`). Afterwards the spans are lost that `lost` counts, and `said` is the last
+  -- message of a receiver.
+  pub record Finishes (lost : T → Losses) (said : T → Option (List ℕ)) (millis : ℕ)
+      (answer : Result (Unit {0}) Unfinished) (old new : T) : Type 0 where
     pub moment : ℕ
     pub shown : reads moment
     pub shutdown : Result ℕ OTelSdkError
     pub last : IsLast (record { last = moment; left = nanos_of millis }) shutdown old new
-    pub outcome : answer ≡ outcome_of shutdown (dropped new)
+    pub outcome : IsOutcome shutdown (lost new) (said new) answer
 
 -- ---- worked rows
-dropped_example : outcome_of (Ok 0) 3 ≡ Err (Dropped 3)
-dropped_example = refl
+abbrev three_dropped : Losses
+three_dropped = record { rejected = 0; given_up = 0; dropped = 3; held = 0 }
 
-all_arrived_example : outcome_of (Ok 2) 0 ≡ Ok tt
-all_arrived_example = refl
+dropped_example : Tells (Ok 0) three_dropped None
+    (record { losses = three_dropped; error = None; message = Ok None })
+dropped_example = record { numbers = refl; failed = refl; said = refl }
+
+all_arrived_example : IsOutcome (Ok 2) losses.none None (Ok tt)
+all_arrived_example = (refl, refl)
 
 -- a clock that was set back by 5 doesn't make the time longer
 set_back_example : with_moment 15 (record { last = 20; left = 7 })

@@ -13,6 +13,7 @@ pub mod ExportSchedule
 pub mod Exports
 pub mod IdGenerator
 pub mod LastExport
+pub mod LossLaws
 pub mod ParentBased
 pub mod Parents
 pub mod Processor

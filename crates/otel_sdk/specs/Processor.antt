@@ -3,14 +3,17 @@ use Rattle.std.specs.Prelude.{◌≡◌, ◌⊎◌, ◌^◌, ◌-◌, ◌+◌, �
 use Rattle.std.specs.Prelude.{length, map, max, min, filter, Option, Some, None, Result, Ok, Err}
 use Rattle.std.specs.Prelude.{MatchBool, if◌then◌else◌, option_map, ◌==◌}
 use Rattle.std.specs.List.{filter_map, flat_map}
+use Rattle.std.specs.Option.{option_or}
 use Rattle.otel_context.specs.Context.{ContextRecord}
 use Rattle.otel_ids.specs.TraceFlags as flags
 use Rattle.opentelemetry.specs.SpanSource.{SpanIds}
 use Rattle.otel_sdk_base.specs.Export.{Calls, WasShutDown, items_of}
+use Rattle.otel_sdk_base.specs.Losses as losses
 use Rattle.otel_sdk_base.specs.Queue.{IsForceFlushed, IsShutDown, QueueState, TellsResource}
 use Rattle.otel_sdk_base.specs.Queue.{after_add, counted, has_space, received_of}
 use Rattle.otel_sdk_base.specs.Resource.{Parts}
 use Rattle.otel_sdk_base.specs.declared.error.OTelSdkError.{OTelSdkError}
+use Rattle.otel_sdk_base.specs.declared.losses.Losses.{Losses}
 use Rattle.otel_sdk_span.specs.Span.{SpanState}
 use Rattle.otel_sdk_span.specs.SpanData.{SpanRecord}
 
@@ -56,6 +59,10 @@ pub record ProcessorCalls (P : Type 0) : Type 1 where
   pub dropped : P → ℕ
   -- how many spans it keeps to hand on
   pub queued : P → ℕ
+  -- how many of the sampled spans that ended the receivers don't have, by cause
+  pub losses : P → Losses
+  -- the last message of a receiver
+  pub last_message : P → Option (List ℕ)
   -- the data of the spans that ended there, in order, is where the processor says
   pub AccountsFor : P → List SpanRecord → Type 0
 
@@ -115,6 +122,8 @@ none_calls = record {
   IsEmpty = λ _. Unit {0};
   dropped = λ _. 0;
   queued = λ _. 0;
+  losses = λ _. losses.none;
+  last_message = λ _. None;
   AccountsFor = λ _ _. Unit {0};
 }
 
@@ -155,10 +164,12 @@ module _ {P : Type 0} where
     IsEmpty = λ p. p.is_off ≡ false → calls.IsEmpty p.processor;
     dropped = λ p. calls.dropped p.processor;
     queued = λ p. calls.queued p.processor;
+    losses = λ p. if p.is_off then losses.none else calls.losses p.processor;
+    last_message = λ p. if p.is_off then None else calls.last_message p.processor;
     AccountsFor = λ p ended. p.is_off ≡ false → calls.AccountsFor p.processor ended;
   }
 
--- two processors in order: each is told of each span, once
+-- two processors in order: each is told of each span, once, and counts what it loses
 abbrev pub pair_calls : {A B : Type 0} → ProcessorCalls A → ProcessorCalls B → ProcessorCalls (A × B)
 pair_calls a b = record {
   starts = λ old parent span new begun. (between : SpanState)
@@ -176,6 +187,8 @@ pair_calls a b = record {
   IsEmpty = λ p. a.IsEmpty p.0 × b.IsEmpty p.1;
   dropped = λ p. min (a.dropped p.0 + b.dropped p.1) (2 ^ 64 - 1);
   queued = λ p. max (a.queued p.0) (b.queued p.1);
+  losses = λ p. losses.saturating_add (a.losses p.0) (b.losses p.1);
+  last_message = λ p. option_or (a.last_message p.0) (b.last_message p.1);
   AccountsFor = λ p ended. a.AccountsFor p.0 ended × b.AccountsFor p.1 ended;
 }
 
@@ -240,6 +253,16 @@ module _ {E : Type 0} where
         ≡ items_of (flat_map accepted p.given) ++ filter_map kept fates
     pub counted : p.queue.dropped ≡ min (length (filter_map dropped fates)) (2 ^ 64 - 1)
 
+  -- What the exporter lost or still holds, with the spans that were dropped here, and those that
+  -- are queued.
+  abbrev pub losses_of : Calls E → QueueState SpanRecord E → Losses
+  losses_of calls q = losses.saturating_add (calls.losses q.exporter) (record {
+    rejected = 0;
+    given_up = 0;
+    dropped = q.dropped;
+    held = length q.queue;
+  })
+
   -- the same of the queue alone
   abbrev pub OfQueue : (QueueState SpanRecord E → QueueState SpanRecord E → Type 0)
       → BatchState E → BatchState E → Type 0
@@ -289,6 +312,8 @@ module _ {E : Type 0} where
     IsEmpty = λ p. p.queue.is_shut_down ≡ false → p.queue.queue ≡ [];
     dropped = λ p. p.queue.dropped;
     queued = λ p. length p.queue.queue;
+    losses = λ p. losses_of calls p.queue;
+    last_message = λ p. calls.last_message p.queue.exporter;
     AccountsFor = HasReceived accepted calls;
   }
 

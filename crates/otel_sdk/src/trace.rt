@@ -16,8 +16,8 @@ pub use id_generator::{
 };
 pub use in_memory_exporter::{FinishedSpans, InMemorySpanExporter};
 pub use otel_sdk_base::{
-    BatchConfig, BatchConfigBuilder, Clock, CountedClock, Exporter, InMemoryExporter, ManualClock,
-    SystemClock,
+    BatchConfig, BatchConfigBuilder, Clock, CountedClock, Exporter, InMemoryExporter, Losses,
+    ManualClock, SystemClock,
 };
 pub use otel_sdk_span::{SdkSpan, SpanData, SpanEvents, SpanExporter, SpanLimits, SpanLinks};
 pub use processor::SpanProcessor;

@@ -16,7 +16,11 @@ use std::alloc::{AllocError, Global};
 use std::process::ExitCode;
 
 /// Answers the requests, and hands their spans to the exporter.
-fn run<E: SpanExporter, L: Logger>(call: &Call<L>, matches: &ArgMatches<'_>, to: E) -> Result<()> {
+fn run<E: SpanExporter, L: Logger>(
+    call: &Call<L>,
+    matches: &ArgMatches<'_>,
+    to: E,
+) -> Result<ExitCode> {
     let spans = TracingBuilder::new(call.rt).with_env(call.rt.alloc(), call.env)?;
     if matches.get_flag("fixed") {
         // A millisecond from one reading of the clock to the next.
@@ -43,8 +47,19 @@ fn command<'a>(alloc: Global) -> Result<Command<'a>, AllocError> {
         .arg(arg!(in alloc; [FILE] "Appends lines of JSON"))
 }
 
+/// Returns where the arguments send the spans.
+fn outlet<'a>(matches: &'a ArgMatches<'_>) -> &'a str {
+    if matches.get_flag("waterfall") {
+        return "standard error";
+    }
+    match matches.get_str("otlp") {
+        Some(folder) => folder,
+        None => matches.get_str("FILE").unwrap_or("/dev/null"),
+    }
+}
+
 /// Answers the requests with the exporter that the arguments name.
-fn export<L: Logger>(call: &Call<L>, matches: &ArgMatches<'_>) -> Result<()> {
+fn export<L: Logger>(call: &Call<L>, matches: &ArgMatches<'_>) -> Result<ExitCode> {
     let alloc = call.rt.alloc();
     if matches.get_flag("waterfall") {
         let exporter = WaterfallExporter::new(alloc, call.rt.stderr());
@@ -54,8 +69,7 @@ fn export<L: Logger>(call: &Call<L>, matches: &ArgMatches<'_>) -> Result<()> {
         let exporter = pipe_exporter(alloc, call.rt, folder, &call.env.otlp_traces)?;
         return run(call, matches, exporter);
     }
-    let path = matches.get_str("FILE").unwrap_or("/dev/null");
-    let file = AppendFile::new(call.rt, String::from_str(alloc, path)?);
+    let file = AppendFile::new(call.rt, String::from_str(alloc, call.to)?);
     run(call, matches, OtlpJsonSpanExporter::new(alloc, file)?)
 }
 
@@ -67,8 +81,9 @@ fn answer(rt: HostRuntime, env: &EnvConfig, matches: &ArgMatches<'_>) -> Result<
         propagator: &env.propagator(rt.alloc())?,
         log: &logger(rt, env)?,
         is_lines: matches.get_flag("headers"),
+        to: outlet(matches),
     };
-    export(&call, matches).map(|_| ExitCode::SUCCESS)
+    export(&call, matches)
 }
 
 /// Reads the configuration from the environment, and answers the requests.

@@ -12,10 +12,12 @@ use otel_appender_log::OpenTelemetryLogBridge;
 use otel_http::{HeaderExtractor, HeaderInjector, add_header_line};
 use otel_otlp::OtlpJsonLogExporter;
 use otel_sdk::env::{ConfiguredPropagator, EnvConfig};
+use otel_sdk::error::OTelSdkResult;
 use otel_sdk::logs::{SimpleLogProcessor, SimpleLogger};
 use otel_sdk::trace::{ExportSchedule, Exports, SystemClock, finish};
 use std::alloc::AllocError;
 use std::io::{self, Read, Stderr, Write};
+use std::process::ExitCode;
 
 /// The name of the service.
 pub const NAME: &str = "otel_service";
@@ -42,6 +44,8 @@ pub struct Call<'a, L> {
     pub log: &'a OpenTelemetryLogBridge<L>,
     /// Whether a request is lines of headers.
     pub is_lines: bool,
+    /// Where the spans go: a path, a folder of pipes, or standard error.
+    pub to: &'a str,
 }
 
 /// Makes the log.
@@ -75,16 +79,17 @@ fn answer_http(rt: HostRuntime, service: &mut impl HttpService) -> Result<()> {
 // Called by `serve`, which is generic over both types: the borrow checker covers no call of a
 // function that names `Call`, and so `'static`, for a value whose type holds other lifetimes too.
 pub trait Answers<T> {
-    /// Answers the requests of standard input, exports their spans, and logs them.
+    /// Answers the requests of standard input, exports their spans, and logs them. Returns a failure
+    /// if spans are lost, which standard error tells.
     ///
     /// # Errors
     ///
-    /// The reason why the input isn't read, an answer isn't written, or spans are lost.
-    fn answer_all(self, tracing: T) -> Result<()>;
+    /// The reason why the input isn't read, or an answer isn't written.
+    fn answer_all(self, tracing: T) -> Result<ExitCode>;
 }
 
 impl<'a, T: Exports + Drop, L: Logger> Answers<T> for &'a Call<'a, L> {
-    fn answer_all(self, tracing: T) -> Result<()> {
+    fn answer_all(self, tracing: T) -> Result<ExitCode> {
         Service::serve(self, tracing)
     }
 }
@@ -94,7 +99,7 @@ impl<'a, T: Exports + Drop, L: Logger> Answers<T> for &'a Call<'a, L> {
 /// # Errors
 ///
 /// As [`Answers::answer_all`].
-pub fn serve<C: Answers<T>, T>(call: C, tracing: T) -> Result<()> {
+pub fn serve<C: Answers<T>, T>(call: C, tracing: T) -> Result<ExitCode> {
     call.answer_all(tracing)
 }
 
@@ -107,7 +112,7 @@ pub struct Service<'a, T, L> {
     pub tracing: T,
     /// Says when they are exported.
     pub schedule: ExportSchedule,
-    /// Whether a failed export was told.
+    /// Whether a failed export, or a loss, was told.
     pub is_told: bool,
 }
 
@@ -117,7 +122,7 @@ impl<'a, T: Exports + Drop, L: Logger> Service<'a, T, L> {
     /// # Errors
     ///
     /// As [`Answers::answer_all`].
-    fn serve(call: &'a Call<'a, L>, tracing: T) -> Result<()> {
+    fn serve(call: &'a Call<'a, L>, tracing: T) -> Result<ExitCode> {
         let clock = SystemClock::new(call.rt);
         let mut service = Service {
             call,
@@ -129,8 +134,12 @@ impl<'a, T: Exports + Drop, L: Logger> Service<'a, T, L> {
             true => service.answer_lines(call.rt.stdin(), &mut call.rt.stdout()),
             false => answer_http(call.rt, &mut service),
         };
-        finish(&mut service.tracing, &clock, &call.env.span_batches)?;
-        answered
+        if let Err(error) = finish(&mut service.tracing, &clock, &call.env.span_batches) {
+            // Not an error of `anyhow`, which is cut off after some 100 characters.
+            eprintln!(call.rt; "Error: {}: {error}", call.to)?;
+            return answered.map(|_| ExitCode::FAILURE);
+        }
+        answered.map(|_| ExitCode::SUCCESS)
     }
 
     /// Answers requests of the path `/cart` whose headers are lines. Empty lines separate them, and
@@ -169,7 +178,8 @@ impl<'a, T: Exports + Drop, L: Logger> Service<'a, T, L> {
         drop(self.show(lines.as_ref().err()));
         drop(span.map(|span| self.tracing.exit(span)));
         self.tracing.detach(caller);
-        self.export();
+        let exported = self.export();
+        drop(self.tell(exported));
         lines
     }
 
@@ -188,15 +198,31 @@ impl<'a, T: Exports + Drop, L: Logger> Service<'a, T, L> {
         Ok(self.tracing.set_status(Status::error(text.into()))?)
     }
 
-    /// Exports the spans if a batch is full, or once a delay has passed since the last export. The
-    /// first failure is told on standard error.
-    fn export(&mut self) {
+    /// Exports the spans if a batch is full, or once a delay has passed since the last export.
+    fn export(&mut self) -> OTelSdkResult {
         let clock = SystemClock::new(self.call.rt);
-        let exported = self.schedule.export_if_due(&mut self.tracing, &clock);
-        if let (Err(error), false) = (exported, self.is_told) {
-            self.is_told = true;
-            drop(eprintln!(self.call.rt; "{error}; the spans wait for another try"));
+        self.schedule.export_if_due(&mut self.tracing, &clock)
+    }
+
+    /// Tells on standard error that an export failed, or that spans are lost, and what the receiver
+    /// says. Does so once.
+    fn tell(&mut self, exported: OTelSdkResult) -> Result<()> {
+        let (rt, to) = (self.call.rt, self.call.to);
+        let losses = self.tracing.processors().losses();
+        let is_well = exported.is_ok() && losses.total() == losses.held;
+        if is_well || self.is_told {
+            return Ok(());
         }
+        self.is_told = true;
+        let said = match self.tracing.processors().last_message() {
+            Some(message) => format!(in rt.alloc(); "; the receiver says: {message:?}")?,
+            None => String::new(rt.alloc()),
+        };
+        match exported {
+            Ok(()) => eprintln!(rt; "{to}: spans are lost{said}; so far {losses}")?,
+            Err(error) => eprintln!(rt; "{to}: {error}{said}; so far {losses}")?,
+        }
+        Ok(())
     }
 
     /// Does the work of a request in two spans. Returns the headers that are sent on, as lines.

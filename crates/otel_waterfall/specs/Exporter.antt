@@ -1,11 +1,12 @@
 -- Contracts' view of an exporter that draws spans. Not in the Rust crates.
 use Rattle.std.specs.Prelude.{◌≡◌, ◌⊎◌, ◌<◌, ℕ, Bool, true, false, List, [], length, take, codes}
 use Rattle.std.specs.Prelude.{string_bytes}
-use Rattle.std.specs.Prelude.{Option, Result, Ok, Err, is_ok, ⊤, alloc_error}
+use Rattle.std.specs.Prelude.{Option, Result, Ok, Err, is_ok, ⊤, alloc_error, None}
 use Rattle.std.specs.Prelude.{IsTrue, IsErrOf, IfErr}
 use Rattle.std.specs.Io.KnownBytes.{Appends, Keeps}
 use Rattle.std.specs.declared.io.Error.{Error}
 use Rattle.otel_sdk_base.specs.Export.{Calls}
+use Rattle.otel_sdk_base.specs.Losses as losses
 use Rattle.otel_sdk_base.specs.Writers.{FlushesOnce, FailsWith, IsWritersError}
 use Rattle.otel_sdk_base.specs.declared.error.OTelSdkError.{OTelSdkError}
 use Rattle.otel_sdk_base.specs.declared.error.OTelSdkError.TheVariants as error
@@ -79,6 +80,8 @@ exporter_calls contents may_write flushed = record {
       × (new ≡ record old { output = new.output; is_shut_down = true });
   takes_resource = λ old _ new. new ≡ old;
   flushed = λ _ _. Unit {0};
+  losses = λ _. losses.none;
+  last_message = λ _. None;
 }
 
 -- ---- pictures

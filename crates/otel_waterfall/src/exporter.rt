@@ -16,9 +16,10 @@ use crate::drawn::drawn;
 use crate::pictures::picture;
 use otel_sdk_base::error::{OTelSdkError, OTelSdkResult};
 use otel_sdk_base::resource::Resource;
-use otel_sdk_base::{Accepted, Exporter, WriterCalls};
+use otel_sdk_base::{Accepted, Exporter, Losses, WriterCalls};
 use otel_sdk_span::SpanData;
 use std::alloc::{AllocError, Global};
+use std::default::Default;
 use std::io::ErrorKind;
 use std::marker::Model;
 use std::rc::Rc;
@@ -331,5 +332,15 @@ impl<W: WriterCalls + Drop> Exporter<SpanData> for WaterfallExporter<W> {
         ensures { self.new ≡ self.old }
     {
         drop(resource);
+    }
+
+    /// Returns that nothing is lost: an accepted batch is written.
+    fn losses(&self) -> Losses {
+        Losses::default()
+    }
+
+    /// Returns `None`: a writer says nothing.
+    fn last_message(&self) -> Option<&str> {
+        None
     }
 }

@@ -23,7 +23,7 @@ use crate::otlp_http::signal::Signal;
 use crate::otlp_http::tally::{Tally, rejected_in};
 use otel_sdk_base::error::{OTelSdkError, OTelSdkResult};
 use otel_sdk_base::resource::Resource;
-use otel_sdk_base::{Accepted, Exporter};
+use otel_sdk_base::{Accepted, Exporter, Losses};
 use otel_sdk_logs::LogData;
 use otel_sdk_span::SpanData;
 use std::alloc::{AllocError, Global};
@@ -159,7 +159,7 @@ impl<C: HttpClient, R: Signal, S: RandomSource + Drop, K: ClockCalls> OtlpHttpEx
     }
 
     /// Returns the client, and drops the parts that wait. They aren't counted as given up:
-    /// [`OtlpHttpExporter::waiting`] tells before how many they are.
+    /// [`Exporter::losses`] tells before how many records they have.
     pub fn into_client(self) -> C
         ensures { result ≡ self.client }
     {
@@ -193,7 +193,8 @@ impl<C: HttpClient, R: Signal, S: RandomSource + Drop, K: ClockCalls> OtlpHttpEx
         self.pause.not_before()
     }
 
-    /// Returns the number of records that the collector rejected, saturating at `u64::MAX`.
+    /// Returns the number of records that the collector rejected, saturating at `u64::MAX`: at most
+    /// all of a part, whatever it says.
     pub fn rejected(&self) -> u64
         ensures { result ≡ self.now.tally.rejected }
     {
@@ -229,8 +230,8 @@ impl<C: HttpClient, R: Signal, S: RandomSource + Drop, K: ClockCalls> OtlpHttpEx
             × (self.old.outbox.waiting ≡ part ∷ self.new.outbox.waiting)
             × (self.new ≡ taken part partial self.old) }
     {
-        let _ = self.outbox.leave(End::Taken(rejected_in(&partial)));
-        self.tally.take(partial);
+        let count = self.outbox.leave(End::Taken(rejected_in(&partial)));
+        self.tally.take(count, partial);
         self.pause.restart();
     }
 
@@ -419,5 +420,20 @@ impl<C: HttpClient, R: Signal, S: RandomSource + Drop, K: ClockCalls> Exporter<R
         ensures { self.new ≡ record self.old { resource = rc_value resource } }
     {
         self.resource = resource;
+    }
+
+    /// Returns how many records the collector rejected, how many were given up, and how many wait.
+    fn losses(&self) -> Losses {
+        Losses {
+            rejected: self.tally.rejected(),
+            given_up: self.tally.given_up(),
+            dropped: 0,
+            held: self.outbox.count(),
+        }
+    }
+
+    /// Returns the collector's last message.
+    fn last_message(&self) -> Option<&str> {
+        self.tally.last_message()
     }
 }

@@ -1,7 +1,8 @@
 //! The parts that wait for the collector.
 ghost use Rattle.std.specs.Prelude.{◌≡◌, [], ◌∷◌, List, length};
+ghost use Rattle.opentelemetry.specs.Clock.{within_u64};
 ghost use Rattle.otel_sdk_base.specs.Export.{items_of};
-ghost use Rattle.otel_otlp.specs.HttpPart.{PartOf, leave};
+ghost use Rattle.otel_otlp.specs.HttpPart.{PartOf, count_waiting, leave};
 
 use crate::otlp_http::part::Part;
 use otel_sdk_base::Accepted;
@@ -74,6 +75,17 @@ impl<R: Drop> Outbox<R> {
         ensures { result ≡ length self.now.waiting }
     {
         self.parts.len()
+    }
+
+    /// Returns the number of items of the parts that wait. Stops at the maximum `u64`.
+    pub(crate) fn count(&self) -> u64
+        ensures { result ≡ within_u64 (count_waiting self.now.waiting) }
+    {
+        let mut count = 0u64;
+        for part in &self.parts {
+            count = count.saturating_add(part.count());
+        }
+        count
     }
 
     /// Returns the part that waits first.

@@ -95,14 +95,15 @@ impl Tally {
         }
     }
 
-    /// Counts what the response to a request that the collector has taken says; `None` if it
-    /// couldn't be read.
-    pub(crate) fn take(&mut self, partial: Option<Partial>)
-        ensures { self.new ≡ spec.after_taken partial self.old }
+    /// Counts what the response to a request with this many items says, which the collector has
+    /// taken; `None` if it couldn't be read.
+    pub(crate) fn take(&mut self, count: u64, partial: Option<Partial>)
+        ensures { self.new ≡ spec.after_taken count partial self.old }
     {
         match partial {
             Some(partial) => {
-                self.rejected = self.rejected.saturating_add(partial.rejected);
+                let rejected = partial.rejected.min(count);
+                self.rejected = self.rejected.saturating_add(rejected);
                 self.keep(partial.message);
             }
             None => self.unread_responses = self.unread_responses.saturating_add(1),

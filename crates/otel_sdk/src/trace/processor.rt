@@ -1,5 +1,6 @@
 //! Processors of spans, which are told of each span, and pass the ended ones to an exporter.
 ghost use Rattle.std.specs.Prelude.{◌≡◌, IfOk, IsTrue, OnOk, false, true};
+ghost use Rattle.std.specs.Option.{option_copied};
 ghost use Rattle.std.specs.Rc.{rc_value};
 ghost use Rattle.otel_sdk.specs.Processor.{AddsToAccount, KeepsAccount, ids_of};
 ghost use Rattle.otel_sdk_span.specs.SpanData.{SpanRecord};
@@ -11,6 +12,7 @@ mod list;
 pub(crate) mod simple;
 
 use opentelemetry::Context;
+use otel_sdk_base::Losses;
 use otel_sdk_base::error::OTelSdkResult;
 use otel_sdk_base::resource::Resource;
 use otel_sdk_span::{SdkSpan, SpanData};
@@ -104,6 +106,17 @@ pub trait SpanProcessor: Drop {
     /// Returns the number of spans that the processor keeps to hand on: of several, the maximum.
     fn queued_spans(&self) -> usize
         ensures { result ≡ calls.queued self.now };
+
+    /// Returns how many of the sampled spans that ended the receivers don't have, by cause: what
+    /// its exporter lost or still holds, the spans that were dropped here, and those that are
+    /// queued. Of several processors, the sum.
+    fn losses(&self) -> Losses
+        ensures { result ≡ calls.losses self.now };
+
+    /// Returns the last message of the exporter's receiver, such as why it rejected spans: of
+    /// several processors, the first one's that has any.
+    fn last_message(&self) -> Option<&str>
+        ensures { option_copied result ≡ calls.last_message self.now };
 
     /// Tells the exporter the resource of later spans, unless it was shut down.
     ///

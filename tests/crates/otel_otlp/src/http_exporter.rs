@@ -14,10 +14,11 @@ use otel_otlp::{
 };
 use otel_sdk::trace::{BatchConfigBuilder, BatchSpanProcessor, SpanData, SpanProcessor};
 use otel_sdk_base::error::{OTelSdkError, OTelSdkResult};
-use otel_sdk_base::{Exporter, SystemClock};
+use otel_sdk_base::{Exporter, Losses, SystemClock};
 use serde_json::Value;
 use std::alloc::Global;
 use std::cell::Cell;
+use std::default::Default;
 use std::rc::Rc;
 use std::test::Fail;
 
@@ -118,6 +119,11 @@ fn digits(alloc: Global, bodies: &[Vec<u8>]) -> Result<String, Fail> {
     Ok(digits)
 }
 
+// What any exporter tells of the spans that its receiver doesn't have.
+fn lost(exporter: &impl Exporter<SpanData>) -> (Losses, Option<&str>) {
+    (exporter.losses(), exporter.last_message())
+}
+
 #[test]
 fn a_batch_leaves_or_stays(rt: HostRuntime) -> Result<(), Fail> {
     let alloc = rt.alloc();
@@ -130,6 +136,13 @@ fn a_batch_leaves_or_stays(rt: HostRuntime) -> Result<(), Fail> {
         assert_eq!(rt; exporter.given_up(), counts.1, "{place}");
         assert_eq!(rt; exporter.unread_responses(), counts.2, "{place}");
         assert_eq!(rt; exporter.last_message(), counts.3, "{place}");
+        let losses = Losses {
+            rejected: counts.0,
+            given_up: counts.1,
+            dropped: 0,
+            held: if stays.is_some() { 5 } else { 0 },
+        };
+        assert!(rt; lost(&exporter) == (losses, counts.3), "{place}");
         let flushed = exporter.force_flush();
         assert_eq!(rt; error_of(&flushed), stays.unwrap_or(""), "{place}");
         let bodies = exporter.client().bodies.as_slice();
@@ -287,6 +300,61 @@ fn a_part_that_was_taken_is_not_sent_again(rt: HostRuntime) -> Result<(), Fail> 
     let bodies = exporter.client().bodies.as_slice();
     assert_eq!(rt; digits(alloc, bodies)?.as_str(), "1,2,2,3,4,");
     assert_eq!(rt; exporter.given_up(), 1);
+    Ok(())
+}
+
+/// Of the spans 1 to 4, each of which is a part, the collector takes the first, rejects the second,
+/// refuses the third for good, and the fourth for now. The exporter tells of the last three, also
+/// after its shutdown.
+#[test]
+fn each_span_that_is_lost_is_told_once(rt: HostRuntime) -> Result<(), Fail> {
+    let alloc = rt.alloc();
+    let moment = Cell::new(NOW);
+    let rejects = "{\"partialSuccess\":{\"rejectedSpans\":\"1\",\"errorMessage\":\"m\"}}";
+    let replies = [
+        Reply::Response(200, None, "{}"),
+        Reply::Response(200, None, rejects),
+        Reply::Response(400, None, "{\"message\":\"bad\"}"),
+        Reply::Response(503, None, ""),
+        Reply::Response(503, None, ""),
+    ];
+    let mut exporter = exporter(alloc, &replies, &moment, length_of_one(alloc)?)?;
+    let none = (Losses::default(), None);
+    assert!(rt; lost(&exporter) == none);
+    exporter.export(&spans(alloc, 1, 5)?)?;
+    let losses = Losses {
+        rejected: 1,
+        given_up: 1,
+        dropped: 0,
+        held: 1,
+    };
+    assert!(rt; lost(&exporter) == (losses, Some("bad")));
+    moment.set(NOW + SECOND);
+    assert!(rt; exporter.shutdown().is_err());
+    assert!(rt; lost(&exporter) == (losses, Some("bad")));
+    Ok(())
+}
+
+/// A collector may say that it rejected more spans than it was sent.
+#[test]
+fn not_more_spans_are_rejected_than_were_sent(rt: HostRuntime) -> Result<(), Fail> {
+    let alloc = rt.alloc();
+    for (said, rejected) in [
+        ("{\"partialSuccess\":{\"rejectedSpans\":4}}", 4),
+        ("{\"partialSuccess\":{\"rejectedSpans\":5}}", 5),
+        ("{\"partialSuccess\":{\"rejectedSpans\":6}}", 5),
+        (
+            "{\"partialSuccess\":{\"rejectedSpans\":\"9223372036854775807\"}}",
+            5,
+        ),
+    ] {
+        let moment = Cell::new(NOW);
+        let replies = [Reply::Response(200, None, said)];
+        let mut exporter = exporter(alloc, &replies, &moment, 4_194_304)?;
+        exporter.export(&spans(alloc, 1, 6)?)?;
+        assert_eq!(rt; lost(&exporter).0.total(), rejected, "{said}");
+        assert_eq!(rt; exporter.rejected(), rejected, "{said}");
+    }
     Ok(())
 }
 

@@ -4,10 +4,11 @@ use opentelemetry::{Context, Key, KeyValue, StringValue, Value};
 use otel_sdk::error::{OTelSdkError, OTelSdkResult};
 use otel_sdk::resource::Resource;
 use otel_sdk::trace::{
-    BaggageSpanProcessor, Build, Exports, FinishedSpans, InMemorySpanExporter, SdkSpan, SpanData,
-    SpanLimits, SpanProcessor, TracingBuilder, WithExporter, WithProcessor,
+    BaggageSpanProcessor, Build, Exports, FinishedSpans, InMemorySpanExporter, Losses, SdkSpan,
+    SpanData, SpanLimits, SpanProcessor, TracingBuilder, WithExporter, WithProcessor,
 };
 use std::alloc::{AllocError, Global};
+use std::default::Default;
 use std::rc::Rc;
 use std::test::Fail;
 use test_support::{Member, baggage_of, span_data};
@@ -197,7 +198,8 @@ struct Begun {
 }
 
 impl SpanProcessor for Begun {
-    ghost use Rattle.std.specs.Prelude.{false, true};
+    ghost use Rattle.std.specs.Prelude.{None, false, true};
+    ghost use Rattle.otel_sdk_base.specs.Losses.{none};
 
     ghost calls = { record {
       starts = λ _ _ _ _ _. Unit {0};
@@ -211,6 +213,8 @@ impl SpanProcessor for Begun {
       IsEmpty = λ _. Unit {0};
       dropped = λ _. 0;
       queued = λ _. 0;
+      losses = λ _. none;
+      last_message = λ _. None;
       AccountsFor = λ _ _. Unit {0};
     } };
 
@@ -249,6 +253,14 @@ impl SpanProcessor for Begun {
 
     fn queued_spans(&self) -> usize {
         0
+    }
+
+    fn losses(&self) -> Losses {
+        Losses::default()
+    }
+
+    fn last_message(&self) -> Option<&str> {
+        None
     }
 
     fn set_resource(&mut self, _resource: &Rc<Resource>) -> Result<(), AllocError> {

@@ -13,12 +13,13 @@ use otel_sdk::logs::{InMemoryLogExporter, SdkLoggerProvider, SimpleLogProcessor}
 use otel_sdk::resource::Resource;
 use otel_sdk::trace::{
     Build, Clock, ConfiguredProcessor, Exporter, ExporterProcessor, Exports, FinishedSpans,
-    IdError, IdGenerator, InMemorySpanExporter, OpenPipeline, SdkTracing, SimpleSpanProcessor,
-    SpanData, SpanProcessor, TracingBuilder, WithExporter, WithProcessor,
+    IdError, IdGenerator, InMemorySpanExporter, Losses, OpenPipeline, SdkTracing,
+    SimpleSpanProcessor, SpanData, SpanProcessor, TracingBuilder, WithExporter, WithProcessor,
 };
 use std::alloc::Global;
 use std::cell::Cell;
 use std::collections::HashMap;
+use std::default::Default;
 use std::rc::Rc;
 use std::test::Fail;
 use test_support::map_of;
@@ -212,7 +213,8 @@ impl Reached {
 }
 
 impl Exporter<SpanData> for Reached {
-    ghost use Rattle.std.specs.Prelude.{[]};
+    ghost use Rattle.std.specs.Prelude.{None, []};
+    ghost use Rattle.otel_sdk_base.specs.Losses.{none};
 
     ghost accepted = { λ _. [] };
 
@@ -222,6 +224,8 @@ impl Exporter<SpanData> for Reached {
       shuts_down = λ _ _ _. Unit {0};
       takes_resource = λ _ _ _. Unit {0};
       flushed = λ _ _. Unit {0};
+      losses = λ _. none;
+      last_message = λ _. None;
     } };
 
     fn export(&mut self, _batch: &[SpanData]) -> OTelSdkResult {
@@ -241,6 +245,14 @@ impl Exporter<SpanData> for Reached {
 
     fn set_resource(&mut self, _resource: Rc<Resource>) {
         self.count();
+    }
+
+    fn losses(&self) -> Losses {
+        Losses::default()
+    }
+
+    fn last_message(&self) -> Option<&str> {
+        None
     }
 }
 

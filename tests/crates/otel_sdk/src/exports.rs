@@ -3,8 +3,8 @@ use opentelemetry::trace::Tracing;
 use otel_sdk::error::OTelSdkResult;
 use otel_sdk::resource::Resource;
 use otel_sdk::trace::{
-    BatchConfig, BatchSpanProcessor, Build, Exporter, Exports, SimpleSpanProcessor, SpanData,
-    SpanProcessor, TracingBuilder, WithExporter, WithProcessor,
+    BatchConfig, BatchSpanProcessor, Build, Exporter, Exports, Losses, SimpleSpanProcessor,
+    SpanData, SpanProcessor, TracingBuilder, WithExporter, WithProcessor,
 };
 use std::alloc::{AllocError, Global};
 use std::default::Default;
@@ -50,6 +50,14 @@ impl Exporter<SpanData> for Noted {
     fn set_resource(&mut self, resource: Rc<Resource>) {
         drop(resource);
         drop(self.calls.push('r'));
+    }
+
+    fn losses(&self) -> Losses {
+        Losses::default()
+    }
+
+    fn last_message(&self) -> Option<&str> {
+        None
     }
 }
 

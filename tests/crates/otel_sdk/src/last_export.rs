@@ -6,11 +6,13 @@ use otel_sdk::error::{OTelSdkError, OTelSdkResult};
 use otel_sdk::resource::Resource;
 use otel_sdk::trace::{
     BatchConfigBuilder, Build, Clock, CountedClock, CountedIdGenerator, Exporter,
-    ExporterProcessor, Exports, ManualClock, OpenPipeline, ParentBased, Sampler, SdkTracing,
-    SpanData, SystemClock, TracingBuilder, Unfinished, WithExporter, finish,
+    ExporterProcessor, Exports, Losses, ManualClock, OpenPipeline, ParentBased, Sampler,
+    SdkTracing, SpanData, SpanProcessor, SystemClock, TracingBuilder, Unfinished, WithExporter,
+    finish,
 };
 use std::alloc::Global;
 use std::cell::Cell;
+use std::default::Default;
 use std::rc::Rc;
 use std::test::Fail;
 
@@ -79,6 +81,14 @@ impl Exporter<SpanData> for Busy {
     fn set_resource(&mut self, resource: Rc<Resource>) {
         drop(resource);
     }
+
+    fn losses(&self) -> Losses {
+        Losses::default()
+    }
+
+    fn last_message(&self) -> Option<&str> {
+        None
+    }
 }
 
 type App = SdkTracing<
@@ -99,6 +109,11 @@ fn app(rt: HostRuntime, exporter: Busy) -> Result<App, Fail> {
 /// The exporter of the value.
 fn exporter(app: &App) -> &Busy {
     app.processors().1.exporter()
+}
+
+/// Whether the last try failed.
+fn has_failed(answer: &Result<(), Unfinished>) -> bool {
+    matches!(answer, Err(unfinished) if unfinished.error.is_some())
 }
 
 /// An export may take this many milliseconds.
@@ -131,7 +146,7 @@ fn a_failed_export_is_tried_again_every_100_milliseconds(rt: HostRuntime) -> Res
         let clock = CountedClock::new(10 * MILLI);
         let answer = finish(&mut app, &clock, &within(*millis));
         assert_eq!(rt; answer.is_ok(), *is_well, "{failures} {millis}");
-        assert_eq!(rt; matches!(answer, Err(Unfinished::Refused(_))), !*is_well);
+        assert_eq!(rt; has_failed(&answer), !*is_well);
         assert_eq!(rt; exporter(&app).flushes, *tries, "{failures} {millis}");
         assert_eq!(rt; exporter(&app).shutdowns, u32::from(*is_well));
         assert_eq!(rt; clock.now(), (*took + 10) * MILLI, "{failures} {millis}");
@@ -144,7 +159,7 @@ fn a_failed_export_is_tried_again_every_100_milliseconds(rt: HostRuntime) -> Res
 fn a_clock_that_has_stopped_allows_no_other_try(rt: HostRuntime) -> Result<(), Fail> {
     let mut app = app(rt, Busy::new(rt.alloc(), 99))?;
     let answer = finish(&mut app, &ManualClock::new(7), &within(30_000));
-    assert!(rt; matches!(answer, Err(Unfinished::Refused(_))));
+    assert!(rt; has_failed(&answer));
     assert_eq!(rt; exporter(&app).flushes, 1);
     Ok(())
 }
@@ -187,7 +202,7 @@ fn after_a_shutdown_nothing_is_tried_again(rt: HostRuntime) -> Result<(), Fail> 
     let mut app = app(rt, stuck)?;
     for _ in 0..2 {
         let answer = finish(&mut app, &CountedClock::new(MILLI), &within(1000));
-        assert!(rt; matches!(answer, Err(Unfinished::Refused(_))));
+        assert!(rt; has_failed(&answer));
         assert_eq!(rt; (exporter(&app).flushes, exporter(&app).shutdowns), (1, 1));
     }
     Ok(())
@@ -203,17 +218,70 @@ fn dropped_spans_are_no_success(rt: HostRuntime) -> Result<(), Fail> {
         assert!(rt; false, "no error");
         return Ok(());
     };
-    assert!(rt; matches!(error, Unfinished::Dropped(1)));
     assert_eq!(rt;
         error.to_string(rt.alloc())?.as_str(),
-        "1 spans are lost: the queue was full"
+        "1 spans are lost (0 rejected, 0 given up, 1 dropped, 0 not exported)"
     );
     assert_eq!(rt; (exporter(&app).spans, exporter(&app).shutdowns), (2, 1));
-    let why = OTelSdkError::InternalFailure(String::from_str(rt.alloc(), "full")?);
-    assert_eq!(rt;
-        Unfinished::Refused(why).to_string(rt.alloc())?.as_str(),
-        "some spans are lost: Operation failed: full"
-    );
+    Ok(())
+}
+
+/// The numbers of lost spans, whether the last try failed, the last message, and what is printed.
+const PRINTED: &[(Losses, bool, Option<&str>, &str)] = &[
+    (
+        Losses {
+            rejected: 1000,
+            given_up: 0,
+            dropped: 500,
+            held: 0,
+        },
+        true,
+        Some("no such tenant"),
+        "1500 spans are lost (1000 rejected, 0 given up, 500 dropped, 0 not exported): Operation failed: full; the receiver says: \"no such tenant\"",
+    ),
+    (
+        Losses {
+            rejected: 0,
+            given_up: 7,
+            dropped: 0,
+            held: 0,
+        },
+        false,
+        Some("a\nb"),
+        "7 spans are lost (0 rejected, 7 given up, 0 dropped, 0 not exported); the receiver says: \"a\\nb\"",
+    ),
+    (
+        Losses {
+            rejected: 0,
+            given_up: 0,
+            dropped: 0,
+            held: 0,
+        },
+        true,
+        None,
+        "spans may be lost: Operation failed: full",
+    ),
+];
+
+#[test]
+fn an_unfinished_export_is_told_in_one_line(rt: HostRuntime) -> Result<(), Fail> {
+    let alloc = rt.alloc();
+    for (losses, failed, message, printed) in PRINTED {
+        let error = match failed {
+            true => Some(OTelSdkError::InternalFailure(String::from_str(alloc, "full")?)),
+            false => None,
+        };
+        let message = match message {
+            Some(message) => Some(String::from_str(alloc, message)?),
+            None => None,
+        };
+        let unfinished = Unfinished {
+            losses: *losses,
+            error,
+            message: Ok(message),
+        };
+        assert_eq!(rt; unfinished.to_string(alloc)?.as_str(), *printed);
+    }
     Ok(())
 }
 
@@ -225,6 +293,7 @@ fn the_environment_says_how_long_a_program_tries(rt: HostRuntime) -> Result<(), 
     let mut tracing = builder.build(rt.alloc(), "cart")?;
     tracing.enter("serve")?;
     finish(&mut tracing, &SystemClock::new(rt), &config.span_batches)?;
+    assert!(rt; tracing.processors().losses() == Losses::default());
     let exporter = tracing.processors().1.exporter();
     assert_eq!(rt; (exporter.spans, exporter.flushes), (1, 2));
     Ok(())

@@ -16,6 +16,7 @@ mod from_env;
 mod id_generator;
 mod interleaved;
 mod last_export;
+mod losses;
 mod processor;
 mod processors;
 mod propagator;

@@ -2,10 +2,11 @@
 use otel_sdk::error::{OTelSdkError, OTelSdkResult};
 use otel_sdk::resource::Resource;
 use otel_sdk::trace::{
-    BatchConfigBuilder, BatchSpanProcessor, Exporter, FinishedSpans, InMemorySpanExporter,
+    BatchConfigBuilder, BatchSpanProcessor, Exporter, FinishedSpans, InMemorySpanExporter, Losses,
     SimpleSpanProcessor, SpanData, SpanProcessor,
 };
 use std::alloc::{AllocError, Global};
+use std::default::Default;
 use std::rc::Rc;
 use std::test::Fail;
 use test_support::span_data;
@@ -75,6 +76,14 @@ impl Exporter<SpanData> for Planned {
 
     fn set_resource(&mut self, resource: Rc<Resource>) {
         drop(resource);
+    }
+
+    fn losses(&self) -> Losses {
+        Losses::default()
+    }
+
+    fn last_message(&self) -> Option<&str> {
+        None
     }
 }
 

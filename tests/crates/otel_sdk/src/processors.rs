@@ -7,10 +7,11 @@ use otel_sdk::error::{OTelSdkError, OTelSdkResult};
 use otel_sdk::resource::Resource;
 use otel_sdk::trace::{
     BatchConfigBuilder, Build, CountedClock, CountedIdGenerator, ExporterProcessor, Exports,
-    FinishedSpans, InMemorySpanExporter, OpenPipeline, ParentBased, Sampler, SdkSpan, SdkTracing,
-    SpanData, SpanExporter, SpanProcessor, TracingBuilder, WithExporter, WithProcessor,
+    FinishedSpans, InMemorySpanExporter, Losses, OpenPipeline, ParentBased, Sampler, SdkSpan,
+    SdkTracing, SpanData, SpanExporter, SpanProcessor, TracingBuilder, WithExporter, WithProcessor,
 };
 use std::alloc::{AllocError, Global};
+use std::default::Default;
 use std::rc::Rc;
 use std::test::Fail;
 
@@ -229,7 +230,8 @@ fn last(context: &SpanContext) -> u8 {
 }
 
 impl SpanProcessor for Marks {
-    ghost use Rattle.std.specs.Prelude.{false, true};
+    ghost use Rattle.std.specs.Prelude.{None, false, true};
+    ghost use Rattle.otel_sdk_base.specs.Losses.{none};
 
     ghost calls = { record {
       starts = λ _ _ _ _ _. Unit {0};
@@ -243,6 +245,8 @@ impl SpanProcessor for Marks {
       IsEmpty = λ _. Unit {0};
       dropped = λ _. 0;
       queued = λ _. 0;
+      losses = λ _. none;
+      last_message = λ _. None;
       AccountsFor = λ _ _. Unit {0};
     } };
 
@@ -289,6 +293,14 @@ impl SpanProcessor for Marks {
 
     fn queued_spans(&self) -> usize {
         0
+    }
+
+    fn losses(&self) -> Losses {
+        Losses::default()
+    }
+
+    fn last_message(&self) -> Option<&str> {
+        None
     }
 
     fn set_resource(&mut self, _resource: &Rc<Resource>) -> Result<(), AllocError> {

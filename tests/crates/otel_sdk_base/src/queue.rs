@@ -4,7 +4,7 @@ ghost use Rattle.std.specs.Prelude.{◌≡◌, []};
 use otel_sdk_base::error::{OTelSdkError, OTelSdkResult};
 use otel_sdk_base::resource::Resource;
 use otel_sdk_base::{
-    BatchConfig, BatchConfigBuilder, ExactClone, Exporter, InMemoryExporter, Queue,
+    BatchConfig, BatchConfigBuilder, ExactClone, Exporter, InMemoryExporter, Losses, Queue,
 };
 use std::alloc::{AllocError, Global};
 use std::clone::Clone;
@@ -60,6 +60,14 @@ impl Exporter<u64> for Closed {
 
     fn set_resource(&mut self, resource: Rc<Resource>) {
         drop(resource);
+    }
+
+    fn losses(&self) -> Losses {
+        Losses::default()
+    }
+
+    fn last_message(&self) -> Option<&str> {
+        None
     }
 }
 

@@ -1,15 +1,16 @@
 //! The batches that processors hand to an exporter: worked runs.
 use opentelemetry::logs::LogRecord;
 use opentelemetry::{InstrumentationScope, StringValue};
-use otel_sdk_base::Exporter;
 use otel_sdk_base::error::{OTelSdkError, OTelSdkResult};
 use otel_sdk_base::resource::Resource;
+use otel_sdk_base::{Exporter, Losses};
 use otel_sdk_logs::{
     BatchConfig, BatchConfigBuilder, BatchLogProcessor, LogData, LogProcessor, SdkLogRecord,
     SimpleLogProcessor,
 };
 use std::alloc::{AllocError, Global};
 use std::cell::Cell;
+use std::default::Default;
 use std::process::Abort;
 use std::rc::Rc;
 use std::test::Fail;
@@ -71,6 +72,14 @@ impl Exporter<LogData> for Planned {
 
     fn set_resource(&mut self, resource: Rc<Resource>) {
         drop(resource);
+    }
+
+    fn losses(&self) -> Losses {
+        Losses::default()
+    }
+
+    fn last_message(&self) -> Option<&str> {
+        None
     }
 }
 
@@ -183,6 +192,14 @@ impl Exporter<LogData> for Failing {
 
     fn set_resource(&mut self, resource: Rc<Resource>) {
         drop(resource);
+    }
+
+    fn losses(&self) -> Losses {
+        Losses::default()
+    }
+
+    fn last_message(&self) -> Option<&str> {
+        None
     }
 }
 

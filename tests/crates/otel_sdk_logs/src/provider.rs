@@ -5,7 +5,7 @@ use opentelemetry::trace::{SpanContext, SpanId, TraceFlags, TraceId, TraceState}
 use opentelemetry::{Context, Key, KeyValue, StringValue, Value};
 use otel_sdk_base::error::{OTelSdkError, OTelSdkResult};
 use otel_sdk_base::resource::Resource;
-use otel_sdk_base::{Clock, Exporter, ManualClock};
+use otel_sdk_base::{Clock, Exporter, Losses, ManualClock};
 use otel_sdk_logs::{
     BatchConfig, BatchLogProcessor, EmittedLogs, InMemoryLogExporter, LogData, LogProcessor,
     SdkLoggerProvider, SimpleLogProcessor,
@@ -140,6 +140,14 @@ impl Exporter<LogData> for Named {
 
     fn set_resource(&mut self, resource: Rc<Resource>) {
         self.service = Some(resource);
+    }
+
+    fn losses(&self) -> Losses {
+        Losses::default()
+    }
+
+    fn last_message(&self) -> Option<&str> {
+        None
     }
 }
 

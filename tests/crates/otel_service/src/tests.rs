@@ -34,6 +34,7 @@ fn answered(rt: HostRuntime, given: &[u8], fails: bool) -> anyhow::Result<Outcom
         propagator: &env.propagator(alloc)?,
         log: &logger(rt, &env)?,
         is_lines: true,
+        to: "memory",
     };
     let tracing = TracingBuilder::new(rt)
         .counted(1)

@@ -8,7 +8,7 @@ use otel_sdk::logs::{
     SimpleLogProcessor,
 };
 use otel_sdk::resource::Resource;
-use otel_sdk::trace::Exporter;
+use otel_sdk::trace::{Exporter, Losses};
 use otel_sdk_logs::RecordIntake;
 use std::alloc::{AllocError, Global};
 use std::cell::Cell;
@@ -99,6 +99,14 @@ impl Exporter<LogData> for Sizes {
 
     fn set_resource(&mut self, resource: Rc<Resource>) {
         drop(resource);
+    }
+
+    fn losses(&self) -> Losses {
+        Losses::default()
+    }
+
+    fn last_message(&self) -> Option<&str> {
+        None
     }
 }
 

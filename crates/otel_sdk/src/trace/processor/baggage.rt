@@ -9,10 +9,12 @@ use crate::trace::processor::SpanProcessor;
 use opentelemetry::baggage::Baggage;
 use opentelemetry::trace::Span;
 use opentelemetry::{Context, Key, KeyValue, StringValue, Value};
+use otel_sdk_base::Losses;
 use otel_sdk_base::error::OTelSdkResult;
 use otel_sdk_base::resource::Resource;
 use otel_sdk_span::{SdkSpan, SpanData};
 use std::alloc::{AllocError, Global};
+use std::default::Default;
 use std::marker::Model;
 use std::rc::Rc;
 
@@ -168,6 +170,14 @@ impl SpanProcessor for BaggageSpanProcessor {
 
     fn queued_spans(&self) -> usize {
         0
+    }
+
+    fn losses(&self) -> Losses {
+        Losses::default()
+    }
+
+    fn last_message(&self) -> Option<&str> {
+        None
     }
 
     fn set_resource(&mut self, _resource: &Rc<Resource>) -> Result<(), AllocError> {

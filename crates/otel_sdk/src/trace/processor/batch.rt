@@ -9,7 +9,7 @@ use crate::trace::processor::SpanProcessor;
 use opentelemetry::{Context, History};
 use otel_sdk_base::error::OTelSdkResult;
 use otel_sdk_base::resource::Resource;
-use otel_sdk_base::{BatchConfig, Queue};
+use otel_sdk_base::{BatchConfig, Losses, Queue};
 use otel_sdk_span::{SdkSpan, SpanData, SpanExporter};
 use std::alloc::{AllocError, Global};
 use std::marker::Model;
@@ -181,6 +181,20 @@ impl<E: SpanExporter> SpanProcessor for BatchSpanProcessor<E> {
 
     fn queued_spans(&self) -> usize {
         self.queue.len()
+    }
+
+    fn losses(&self) -> Losses {
+        let here = Losses {
+            rejected: 0,
+            given_up: 0,
+            dropped: self.queue.dropped(),
+            held: self.queue.len() as u64,
+        };
+        self.queue.exporter().losses().saturating_add(here)
+    }
+
+    fn last_message(&self) -> Option<&str> {
+        self.queue.exporter().last_message()
     }
 
     fn set_resource(&mut self, resource: &Rc<Resource>) -> Result<(), AllocError> {

@@ -4,10 +4,12 @@ ghost use Rattle.std.specs.Prelude.{◌≡◌};
 use crate::trace::processor::SpanProcessor;
 use crate::trace::processor::batch::BatchSpanProcessor;
 use opentelemetry::Context;
+use otel_sdk_base::Losses;
 use otel_sdk_base::error::OTelSdkResult;
 use otel_sdk_base::resource::Resource;
 use otel_sdk_span::{SdkSpan, SpanData, SpanExporter};
 use std::alloc::{AllocError, Global};
+use std::default::Default;
 use std::marker::Model;
 use std::rc::Rc;
 
@@ -127,6 +129,20 @@ impl<P: SpanProcessor> SpanProcessor for ConfiguredProcessor<P> {
 
     fn queued_spans(&self) -> usize {
         self.processor.queued_spans()
+    }
+
+    fn losses(&self) -> Losses {
+        if self.is_off {
+            return Losses::default();
+        }
+        self.processor.losses()
+    }
+
+    fn last_message(&self) -> Option<&str> {
+        if self.is_off {
+            return None;
+        }
+        self.processor.last_message()
     }
 
     fn set_resource(&mut self, resource: &Rc<Resource>) -> Result<(), AllocError> {

@@ -4,10 +4,12 @@ ghost use Rattle.otel_sdk.specs.Processor.{first_error};
 
 use crate::trace::processor::SpanProcessor;
 use opentelemetry::Context;
+use otel_sdk_base::Losses;
 use otel_sdk_base::error::{OTelSdkError, OTelSdkResult};
 use otel_sdk_base::resource::Resource;
 use otel_sdk_span::{SdkSpan, SpanData};
 use std::alloc::{AllocError, Global};
+use std::default::Default;
 use std::rc::Rc;
 
 /// Returns both answers if they are `Ok`, otherwise the first error.
@@ -57,6 +59,14 @@ impl SpanProcessor for () {
 
     fn queued_spans(&self) -> usize {
         0
+    }
+
+    fn losses(&self) -> Losses {
+        Losses::default()
+    }
+
+    fn last_message(&self) -> Option<&str> {
+        None
     }
 
     fn set_resource(&mut self, _resource: &Rc<Resource>) -> Result<(), AllocError> {
@@ -147,6 +157,14 @@ impl<A: SpanProcessor, B: SpanProcessor> SpanProcessor for (A, B) {
 
     fn queued_spans(&self) -> usize {
         self.0.queued_spans().max(self.1.queued_spans())
+    }
+
+    fn losses(&self) -> Losses {
+        self.0.losses().saturating_add(self.1.losses())
+    }
+
+    fn last_message(&self) -> Option<&str> {
+        self.0.last_message().or(self.1.last_message())
     }
 
     fn set_resource(&mut self, resource: &Rc<Resource>) -> Result<(), AllocError> {

@@ -6,9 +6,9 @@ ghost use Rattle.otel_sdk_base.specs.Queue as queue_spec;
 use crate::trace::processor::SpanProcessor;
 use crate::trace::processor::batch::BatchSpanProcessor;
 use opentelemetry::Context;
-use otel_sdk_base::BatchConfigBuilder;
 use otel_sdk_base::error::OTelSdkResult;
 use otel_sdk_base::resource::Resource;
+use otel_sdk_base::{BatchConfigBuilder, Losses};
 use otel_sdk_span::{SdkSpan, SpanData, SpanExporter};
 use std::alloc::{AllocError, Global};
 use std::marker::Model;
@@ -114,6 +114,14 @@ impl<E: SpanExporter> SpanProcessor for SimpleSpanProcessor<E> {
 
     fn queued_spans(&self) -> usize {
         self.inner.queued_spans()
+    }
+
+    fn losses(&self) -> Losses {
+        self.inner.losses()
+    }
+
+    fn last_message(&self) -> Option<&str> {
+        self.inner.last_message()
     }
 
     fn set_resource(&mut self, resource: &Rc<Resource>) -> Result<(), AllocError> {

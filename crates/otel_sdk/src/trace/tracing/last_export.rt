@@ -1,17 +1,23 @@
 //! The last export of a value that traces, which is tried again for some time.
-ghost use Rattle.std.specs.Prelude.{◌≡◌, ◌≢◌, ◌-◌, ◌<◌, ◌≤◌, IsTrue, Ok, OnOk, [], false, true};
+ghost use Rattle.std.specs.Prelude.{◌≡◌, ◌≢◌, ◌-◌, ◌<◌, ◌≤◌, IfOk, IsTrue, OnOk, [], false, true};
+ghost use Rattle.std.specs.Prelude.{option_map, string_bytes};
+ghost use Rattle.std.specs.Option.{option_copied};
 ghost use Rattle.otel_sdk.specs.LastExport as spec;
-ghost use Rattle.otel_sdk.specs.LastExport.{Finishes, HasGivenUp, HasWaited, IsLast, with_moment};
+ghost use Rattle.otel_sdk.specs.LastExport.{Finishes, HasGivenUp, HasWaited, IsLast, IsOutcome};
+ghost use Rattle.otel_sdk.specs.LastExport.{with_moment};
 ghost use Rattle.otel_sdk.specs.Exports.{ShutsDown};
+ghost use Rattle.otel_sdk_base.specs.Losses as losses;
 
 use super::Exports;
 use crate::env::EnvBatches;
 use crate::trace::processor::SpanProcessor;
 use opentelemetry::trace::Tracing;
-use otel_sdk_base::Clock;
 use otel_sdk_base::error::OTelSdkError;
+use otel_sdk_base::{Clock, Losses};
+use std::alloc::{AllocError, Global};
+use std::error::Error;
+use std::fmt::{self, Display, Formatter};
 use std::marker::Model;
-use thiserror::Error;
 
 /// The time between two tries, in nanoseconds.
 const PAUSE: u64 = 100_000_000;
@@ -19,16 +25,35 @@ const PAUSE: u64 = 100_000_000;
 /// A clock that shows no later timestamp so often in a row has stopped.
 const STILL: u32 = 10_000_000;
 
-/// Why [`finish`] lost spans.
-#[derive(Debug, Drop, Error)]
-pub enum Unfinished {
-    /// The last try failed, for this reason.
-    #[error("some spans are lost: {0}")]
-    Refused(OTelSdkError),
-    /// This many spans were dropped: by a full queue, or out of memory. The others were exported.
-    #[error("{0} spans are lost: the queue was full")]
-    Dropped(u64),
+/// The error of [`finish`]: the spans that are lost, and why.
+#[derive(Debug, Drop)]
+pub struct Unfinished {
+    /// The sampled spans that ended and that the receivers don't have, by cause.
+    pub losses: Losses,
+    /// The error of the last try, if it failed.
+    pub error: Option<OTelSdkError>,
+    /// The last message of a receiver, if there is any. An error if out of memory.
+    pub message: Result<Option<String>, AllocError>,
 }
+
+/// Prints the numbers, the error and the message, in one line.
+impl Display for Unfinished {
+    fn fmt<W: fmt::Write>(&self, f: &mut Formatter<W>) -> fmt::Result {
+        match self.losses.total() {
+            0 => f.write_str("spans may be lost")?,
+            total => write!(f, "{total} spans are lost ({})", self.losses)?,
+        }
+        if let Some(error) = &self.error {
+            write!(f, ": {error}")?;
+        }
+        if let Ok(Some(message)) = &self.message {
+            write!(f, "; the receiver says: {message:?}")?;
+        }
+        Ok(())
+    }
+}
+
+impl Error for Unfinished {}
 
 /// Measures by a clock how much of a time is left. The time is no longer if the clock is set back,
 /// or stops.
@@ -131,15 +156,35 @@ fn shut_down<T: Exports, C: Clock>(
     answer
 }
 
-/// Returns `Ok` if no span was dropped, otherwise an error with their number.
-fn unless_dropped(dropped: u64) -> Result<(), Unfinished>
-    ensures outcome { result ≡ spec.outcome_of (Ok 0) dropped }
-    ensures none { OnOk result (dropped ≡ 0) }
+/// Returns a copy of the message.
+fn copy_of(alloc: Global, message: Option<&str>) -> Result<Option<String>, AllocError>
+    ensures { IfOk result (λ copy. option_map string_bytes copy ≡ option_copied message.entry) }
 {
-    match dropped {
-        0 => Ok(()),
-        dropped => Err(Unfinished::Dropped(dropped)),
+    match message {
+        Some(message) => Ok(Some(String::from_str(alloc, message)?)),
+        None => Ok(None),
     }
+}
+
+/// Returns the outcome of the last shutdown, which left the processors like this.
+fn outcome<X: SpanProcessor>(
+    alloc: Global,
+    shutdown: Result<usize, OTelSdkError>,
+    processors: &X,
+) -> Result<(), Unfinished>
+    ensures { IsOutcome shutdown (X.calls.losses processors.now)
+        (X.calls.last_message processors.now) result }
+{
+    let losses = processors.losses();
+    let error = shutdown.err();
+    if error.is_none() && losses.total() == 0 {
+        return Ok(());
+    }
+    Err(Unfinished {
+        losses,
+        error,
+        message: copy_of(alloc, processors.last_message()),
+    })
 }
 
 /// Shuts a value that traces down at the end of a program: ends every open span, exports every
@@ -153,10 +198,10 @@ fn unless_dropped(dropped: u64) -> Result<(), Unfinished>
 ///
 /// # Errors
 ///
-/// - `Refused` with the error of the last try, as [`Exports::shutdown`]: some spans weren't
-///   exported. If an exporter wasn't shut down, a later try may still export them. The error of an
-///   exporter's own shutdown isn't told if another exporter is tried again after it.
-/// - `Dropped` if all went well but for the number of spans that were dropped before.
+/// Each sampled span that ended and that a receiver doesn't have is counted, by cause, with the
+/// error of the last try if it failed, as [`Exports::shutdown`], and the last message of a receiver.
+/// If an exporter wasn't shut down, a later try may still export the spans that are held. The error
+/// of an exporter's own shutdown isn't told if another exporter is tried again after it.
 pub fn finish<T: Exports, C: Clock>(
     tracing: &mut T,
     clock: &C,
@@ -166,17 +211,16 @@ pub fn finish<T: Exports, C: Clock>(
         T.Processors.calls T.processors_of T.Source.Span.after_end answer
         (T.Tracing.held old) (T.Tracing.held new)) (λ t. T.Processors.calls.is_shut_down
         (T.processors_of (T.Tracing.held t).source)) (C.reads clock.now)
-        (λ t. T.Processors.calls.dropped (T.processors_of (T.Tracing.held t).source))
+        (λ t. T.Processors.calls.losses (T.processors_of (T.Tracing.held t).source))
+        (λ t. T.Processors.calls.last_message (T.processors_of (T.Tracing.held t).source))
         batches.now.export_timeout_millis result tracing.old tracing.new }
     ensures none_open { (T.Tracing.held tracing.new).places ≡ [] }
     ensures closed { OnOk result (T.Processors.calls.is_shut_down
         (T.processors_of (T.Tracing.held tracing.new).source) ≡ true) }
-    ensures none_dropped { OnOk result (T.Processors.calls.dropped
-        (T.processors_of (T.Tracing.held tracing.new).source) ≡ 0) }
+    ensures none_lost { OnOk result (T.Processors.calls.losses
+        (T.processors_of (T.Tracing.held tracing.new).source) ≡ losses.none) }
 {
     let timer = Timer::new(clock, batches.export_timeout_millis);
-    match shut_down(tracing, clock, timer) {
-        Ok(_) => unless_dropped(tracing.processors().dropped_spans()),
-        Err(error) => Err(Unfinished::Refused(error)),
-    }
+    let shutdown = shut_down(tracing, clock, timer);
+    outcome(tracing.alloc(), shutdown, tracing.processors())
 }

@@ -1,15 +1,17 @@
 //! The way of spans to an exporter.
 use crate::lines::Lines;
-use crate::sdk::tracing::{App, enter, kept};
+use crate::sdk::tracing::{App, counted, enter, kept};
 use opentelemetry::trace::Tracing;
 use otel_sdk::env::EnvBatches;
 use otel_sdk::error::OTelSdkResult;
 use otel_sdk::resource::Resource;
 use otel_sdk::trace::{
-    ExportSchedule, Exporter, Exports, ManualClock, SpanData, SpanProcessor, Unfinished, finish,
+    Build, ExportSchedule, Exporter, Exports, Losses, ManualClock, SpanData, SpanProcessor,
+    Unfinished, WithExporter, finish,
 };
 use otel_sdk_base::Accepted;
 use std::alloc::AllocError;
+use std::default::Default;
 use std::rc::Rc;
 
 /// An exporter that never allocates. It counts the spans that it accepts, and their attributes,
@@ -59,6 +61,64 @@ impl Exporter<SpanData> for Tally {
     fn set_resource(&mut self, resource: Rc<Resource>) {
         drop(resource);
     }
+
+    fn losses(&self) -> Losses {
+        Losses::default()
+    }
+
+    fn last_message(&self) -> Option<&str> {
+        None
+    }
+}
+
+/// An exporter that never allocates. It gives up one span, and its receiver says why.
+#[derive(Drop)]
+struct Lossy;
+
+impl Exporter<SpanData> for Lossy {
+    ghost use Rattle.std.specs.Prelude.{Some, []};
+    ghost use Rattle.std.specs.Prelude.{codes};
+
+    ghost accepted = { λ _. [] };
+
+    ghost calls = { record {
+      refuses = λ _ _ _. Unit {0};
+      flushes = λ _ _ _. Unit {0};
+      shuts_down = λ _ _ _. Unit {0};
+      takes_resource = λ _ _ _. Unit {0};
+      flushed = λ _ _. Unit {0};
+      losses = λ _. record { rejected = 0; given_up = 1; dropped = 0; held = 0 };
+      last_message = λ _. Some (codes "full");
+    } };
+
+    fn export(&mut self, _batch: &[SpanData]) -> OTelSdkResult {
+        Ok(())
+    }
+
+    fn force_flush(&mut self) -> OTelSdkResult {
+        Ok(())
+    }
+
+    fn shutdown(&mut self) -> OTelSdkResult {
+        Ok(())
+    }
+
+    fn set_resource(&mut self, resource: Rc<Resource>) {
+        drop(resource);
+    }
+
+    fn losses(&self) -> Losses {
+        Losses {
+            rejected: 0,
+            given_up: 1,
+            dropped: 0,
+            held: 0,
+        }
+    }
+
+    fn last_message(&self) -> Option<&str> {
+        Some("full")
+    }
 }
 
 pub fn play<R: Print>(rt: HostRuntime, lines: &Lines<'_, R>) {
@@ -73,6 +133,9 @@ pub fn play<R: Print>(rt: HostRuntime, lines: &Lines<'_, R>) {
     }
     if lines.begin("last-export") {
         lines.end(last_export(rt, lines));
+    }
+    if lines.begin("last-message") {
+        lines.end(last_message(rt, lines));
     }
 }
 
@@ -147,9 +210,28 @@ fn last_export<R: Print>(rt: HostRuntime, lines: &Lines<'_, R>) -> Result<(), Al
     let answer = finish(&mut app, &ManualClock::new(1), &NO_TIME);
     let queued = if answer.is_ok() { 0 } else { 2 };
     match answer {
-        Err(Unfinished::Refused(error)) => lines.answer(&error),
+        Err(
+            Unfinished {
+                losses: _,
+                error: Some(error),
+                message: _,
+            },
+        ) => lines.answer(&error),
         answer => lines.answer_named("finished", answer),
     }
     lines.due(app.open_spans() == 0 && app.processors().queued_spans() == queued);
+    Ok(())
+}
+
+/// A last export after which a span is lost. The receiver's message is copied.
+fn last_message<R: Print>(rt: HostRuntime, lines: &Lines<'_, R>) -> Result<(), AllocError> {
+    let mut app = counted(rt).with_exporter(Lossy).build(rt.alloc(), "cart")?;
+    enter(&mut app)?;
+    let Err(unfinished) = finish(&mut app, &ManualClock::new(1), &NO_TIME) else {
+        lines.due(false);
+        return Ok(());
+    };
+    lines.answer_named("told", unfinished.message);
+    lines.due(unfinished.losses.total() == 1 && app.open_spans() == 0);
     Ok(())
 }
