@@ -1,4 +1,5 @@
 //! Laws about the crate's types, each the contract of a function that does nothing.
+ghost use Rattle.otel_sdk.specs.EnvConfig.{GiveOneConfig};
 ghost use Rattle.otel_sdk.specs.Parents.{TracersStartChildren};
 
 use crate::trace::{IdGenerator, TracerCalls};
@@ -8,4 +9,11 @@ use crate::trace::{IdGenerator, TracerCalls};
 pub fn tracer_children<G: IdGenerator, C: TracerCalls>()
     // A span that records has its parent's trace id, and its parent's span id as the parent id.
     ensures { TracersStartChildren G.may_trace G.may_span C.may_show C.is_counted C.is_read }
+{}
+
+/// States that the same variables of the environment give the same configuration. Not in the Rust
+/// crate.
+pub fn variables_give_one_configuration()
+    // No text of an endpoint has two faults.
+    ensures { GiveOneConfig }
 {}
