@@ -13,6 +13,7 @@ use Rattle.http_uri.specs.Uri.{Spells, uri_scheme, uri_path}
 use Rattle.http_uri.specs.declared.uri.Uri.{Uri}
 use Rattle.http.specs.declared.request.Parts.{Parts}
 use Rattle.http.specs.declared.version.TheConstants.Version.{HTTP_11}
+use Rattle.otel_base.specs.Blanks.{cut_blanks}
 use Rattle.otel_otlp.specs.declared.otlp_http.config.ConfigError.{ConfigError}
 use Rattle.otel_otlp.specs.declared.otlp_http.config.ConfigError.TheVariants as error
 
@@ -46,11 +47,19 @@ NamesHeader name (error.Header text) = string_bytes text ≡ name
 NamesHeader name (error.HeaderList piece) = ⊥
 NamesHeader name (error.Memory failed) = ⊤
 
+-- whether the value has no blank at an end: it is sent without them [RFC 9110, section 5.5]
+abbrev pub is_trimmed : List ℕ → Bool
+is_trimmed value = length (cut_blanks value) == length value
+
+abbrev pub HasBlankEnd : List ℕ → Type 0
+HasBlankEnd value = is_trimmed value ≡ false
+
 -- no configuration sets this header: it is the exporter's own, or its name or its value isn't one
--- of a header
+-- of a header, or the value has a blank at an end
 abbrev pub IsRefusedHeader : List ℕ → List ℕ → Type 0
 IsRefusedHeader name value =
-    IsOwn (lowercase name) ⊎ (¬ (IsFieldName name) ⊎ ¬ (IsFieldValue value))
+    IsOwn (lowercase name)
+    ⊎ (¬ (IsFieldName name) ⊎ (¬ (IsFieldValue value) ⊎ HasBlankEnd value))
 
 -- the same; or these headers are too many for another name
 abbrev pub IsRefusedBy : Entries FieldValue → List ℕ → List ℕ → Type 0
@@ -125,3 +134,7 @@ slash_once = refl
 
 own_path : joined (codes "http://h/a") [] ≡ codes "http://h/a"
 own_path = refl
+
+blank_example : (is_trimmed (codes "a b") ≡ true) × (is_trimmed [] ≡ true)
+    × (is_trimmed (codes " a") ≡ false) × (is_trimmed (codes "a ") ≡ false)
+blank_example = (refl, refl, refl, refl)

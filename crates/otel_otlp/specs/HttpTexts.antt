@@ -1,9 +1,8 @@
 -- How a collector is reached by the texts of environment variables (OpenTelemetry specification,
 -- "OpenTelemetry Protocol Exporter").
-use Rattle.std.specs.Prelude.{◌≡◌, ◌⊎◌, ℕ, true, false, List, [], ◌∷◌, ◌++◌, fold}
+use Rattle.std.specs.Prelude.{◌≡◌, ℕ, true, false, List, [], ◌∷◌, ◌++◌, fold}
 use Rattle.std.specs.Prelude.{All, Any, Option, Some, None, ⊤, codes, string_bytes, refl}
-use Rattle.http_header.specs.FieldName.{IsFieldName}
-use Rattle.http_header.specs.FieldValue.{FieldValue, plain_value, IsFieldValue}
+use Rattle.http_header.specs.FieldValue.{FieldValue, plain_value}
 use Rattle.http_header.specs.HeaderMap.{Entries, insert}
 use Rattle.http_header.specs.Token.{lowercase}
 use Rattle.otel_base.specs.KeyValue.{Attribute}
@@ -14,7 +13,7 @@ use Rattle.otel_sdk_base.specs.ResourceTexts.{pieces, fault}
 use Rattle.otel_sdk_base.specs.declared.otlp.EnvEndpoint.{EnvEndpoint}
 use Rattle.otel_sdk_base.specs.declared.otlp.EnvEndpoint.TheVariants.{Base, Exact}
 use Rattle.otel_sdk_base.specs.declared.otlp.EnvOtlp.{EnvOtlp}
-use Rattle.otel_otlp.specs.HttpConfig.{Config, local, IsOwn, IsRefusedBy}
+use Rattle.otel_otlp.specs.HttpConfig.{Config, local, IsRefusedBy, IsRefusedHeader}
 use Rattle.otel_otlp.specs.declared.otlp_http.config.ConfigError.{ConfigError}
 use Rattle.otel_otlp.specs.declared.otlp_http.config.ConfigError.TheVariants as error
 
@@ -39,10 +38,10 @@ abbrev pub with_read : Entries FieldValue → Option Attribute → Entries Field
 with_read headers None = headers
 with_read headers (Some a) = insert headers (lowercase a.0) (plain_value (text_of a.1))
 
--- it isn't a header's name and value, or is a header of the exporter's own
+-- no configuration sets the header of this name and value
 abbrev pub IsReadRefused : Option Attribute → Type 0
 IsReadRefused None = ⊥
-IsReadRefused (Some a) = IsOwn (lowercase a.0) ⊎ (¬ IsFieldName a.0 ⊎ ¬ IsFieldValue (text_of a.1))
+IsReadRefused (Some a) = IsRefusedHeader a.0 (text_of a.1)
 
 -- the same; or these headers are too many for another name
 abbrev pub IsReadRefusedBy : Entries FieldValue → Option Attribute → Type 0

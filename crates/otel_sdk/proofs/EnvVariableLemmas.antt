@@ -58,3 +58,10 @@ module _ (may_be : List ℕ → Option (List ℕ) → Type 0) where
   pub all_lines : (lines : List (List ℕ)) (n : ℕ) (vars : Variables) → length lines ≤ n
       → AreRead may_be (flat_map name_in (take n lines)) vars → AreRead may_be (flat_map name_in lines) vars
   all_lines lines n vars all = subst (λ (l : List (List ℕ)). AreRead may_be (flat_map name_in l) vars) (take_all n lines all)
+
+  -- the variables of some names, and then those of others
+  pub both_read : {A : Type 0} (names others : List (List ℕ)) (vars more all : List (String A × String A)) → all ≡ vars ++ more
+      → AreRead may_be names (variables_of vars) → AreRead may_be others (variables_of more) → AreRead may_be (names ++ others) (variables_of all)
+  both_read names others vars more all is h k =
+      subst (AreRead may_be (names ++ others)) (sym (ap variables_of is ∙ map-append (λ v. (string_bytes v.0, string_bytes v.1)) vars more))
+      (joined names others (variables_of vars) (variables_of more) h k)

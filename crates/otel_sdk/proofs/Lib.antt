@@ -1,5 +1,7 @@
 mod BaggageProcessorLemmas
 mod DrawLemmas
+mod EndpointLemmas
+mod EnvHeaderLemmas
 mod EnvLemmas
 mod EnvVariableLemmas
 mod ListedFields

@@ -1,6 +1,6 @@
 -- The configuration that environment variables give. Not in the Rust crate, where each part reads
 -- its own variables.
-use Rattle.std.specs.Prelude.{◌≡◌, ℕ, Bool, ◌&&◌, ◌||◌, List, [], ◌++◌, Some, codes, refl, if◌then◌else◌}
+use Rattle.std.specs.Prelude.{◌≡◌, ℕ, Bool, ◌&&◌, ◌||◌, List, [], ◌++◌, Some, None, codes, refl, if◌then◌else◌}
 use Rattle.std.specs.Option.{option_map_or}
 use Rattle.std.specs.declared.alloc.Global.{Global}
 use Rattle.std.specs.declared.vec.Vec.{Vec}
@@ -8,18 +8,22 @@ use Rattle.otel_sdk_base.specs.Queue.{effective}
 use Rattle.otel_sdk_base.specs.Resource.{Parts, merge, with_defaults}
 use Rattle.otel_sdk_base.specs.ResourceTexts.{from_texts}
 use Rattle.otel_sdk_span.specs.declared.limits.SpanLimits.{SpanLimits}
+use Rattle.otel_sdk.specs.EnvEndpoints.{AreFaults, endpoint_warnings}
 use Rattle.otel_sdk.specs.EnvExport as export
 use Rattle.otel_sdk.specs.EnvHeaders.{header_warnings}
 use Rattle.otel_sdk.specs.EnvLimits as limits
 use Rattle.otel_sdk.specs.EnvPropagators.{propagators, propagator_warnings}
 use Rattle.otel_sdk.specs.EnvSampler.{sampler, sampler_warnings}
 use Rattle.otel_sdk.specs.EnvTexts.{Variables}
+use Rattle.otel_sdk.specs.EnvUnsupported.{unsupported_warnings}
 use Rattle.otel_sdk.specs.Tracer.{ProviderParts, with_resource, with_sampler}
 use Rattle.otel_sdk.specs.TracingBuilder.{BuilderParts}
 use Rattle.otel_sdk.specs.declared.env.EnvConfig.{EnvConfig}
+use Rattle.otel_sdk.specs.declared.env.endpoints.EndpointFaults.{EndpointFaults}
 use Rattle.otel_sdk.specs.declared.env.export.EnvExporter.{EnvExporter}
 use Rattle.otel_sdk_base.specs.declared.otlp.EnvOtlp.{EnvOtlp}
 use Rattle.otel_sdk.specs.declared.env.groups.Choices.{Choices}
+use Rattle.otel_sdk.specs.declared.env.groups.Destinations.{Destinations}
 use Rattle.otel_sdk.specs.declared.env.groups.Limits.{Limits}
 use Rattle.otel_sdk.specs.declared.env.groups.Outlets.{Outlets}
 use Rattle.otel_sdk.specs.declared.env.limits.EnvBatches.{EnvBatches}
@@ -83,8 +87,8 @@ joined c l o warnings = record {
   log_batches = l.log_batches;
   traces_exporter = o.traces_exporter;
   logs_exporter = o.logs_exporter;
-  otlp_traces = o.otlp_traces;
-  otlp_logs = o.otlp_logs;
+  otlp_traces = o.otlp.traces;
+  otlp_logs = o.otlp.logs;
   otlp_timeout_millis = o.otlp_timeout_millis;
   warnings = warnings;
 }
@@ -96,7 +100,13 @@ traces_exporter vars = export.exporter (codes "OTEL_TRACES_EXPORTER") vars
 abbrev pub logs_exporter : Variables → EnvExporter
 logs_exporter vars = export.exporter (codes "OTEL_LOGS_EXPORTER") vars
 
--- the warnings about who traces and what, about limits, and about where to export
+-- spans and log records are sent there, and these are the faults of the endpoints
+pub record AreDestinations (vars : Variables) (d : Destinations) : Type 0 where
+  pub faults : AreFaults vars d.faults
+  pub traces : d.traces ≡ export.otlp_traces d.faults vars
+  pub logs : d.logs ≡ export.otlp_logs d.faults vars
+
+-- the warnings about who traces and what, and about limits
 abbrev pub choice_warnings : Variables → List EnvWarning
 choice_warnings vars =
     export.disabled_warnings vars
@@ -112,20 +122,26 @@ limits_warnings vars =
     ++ limits.batches_warnings limits.span_names 5000 vars
     ++ limits.batches_warnings limits.log_names 1000 vars
 
-abbrev pub outlet_warnings : Variables → List EnvWarning
-outlet_warnings vars =
+-- the same about where spans and log records are sent, and about all of where to export
+abbrev pub destination_warnings : EndpointFaults → Variables → List EnvWarning
+destination_warnings faults vars = endpoint_warnings faults vars ++ header_warnings vars
+
+abbrev pub outlet_warnings : EndpointFaults → Variables → List EnvWarning
+outlet_warnings faults vars =
     export.exporter_warnings (codes "OTEL_TRACES_EXPORTER") vars
     ++ export.exporter_warnings (codes "OTEL_LOGS_EXPORTER") vars
-    ++ header_warnings vars
-    ++ export.otlp_warnings vars
+    ++ destination_warnings faults vars
+    ++ export.timeout_warnings vars
+    ++ unsupported_warnings vars
 
 -- the warnings about all variables
-abbrev pub env_warnings : Variables → List EnvWarning
-env_warnings vars = choice_warnings vars ++ limits_warnings vars ++ outlet_warnings vars
+abbrev pub env_warnings : EndpointFaults → Variables → List EnvWarning
+env_warnings faults vars =
+    choice_warnings vars ++ limits_warnings vars ++ outlet_warnings faults vars
 
--- the configuration that the variables give
-abbrev pub env_config : Variables → Config
-env_config vars = record {
+-- the configuration that the variables give, if these faults are found in the endpoints
+abbrev pub env_config : EndpointFaults → Variables → Config
+env_config faults vars = record {
   is_disabled = export.is_disabled vars;
   service_name = export.service_name vars;
   resource_attributes = export.resource_attributes vars;
@@ -137,11 +153,21 @@ env_config vars = record {
   log_batches = limits.batches limits.log_names 1000 vars;
   traces_exporter = traces_exporter vars;
   logs_exporter = logs_exporter vars;
-  otlp_traces = export.otlp_traces vars;
-  otlp_logs = export.otlp_logs vars;
+  otlp_traces = export.otlp_traces faults vars;
+  otlp_logs = export.otlp_logs faults vars;
   otlp_timeout_millis = export.timeout_millis vars;
-  warnings = env_warnings vars;
+  warnings = env_warnings faults vars;
 }
+
+-- the variables give this configuration
+abbrev pub IsConfigOf : Variables → Config → Type 0
+IsConfigOf vars config =
+    (faults : EndpointFaults) × AreFaults vars faults × (config ≡ env_config faults vars)
+
+-- the same variables give the same configuration
+abbrev pub GiveOneConfig : Type 0
+GiveOneConfig =
+    (vars : Variables) (a b : Config) → IsConfigOf vars a → IsConfigOf vars b → a ≡ b
 
 -- the default resource, updated by the one that the variables describe
 abbrev pub resource_of : EnvConfig → Parts
@@ -182,5 +208,5 @@ loggers_with_env c b = record b {
 }
 
 -- ---- worked rows
-unset_example : (env_config []).warnings ≡ []
+unset_example : (env_config (record { all = None; traces = None; logs = None }) []).warnings ≡ []
 unset_example = refl

@@ -1,18 +1,22 @@
 -- What the environment says of the whole SDK, of resources and of exporters.
-use Rattle.std.specs.Prelude.{◌≡◌, ℕ, Bool, true, false, not, ◌||◌, List, [], ◌∷◌, ◌++◌}
+use Rattle.std.specs.Prelude.{◌≡◌, ℕ, Bool, true, false, not, ◌||◌, ◌&&◌, List, [], ◌∷◌}
 use Rattle.std.specs.Prelude.{Option, Some, None, is_some, codes, refl, if◌then◌else◌}
 use Rattle.std.specs.Option.{unwrap_or}
 use Rattle.otel_sdk_base.specs.ResourceTexts.{fault}
 use Rattle.otel_sdk.specs.EnvHeaders.{headers_in}
-use Rattle.otel_sdk.specs.EnvTexts.{Variables, is_named, is_unset, text_of, warned, warning}
+use Rattle.otel_sdk.specs.EnvTexts.{Variables, is_named, is_unset, short, text_of}
+use Rattle.otel_sdk.specs.EnvTexts.{warned, warning}
 use Rattle.otel_sdk.specs.EnvTexts.{number_or, number_warnings}
 use Rattle.otel_sdk_base.specs.declared.otlp.EnvEndpoint.{EnvEndpoint}
 use Rattle.otel_sdk_base.specs.declared.otlp.EnvEndpoint.TheVariants.{Base, Exact}
+use Rattle.otel_sdk.specs.declared.env.endpoints.EndpointFaults.{EndpointFaults}
 use Rattle.otel_sdk.specs.declared.env.export.EnvExporter.{EnvExporter}
 use Rattle.otel_sdk.specs.declared.env.export.EnvExporter.TheVariants as to
 use Rattle.otel_sdk_base.specs.declared.otlp.EnvOtlp.{EnvOtlp}
+use Rattle.otel_sdk.specs.declared.env.warning.EnvFault.{EnvFault}
+use Rattle.otel_sdk.specs.declared.env.warning.EnvFault.TheVariants.{UserInfo, Scheme}
 use Rattle.otel_sdk.specs.declared.env.warning.EnvWarning.{EnvWarning}
-use Rattle.otel_sdk.specs.declared.env.warning.Instead.TheVariants.{Nothing, False, Otlp, HttpJson}
+use Rattle.otel_sdk.specs.declared.env.warning.Instead.TheVariants.{Nothing, False, Otlp}
 
 -- ---- whether the SDK is disabled
 
@@ -75,50 +79,43 @@ exporter_warnings name vars =
 abbrev pub given_or : List ℕ → List ℕ → List ℕ
 given_or text default = if is_unset text then default else text
 
--- the endpoint of a signal: its own as it is, or the one of all signals as a base
-abbrev pub endpoint : List ℕ → Variables → EnvEndpoint
-endpoint own vars =
-    if is_unset (text_of own vars)
-    then Base (given_or (text_of (codes "OTEL_EXPORTER_OTLP_ENDPOINT") vars)
-    (codes "http://localhost:4318"))
-    else Exact (text_of own vars)
+-- whether the endpoint of this text, with this fault, counts
+abbrev pub counts : Option EnvFault → List ℕ → Bool
+counts fault text = not (is_some fault) && not (is_unset text)
+
+-- the endpoint of a signal: its own as it is, or the one of all signals as a base, or the collector
+-- on the same machine
+abbrev pub endpoint : List ℕ → Option EnvFault → Option EnvFault → Variables → EnvEndpoint
+endpoint own fault fault_of_all vars =
+    if counts fault (text_of own vars) then Exact (text_of own vars)
+    else Base (if counts fault_of_all (text_of (codes "OTEL_EXPORTER_OTLP_ENDPOINT") vars)
+    then text_of (codes "OTEL_EXPORTER_OTLP_ENDPOINT") vars else codes "http://localhost:4318")
 
 -- the headers of a signal: its own, or the ones of all signals
 abbrev pub headers : List ℕ → Variables → List ℕ
 headers own vars =
-    headers_in (given_or (text_of own vars) (text_of (codes "OTEL_EXPORTER_OTLP_HEADERS") vars))
+    headers_in (given_or (short (text_of own vars))
+    (short (text_of (codes "OTEL_EXPORTER_OTLP_HEADERS") vars)))
 
--- where a signal is sent, whose own endpoint and headers have these names
-abbrev pub otlp : List ℕ → List ℕ → Variables → EnvOtlp
-otlp endpoint_name headers_name vars = record {
-  endpoint = endpoint endpoint_name vars;
-  headers = headers headers_name vars;
+-- where spans, and log records, are sent, if these faults are found in the endpoints
+abbrev pub otlp_traces : EndpointFaults → Variables → EnvOtlp
+otlp_traces faults vars = record {
+  endpoint =
+      endpoint (codes "OTEL_EXPORTER_OTLP_TRACES_ENDPOINT") faults.traces faults.all vars;
+  headers = headers (codes "OTEL_EXPORTER_OTLP_TRACES_HEADERS") vars;
 }
 
--- where spans, and log records, are sent
-abbrev pub otlp_traces : Variables → EnvOtlp
-otlp_traces vars = otlp (codes "OTEL_EXPORTER_OTLP_TRACES_ENDPOINT")
-    (codes "OTEL_EXPORTER_OTLP_TRACES_HEADERS") vars
-
-abbrev pub otlp_logs : Variables → EnvOtlp
-otlp_logs vars = otlp (codes "OTEL_EXPORTER_OTLP_LOGS_ENDPOINT")
-    (codes "OTEL_EXPORTER_OTLP_LOGS_HEADERS") vars
+abbrev pub otlp_logs : EndpointFaults → Variables → EnvOtlp
+otlp_logs faults vars = record {
+  endpoint = endpoint (codes "OTEL_EXPORTER_OTLP_LOGS_ENDPOINT") faults.logs faults.all vars;
+  headers = headers (codes "OTEL_EXPORTER_OTLP_LOGS_HEADERS") vars;
+}
 
 abbrev pub timeout_millis : Variables → ℕ
 timeout_millis vars = number_or (codes "OTEL_EXPORTER_OTLP_TIMEOUT") 0 10000 vars
 
 abbrev pub timeout_warnings : Variables → List EnvWarning
 timeout_warnings vars = number_warnings (codes "OTEL_EXPORTER_OTLP_TIMEOUT") 0 10000 vars
-
--- there is only one protocol
-abbrev pub protocol_warnings : Variables → List EnvWarning
-protocol_warnings vars =
-    let text = text_of (codes "OTEL_EXPORTER_OTLP_PROTOCOL") vars in
-    warned (is_named text (codes "http/json")) (codes "OTEL_EXPORTER_OTLP_PROTOCOL") text HttpJson
-
--- the warnings about the time and the protocol
-abbrev pub otlp_warnings : Variables → List EnvWarning
-otlp_warnings vars = timeout_warnings vars ++ protocol_warnings vars
 
 -- ---- worked rows
 abbrev one : List ℕ → List ℕ → Variables
@@ -131,8 +128,15 @@ disabled_example : (is_disabled (one (codes "OTEL_SDK_DISABLED") (codes "TRUE"))
     ≡ warning (codes "OTEL_SDK_DISABLED") (codes "1") False ∷ [])
 disabled_example = (refl, refl, refl, refl)
 
-endpoint_example : (endpoint (codes "T") [] ≡ Base (codes "http://localhost:4318"))
-    × (endpoint (codes "T") (one (codes "OTEL_EXPORTER_OTLP_ENDPOINT") (codes "http://h"))
-    ≡ Base (codes "http://h"))
-    × (endpoint (codes "T") (one (codes "T") (codes "http://h/a")) ≡ Exact (codes "http://h/a"))
-endpoint_example = (refl, refl, refl)
+-- the endpoint of all signals, and the one of a signal
+abbrev both : Variables
+both =
+    (codes "OTEL_EXPORTER_OTLP_ENDPOINT", codes "http://h")
+    ∷ (codes "T", codes "http://h/a") ∷ []
+
+endpoint_example : (endpoint (codes "T") None None both ≡ Exact (codes "http://h/a"))
+    × (endpoint (codes "T") (Some UserInfo) None both ≡ Base (codes "http://h"))
+    × (endpoint (codes "T") (Some UserInfo) (Some Scheme) both
+    ≡ Base (codes "http://localhost:4318"))
+    × (endpoint (codes "T") None None [] ≡ Base (codes "http://localhost:4318"))
+endpoint_example = (refl, refl, refl, refl)

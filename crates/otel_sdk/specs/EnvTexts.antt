@@ -27,6 +27,15 @@ abbrev pub text_of : List ℕ → Variables → List ℕ
 text_of name [] = []
 text_of name (v ∷ vs) = if bytes_eq v.0 name then cut_blanks v.1 else text_of name vs
 
+-- whether the text is longer than a variable of OTLP may be: with the path of a signal added, a URL
+-- of 65,000 bytes still is one, and so many bytes list no more headers than a map holds
+abbrev pub is_long : List ℕ → Bool
+is_long text = nat_lt 65000 (length text)
+
+-- the text, or an empty one if it is longer than that
+abbrev pub short : List ℕ → List ℕ
+short text = if is_long text then [] else text
+
 -- whether the text is the name, in any case of ASCII letters
 abbrev pub is_named : List ℕ → List ℕ → Bool
 is_named text name = str_eq_ignore_ascii_case text name

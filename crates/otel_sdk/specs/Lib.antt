@@ -1,12 +1,14 @@
 pub mod BaggageProcessor
 pub mod ConfiguredPropagator
 pub mod EnvConfig
+pub mod EnvEndpoints
 pub mod EnvExport
 pub mod EnvHeaders
 pub mod EnvLimits
 pub mod EnvPropagators
 pub mod EnvSampler
 pub mod EnvTexts
+pub mod EnvUnsupported
 pub mod EnvVariables
 pub mod EnvWarnings
 pub mod ExportSchedule

@@ -6,6 +6,7 @@ ghost use Rattle.otel_sdk.specs.EnvTexts.{variables_of};
 
 mod builders;
 mod configured;
+mod endpoints;
 mod export;
 mod groups;
 mod headers;
@@ -16,6 +17,7 @@ mod propagators;
 mod read;
 mod sampler;
 mod texts;
+mod unsupported;
 mod variables;
 mod warning;
 
@@ -35,7 +37,7 @@ pub use read::WarningSink;
 pub use sampler::EnvSampler;
 use std::alloc::{AllocError, Global};
 pub use variables::VariableSource;
-pub use warning::{EnvWarning, Instead};
+pub use warning::{EnvFault, EnvWarning, Instead};
 
 /// The configuration that environment variables give.
 ///
@@ -65,11 +67,20 @@ pub use warning::{EnvWarning, Instead};
 /// - The four with `OTEL_BLRP_` in place of `OTEL_BSP_`, for log records (2048, 512, 1000, 30000).
 /// - `OTEL_TRACES_EXPORTER`, `OTEL_LOGS_EXPORTER`: `otlp`, `console` or `none` (`otlp`).
 /// - `OTEL_EXPORTER_OTLP_ENDPOINT` (`http://localhost:4318`), and in its place
-///   `OTEL_EXPORTER_OTLP_TRACES_ENDPOINT` and `OTEL_EXPORTER_OTLP_LOGS_ENDPOINT`.
+///   `OTEL_EXPORTER_OTLP_TRACES_ENDPOINT` and `OTEL_EXPORTER_OTLP_LOGS_ENDPOINT`: a URL of `http` or
+///   `https` with a host and without user information. The first has no query and no fragment.
 /// - `OTEL_EXPORTER_OTLP_HEADERS`: `NAME=VALUE,..` (none), and in its place
-///   `OTEL_EXPORTER_OTLP_TRACES_HEADERS` and `OTEL_EXPORTER_OTLP_LOGS_HEADERS`.
+///   `OTEL_EXPORTER_OTLP_TRACES_HEADERS` and `OTEL_EXPORTER_OTLP_LOGS_HEADERS`. Of a list, what is
+///   understood counts: the name and the value, their escapes decoded, are those of a header, without
+///   blanks at their ends, but not `Content-Type`, `Content-Length`, `Transfer-Encoding` or `Host`.
 /// - `OTEL_EXPORTER_OTLP_TIMEOUT`, in milliseconds (10000).
-/// - `OTEL_EXPORTER_OTLP_PROTOCOL`: `http/json`.
+/// - `OTEL_EXPORTER_OTLP_PROTOCOL`: `http/json`. `OTEL_EXPORTER_OTLP_COMPRESSION`: `none`. Both also
+///   with `TRACES_` or `LOGS_` after `OTLP_`.
+///
+/// No URL and no list of headers has more than 65,000 bytes. So an exporter refuses none that is
+/// handed on here. Each other variable of exports by OTLP, `OTEL_CONFIG_FILE`, `OTEL_LOG_LEVEL` and
+/// `OTEL_LOGRECORD_ATTRIBUTE_VALUE_LENGTH_LIMIT` give a warning if they are set, since they aren't
+/// supported.
 ///
 /// With the list that `std::env::vars` gives:
 ///
@@ -159,8 +170,8 @@ fn joined(
         log_batches: limits.log_batches,
         traces_exporter: outlets.traces_exporter,
         logs_exporter: outlets.logs_exporter,
-        otlp_traces: outlets.otlp_traces,
-        otlp_logs: outlets.otlp_logs,
+        otlp_traces: outlets.otlp.traces,
+        otlp_logs: outlets.otlp.logs,
         otlp_timeout_millis: outlets.otlp_timeout_millis,
         warnings,
     }
@@ -178,8 +189,8 @@ impl EnvConfig {
     ///
     /// `AllocError` if out of memory.
     pub fn from_vars(alloc: Global, vars: &[(String, String)]) -> Result<EnvConfig, AllocError>
-        ensures { IfOk result (λ config. config_of config
-            ≡ spec.env_config (variables_of vars.now)) }
+        ensures { IfOk result (λ config.
+            spec.IsConfigOf (variables_of vars.now) (config_of config)) }
     {
         let mut warnings = Vec::new(alloc);
         let choices = read_choices(alloc, vars, &mut warnings)?;

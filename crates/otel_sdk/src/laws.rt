@@ -1,4 +1,5 @@
 //! Laws about the crate's types, each the contract of a function that does nothing.
+ghost use Rattle.otel_sdk.specs.EnvConfig.{GiveOneConfig};
 ghost use Rattle.otel_sdk.specs.LossLaws.{SpansAreCounted};
 ghost use Rattle.otel_sdk.specs.Parents.{TracersStartChildren};
 
@@ -19,4 +20,11 @@ pub fn tracer_children<G: IdGenerator, C: TracerCalls>()
 /// `otel_otlp::laws::records_are_counted` states of one.
 pub fn spans_are_counted<E: SpanExporter>()
     ensures { SpansAreCounted E.accepted E.calls }
+{}
+
+/// States that the same variables of the environment give the same configuration. Not in the Rust
+/// crate.
+pub fn variables_give_one_configuration()
+    // No text of an endpoint has two faults.
+    ensures { GiveOneConfig }
 {}

@@ -14,6 +14,7 @@ use http::header::{HeaderMapError, HeaderNameError, HeaderValueError};
 use http::request::Parts;
 use http::{HeaderMap, HeaderName, HeaderValue, Method, Uri, Version};
 use http_uri::UriError;
+use otel_base::cut_blanks;
 use std::alloc::{AllocError, Global};
 use std::marker::Model;
 use thiserror::Error;
@@ -25,7 +26,7 @@ pub enum ConfigError {
     #[error("no endpoint: {0}")]
     Endpoint(String),
     /// The header of this name isn't allowed: it is the exporter's own, or the name or the value
-    /// isn't one of a header.
+    /// isn't one of a header, or the value has a blank at an end.
     #[error("header not allowed: {0}")]
     Header(String),
     /// The piece of this number, counted from 0, of a list of headers isn't `NAME=VALUE`.
@@ -168,6 +169,13 @@ fn is_own(name: &HeaderName) -> bool
     name.eq_str("content-type") || name.eq_str("content-length") || name.eq_str("host")
 }
 
+/// Returns `true` if the value has no blank at an end.
+fn is_trimmed(value: &str) -> bool
+    ensures { result ≡ spec.is_trimmed value.now }
+{
+    cut_blanks(value).len() == value.len()
+}
+
 /// Returns the name and the value as those of a header.
 #[tactic(auto, using(crate::proofs::HeaderLists::header_if))]
 fn header(alloc: Global, name: &str, value: &str) -> Result<(HeaderName, HeaderValue), ConfigError>
@@ -175,6 +183,7 @@ fn header(alloc: Global, name: &str, value: &str) -> Result<(HeaderName, HeaderV
     ensures own { spec.IsOwn (lowercase name.now) → IsErr result }
     ensures name { ¬ (IsFieldName name.now) → IsErr result }
     ensures value { ¬ (IsFieldValue value.now) → IsErr result }
+    ensures blank { spec.HasBlankEnd value.now → IsErr result }
     ensures err { IfErr result (spec.NamesHeader name.now) }
     ensures refused { IfErr result (spec.IfHeader (spec.IsRefusedHeader name.now value.now)) }
 {
@@ -183,7 +192,7 @@ fn header(alloc: Global, name: &str, value: &str) -> Result<(HeaderName, HeaderV
         Err(HeaderNameError::Invalid) => return Err(not_allowed(alloc, name)),
         Err(HeaderNameError::OutOfMemory) => return Err(ConfigError::Memory(AllocError)),
     };
-    if is_own(&key) {
+    if is_own(&key) || !is_trimmed(value) {
         return Err(not_allowed(alloc, name));
     }
     match HeaderValue::from_str(alloc, value) {
@@ -206,6 +215,7 @@ fn put_header(
     ensures own { spec.IsOwn (lowercase name.now) → IsErr result }
     ensures name { ¬ (IsFieldName name.now) → IsErr result }
     ensures value { ¬ (IsFieldValue value.now) → IsErr result }
+    ensures blank { spec.HasBlankEnd value.now → IsErr result }
     ensures err { IfErr result (spec.NamesHeader name.now) }
     ensures refused { IfErr result
         (spec.IfHeader (spec.IsRefusedBy headers.old name.now value.now)) }
@@ -273,8 +283,8 @@ impl OtlpHttpConfig {
     /// The configuration is dropped.
     ///
     /// - `Header` if the name is `Content-Type`, `Content-Length` or `Host`, in any case, or if the
-    ///   name or the value isn't one of a header: neither may hold CR, LF or NUL. Also if there are
-    ///   too many headers.
+    ///   name or the value isn't one of a header: neither may hold CR, LF or NUL, and the value has
+    ///   no blank at an end. Also if there are too many headers.
     /// - `Memory` if out of memory.
     pub fn with_header(
         mut self,
@@ -288,6 +298,7 @@ impl OtlpHttpConfig {
         ensures own { spec.IsOwn (lowercase name.now) → IsErr result }
         ensures name { ¬ (IsFieldName name.now) → IsErr result }
         ensures value { ¬ (IsFieldValue value.now) → IsErr result }
+        ensures blank { spec.HasBlankEnd value.now → IsErr result }
         ensures err { IfErr result (spec.NamesHeader name.now) }
         ensures refused { IfErr result
             (spec.IfHeader (spec.IsRefusedBy self.headers name.now value.now)) }

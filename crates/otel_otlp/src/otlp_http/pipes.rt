@@ -72,7 +72,8 @@ impl From<AllocError> for PipeError {
 /// # Errors
 ///
 /// - `Config` with the refusal of [`OtlpHttpConfig::from_env`] or of
-///   [`OtlpHttpExporter::new`](crate::OtlpHttpExporter::new), or if out of memory.
+///   [`OtlpHttpExporter::new`](crate::OtlpHttpExporter::new), or if out of memory. What `EnvConfig`
+///   of `otel_sdk` reads isn't refused, whatever the variables say.
 /// - `Keys` if the runtime gives no random keys.
 pub fn pipe_exporter<R: Files + KeyCalls + Clock + Copy + Drop>(
     alloc: Global,

@@ -3,9 +3,10 @@ ghost use Rattle.std.specs.Prelude.{◌≡◌, ◌++◌, IfOk, OnOk};
 ghost use Rattle.otel_sdk.specs.EnvExport as spec;
 ghost use Rattle.otel_sdk.specs.EnvTexts.{variables_of};
 
+use super::endpoints::EndpointFaults;
 use super::headers::listed_headers;
-use super::texts::{is_named, number_or, text_of};
-use super::warning::{EnvWarning, Instead, warn};
+use super::texts::{is_named, number_or, short, text_of};
+use super::warning::{EnvFault, EnvWarning, Instead, warn};
 use opentelemetry::StringValue;
 use otel_sdk_base::otlp::{EnvEndpoint, EnvOtlp};
 use otel_sdk_base::resource::Resource;
@@ -166,20 +167,34 @@ pub(super) fn exporter(
     Ok(named.unwrap_or(EnvExporter::Otlp))
 }
 
-/// Returns the endpoint of a signal whose own one has the name.
+/// Returns whether the endpoint of this text, with this fault, counts.
+fn counts(fault: Option<EnvFault>, text: &str) -> bool
+    ensures { result ≡ spec.counts fault text.now }
+{
+    fault.is_none() && !text.is_empty()
+}
+
+/// Returns the endpoint of a signal whose own one has the name and this fault.
 ///
 /// # Errors
 ///
 /// `AllocError` if out of memory.
-fn endpoint(alloc: Global, vars: &[(String, String)], own: &str) -> Result<EnvEndpoint, AllocError>
-    ensures { IfOk result (λ e. e ≡ spec.endpoint own.now (variables_of vars.now)) }
+fn endpoint(
+    alloc: Global,
+    vars: &[(String, String)],
+    own: &str,
+    fault: Option<EnvFault>,
+    fault_of_all: Option<EnvFault>,
+) -> Result<EnvEndpoint, AllocError>
+    ensures { IfOk result (λ e. e
+        ≡ spec.endpoint own.now fault fault_of_all (variables_of vars.now)) }
 {
     let own = text_of(vars, own);
-    if !own.is_empty() {
+    if counts(fault, own) {
         return Ok(EnvEndpoint::Exact(kept(alloc, own)?));
     }
     let general = text_of(vars, "OTEL_EXPORTER_OTLP_ENDPOINT");
-    if !general.is_empty() {
+    if counts(fault_of_all, general) {
         return Ok(EnvEndpoint::Base(kept(alloc, general)?));
     }
     Ok(EnvEndpoint::Base(StringValue::from("http://localhost:4318")))
@@ -193,37 +208,16 @@ fn endpoint(alloc: Global, vars: &[(String, String)], own: &str) -> Result<EnvEn
 fn headers(alloc: Global, vars: &[(String, String)], own: &str) -> Result<StringValue, AllocError>
     ensures { IfOk result (λ h. h ≡ spec.headers own.now (variables_of vars.now)) }
 {
-    let own = text_of(vars, own);
+    let own = short(text_of(vars, own));
     let listed = if own.is_empty() {
-        text_of(vars, "OTEL_EXPORTER_OTLP_HEADERS")
+        short(text_of(vars, "OTEL_EXPORTER_OTLP_HEADERS"))
     } else {
         own
     };
     Ok(StringValue::from(listed_headers(alloc, listed)?))
 }
 
-/// Returns where a signal is sent whose own endpoint and headers have these names.
-///
-/// # Errors
-///
-/// `AllocError` if out of memory.
-pub(super) fn otlp(
-    alloc: Global,
-    vars: &[(String, String)],
-    endpoint_name: &str,
-    headers_name: &str,
-) -> Result<EnvOtlp, AllocError>
-    ensures { IfOk result (λ o. o
-        ≡ spec.otlp endpoint_name.now headers_name.now (variables_of vars.now)) }
-{
-    Ok(EnvOtlp {
-        endpoint: endpoint(alloc, vars, endpoint_name)?,
-        headers: headers(alloc, vars, headers_name)?,
-    })
-}
-
-/// Returns the time that an export may take, in milliseconds, and warns of another protocol than
-/// `http/json`.
+/// Returns the time that an export may take, in milliseconds.
 ///
 /// # Errors
 ///
@@ -235,57 +229,46 @@ pub(super) fn timeout_millis(
 ) -> Result<u32, AllocError>
     ensures timeout { IfOk result (λ n. n ≡ spec.timeout_millis (variables_of vars.now)) }
     ensures warnings { OnOk result (warnings.new.items ≡ warnings.old.items
-        ++ spec.otlp_warnings (variables_of vars.now)) }
+        ++ spec.timeout_warnings (variables_of vars.now)) }
 {
-    let timeout = number_or(
-        alloc,
-        vars,
-        warnings,
-        "OTEL_EXPORTER_OTLP_TIMEOUT",
-        0,
-        10000,
-    )?;
-    let name = "OTEL_EXPORTER_OTLP_PROTOCOL";
-    let text = text_of(vars, name);
-    warn(
-        alloc,
-        warnings,
-        is_named(text, "http/json"),
-        name,
-        text,
-        Instead::HttpJson,
-    )?;
-    Ok(timeout)
+    let name = "OTEL_EXPORTER_OTLP_TIMEOUT";
+    number_or(alloc, vars, warnings, name, 0, 10000)
 }
 
-/// Returns where spans are sent.
+/// Returns where spans are sent, whose endpoints have these faults.
 ///
 /// # Errors
 ///
 /// `AllocError` if out of memory.
-pub(super) fn otlp_traces(alloc: Global, vars: &[(String, String)]) -> Result<EnvOtlp, AllocError>
-    ensures { IfOk result (λ o. o ≡ spec.otlp_traces (variables_of vars.now)) }
+pub(super) fn otlp_traces(
+    alloc: Global,
+    vars: &[(String, String)],
+    faults: EndpointFaults,
+) -> Result<EnvOtlp, AllocError>
+    ensures { IfOk result (λ o. o ≡ spec.otlp_traces faults (variables_of vars.now)) }
 {
-    otlp(
-        alloc,
-        vars,
-        "OTEL_EXPORTER_OTLP_TRACES_ENDPOINT",
-        "OTEL_EXPORTER_OTLP_TRACES_HEADERS",
-    )
+    let own = "OTEL_EXPORTER_OTLP_TRACES_ENDPOINT";
+    Ok(EnvOtlp {
+        endpoint: endpoint(alloc, vars, own, faults.traces, faults.all)?,
+        headers: headers(alloc, vars, "OTEL_EXPORTER_OTLP_TRACES_HEADERS")?,
+    })
 }
 
-/// Returns where log records are sent.
+/// Returns where log records are sent, whose endpoints have these faults.
 ///
 /// # Errors
 ///
 /// `AllocError` if out of memory.
-pub(super) fn otlp_logs(alloc: Global, vars: &[(String, String)]) -> Result<EnvOtlp, AllocError>
-    ensures { IfOk result (λ o. o ≡ spec.otlp_logs (variables_of vars.now)) }
+pub(super) fn otlp_logs(
+    alloc: Global,
+    vars: &[(String, String)],
+    faults: EndpointFaults,
+) -> Result<EnvOtlp, AllocError>
+    ensures { IfOk result (λ o. o ≡ spec.otlp_logs faults (variables_of vars.now)) }
 {
-    otlp(
-        alloc,
-        vars,
-        "OTEL_EXPORTER_OTLP_LOGS_ENDPOINT",
-        "OTEL_EXPORTER_OTLP_LOGS_HEADERS",
-    )
+    let own = "OTEL_EXPORTER_OTLP_LOGS_ENDPOINT";
+    Ok(EnvOtlp {
+        endpoint: endpoint(alloc, vars, own, faults.logs, faults.all)?,
+        headers: headers(alloc, vars, "OTEL_EXPORTER_OTLP_LOGS_HEADERS")?,
+    })
 }

@@ -7,12 +7,13 @@ ghost use Rattle.otel_sdk.specs.EnvPropagators.{propagators};
 ghost use Rattle.otel_sdk.specs.EnvSampler.{sampler};
 ghost use Rattle.otel_sdk.specs.EnvTexts.{variables_of};
 
+use super::endpoints::EndpointFaults;
 use super::export::EnvExporter;
 use super::limits::EnvBatches;
 use super::propagators::EnvPropagator;
 use super::sampler::EnvSampler;
 use super::warning::EnvWarning;
-use super::{export, headers, limits, propagators, sampler};
+use super::{endpoints, export, headers, limits, propagators, sampler, unsupported};
 use opentelemetry::StringValue;
 use otel_sdk_base::otlp::EnvOtlp;
 use otel_sdk_logs::LogRecordLimits;
@@ -106,13 +107,45 @@ pub(super) fn read_limits(
     })
 }
 
+/// Where spans and log records are sent, and what is wrong with the endpoints.
+#[derive(Drop)]
+pub(super) struct Destinations {
+    pub(super) traces: EnvOtlp,
+    pub(super) logs: EnvOtlp,
+    pub(super) faults: EndpointFaults,
+}
+
+/// Returns where spans and log records are sent.
+///
+/// # Errors
+///
+/// `AllocError` if out of memory.
+fn read_destinations(
+    alloc: Global,
+    vars: &[(String, String)],
+    warnings: &mut Vec<EnvWarning>,
+) -> Result<Destinations, AllocError>
+    ensures read { IfOk result (spec.AreDestinations (variables_of vars.now)) }
+    ensures warnings { IfOk result (λ d. warnings.new.items ≡ warnings.old.items
+        ++ spec.destination_warnings d.faults (variables_of vars.now)) }
+{
+    let faults = endpoints::endpoint_faults(alloc, vars, warnings)?;
+    headers::warn_of_headers(alloc, vars, warnings)?;
+    let traces = export::otlp_traces(alloc, vars, faults)?;
+    let logs = export::otlp_logs(alloc, vars, faults)?;
+    Ok(Destinations {
+        traces,
+        logs,
+        faults,
+    })
+}
+
 /// Where to export.
 #[derive(Drop)]
 pub(super) struct Outlets {
     pub(super) traces_exporter: EnvExporter,
     pub(super) logs_exporter: EnvExporter,
-    pub(super) otlp_traces: EnvOtlp,
-    pub(super) otlp_logs: EnvOtlp,
+    pub(super) otlp: Destinations,
     pub(super) otlp_timeout_millis: u32,
 }
 
@@ -130,26 +163,21 @@ pub(super) fn read_outlets(
         o.traces_exporter ≡ spec.traces_exporter (variables_of vars.now)) }
     ensures logs { IfOk result (λ o.
         o.logs_exporter ≡ spec.logs_exporter (variables_of vars.now)) }
-    ensures otlp_traces { IfOk result (λ o.
-        o.otlp_traces ≡ export.otlp_traces (variables_of vars.now)) }
-    ensures otlp_logs { IfOk result (λ o.
-        o.otlp_logs ≡ export.otlp_logs (variables_of vars.now)) }
+    ensures otlp { IfOk result (λ o. spec.AreDestinations (variables_of vars.now) o.otlp) }
     ensures timeout { IfOk result (λ o.
         o.otlp_timeout_millis ≡ export.timeout_millis (variables_of vars.now)) }
-    ensures warnings { OnOk result (warnings.new.items ≡ warnings.old.items
-        ++ spec.outlet_warnings (variables_of vars.now)) }
+    ensures warnings { IfOk result (λ o. warnings.new.items ≡ warnings.old.items
+        ++ spec.outlet_warnings o.otlp.faults (variables_of vars.now)) }
 {
-    let otlp_traces = export::otlp_traces(alloc, vars)?;
-    let otlp_logs = export::otlp_logs(alloc, vars)?;
     let traces_exporter = export::exporter(alloc, vars, warnings, "OTEL_TRACES_EXPORTER")?;
     let logs_exporter = export::exporter(alloc, vars, warnings, "OTEL_LOGS_EXPORTER")?;
-    headers::warn_of_headers(alloc, vars, warnings)?;
+    let otlp = read_destinations(alloc, vars, warnings)?;
     let otlp_timeout_millis = export::timeout_millis(alloc, vars, warnings)?;
+    unsupported::warn_of_all(alloc, vars, warnings)?;
     Ok(Outlets {
         traces_exporter,
         logs_exporter,
-        otlp_traces,
-        otlp_logs,
+        otlp,
         otlp_timeout_millis,
     })
 }

@@ -37,4 +37,9 @@ pub(super) const HELP: &str = concat!(
     "OTEL_EXPORTER_OTLP_LOGS_HEADERS         NAME=VALUE,.. (OTEL_EXPORTER_OTLP_HEADERS)\n",
     "OTEL_EXPORTER_OTLP_TIMEOUT              MILLISECONDS (10000)\n",
     "OTEL_EXPORTER_OTLP_PROTOCOL             http/json\n",
+    "OTEL_EXPORTER_OTLP_TRACES_PROTOCOL      http/json\n",
+    "OTEL_EXPORTER_OTLP_LOGS_PROTOCOL        http/json\n",
+    "OTEL_EXPORTER_OTLP_COMPRESSION          none\n",
+    "OTEL_EXPORTER_OTLP_TRACES_COMPRESSION   none\n",
+    "OTEL_EXPORTER_OTLP_LOGS_COMPRESSION     none\n",
 );

@@ -1,12 +1,14 @@
 //! A configuration from the environment of the process.
-ghost use Rattle.std.specs.Prelude.{◌≡◌, All, IfOk};
+ghost use Rattle.std.specs.Prelude.{◌++◌, All, IfOk};
 ghost use Rattle.otel_sdk.specs.EnvConfig as spec;
 ghost use Rattle.otel_sdk.specs.EnvConfig.{config_of};
 ghost use Rattle.otel_sdk.specs.EnvTexts.{Variables};
 ghost use Rattle.otel_sdk.specs.EnvVariables.{AreRead, names_in};
 ghost use Rattle.otel_sdk.specs.declared.env.help.TheConstants.{HELP};
+ghost use Rattle.otel_sdk.specs.declared.env.unsupported.TheConstants.{UNSUPPORTED};
 
 use super::help::HELP;
+use super::unsupported::UNSUPPORTED;
 use super::variables::{VariableSource, variables};
 use super::{EnvConfig, EnvWarning};
 use std::alloc::{AllocError, AllocGlobal};
@@ -48,7 +50,7 @@ impl EnvConfig {
     /// does from its variables, and writes each warning to standard error, as a line. A text that
     /// isn't UTF-8 counts as U+FFFD.
     ///
-    /// Reads the variables of [`EnvConfig::HELP`].
+    /// Reads the variables of [`EnvConfig::HELP`], and those that give a warning if they are set.
     ///
     /// # Errors
     ///
@@ -57,11 +59,12 @@ impl EnvConfig {
     where
         R: VariableSource + WarningSink + AllocGlobal,
         ensures read { IfOk result (λ config. (vars : Variables)
-            × AreRead R.VariableSource.may_be (names_in HELP.now) vars
-            × (config_of config ≡ spec.env_config vars)) }
+            × AreRead R.VariableSource.may_be (names_in HELP.now ++ names_in UNSUPPORTED.now) vars
+            × spec.IsConfigOf vars (config_of config)) }
         ensures told { IfOk result (λ config. All R.WarningSink.is_told config.warnings.items) }
     {
-        let vars = variables(rt, HELP)?;
+        let mut vars = variables(rt, HELP)?;
+        vars.append(&mut variables(rt, UNSUPPORTED)?)?;
         let config = EnvConfig::from_vars(rt.alloc(), vars.as_slice())?;
         tell_each(rt, config.warnings.as_slice());
         Ok(config)

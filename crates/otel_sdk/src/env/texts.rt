@@ -20,6 +20,24 @@ pub(super) fn text_of<'a>(vars: &'a [(String, String)], name: &str) -> &'a str
     ""
 }
 
+/// The maximum length of a URL and of a list of headers, in bytes. With a signal's path added, such
+/// a URL still is one, and such a list has no more headers than a map holds.
+const MAX_LEN: usize = 65_000;
+
+/// Returns whether the text is longer than a URL or a list of headers may be.
+pub(super) fn is_long(text: &str) -> bool
+    ensures { result ≡ spec.is_long text.now }
+{
+    text.len() > MAX_LEN
+}
+
+/// Returns the text, or an empty one if it is longer than a list of headers may be.
+pub(super) fn short(text: &str) -> &str
+    ensures { result.now ≡ spec.short text.now }
+{
+    if is_long(text) { "" } else { text }
+}
+
 /// Returns whether the text is the name, in any case.
 pub(super) fn is_named(text: &str, name: &str) -> bool
     ensures { result ≡ spec.is_named text.now name.now }

@@ -6,6 +6,41 @@ use opentelemetry::StringValue;
 use std::alloc::{AllocError, Global};
 use std::fmt;
 
+/// Why a variable counts as unset.
+#[derive(Clone, Copy, Debug, PartialEq, Eq)]
+pub enum EnvFault {
+    /// The text has more than 65,000 bytes.
+    Length,
+    /// The text isn't a URL with a host.
+    Url,
+    /// The URL's scheme isn't `http` or `https`.
+    Scheme,
+    /// The URL has user information (RFC 3986, section 3.2.1), such as `user:password@`.
+    UserInfo,
+    /// The URL has a query or a fragment, to which no path of a signal can be added.
+    Query,
+    /// The specification has this variable, or this text of it, but the SDK doesn't.
+    Unsupported,
+}
+
+impl fmt::Display for EnvFault {
+    ghost use Rattle.std.specs.Prelude.{Some};
+    ghost use Rattle.otel_sdk.specs.EnvWarnings.{fault_text};
+
+    ghost output = { λ fault. Some (fault_text fault) };
+
+    fn fmt<W: fmt::Write>(&self, f: &mut fmt::Formatter<W>) -> fmt::Result {
+        match self {
+            EnvFault::Length => f.write_str("it has more than 65000 bytes"),
+            EnvFault::Url => f.write_str("it isn't a URL with a host"),
+            EnvFault::Scheme => f.write_str("its scheme isn't http or https"),
+            EnvFault::UserInfo => f.write_str("it has user information"),
+            EnvFault::Query => f.write_str("it has a query or a fragment"),
+            EnvFault::Unsupported => f.write_str("it is not supported"),
+        }
+    }
+}
+
 /// What counts instead of the text of a variable.
 #[derive(Clone, Copy, Debug, PartialEq, Eq)]
 pub enum Instead {
@@ -25,6 +60,8 @@ pub enum Instead {
     HttpJson,
     /// The text `tracecontext,baggage`.
     W3cPropagators,
+    /// Nothing: the variable counts as unset, for this reason.
+    Unset(EnvFault),
 }
 
 impl fmt::Display for Instead {
@@ -43,18 +80,21 @@ impl fmt::Display for Instead {
             Instead::Otlp => f.write_str("otlp counts instead"),
             Instead::HttpJson => f.write_str("http/json counts instead"),
             Instead::W3cPropagators => f.write_str("tracecontext,baggage counts instead"),
+            Instead::Unset(fault) => write!(f, "{fault}, and counts as unset"),
         }
     }
 }
 
 /// A warning that the text of an environment variable, or a part of it, doesn't count.
 ///
-/// `Display` writes one line, in which the text is quoted and escaped.
+/// `Display` writes one line, in which the text is quoted and escaped. No password of a URL and no
+/// value of a header is in a warning.
 #[derive(Debug, Drop)]
 pub struct EnvWarning {
     /// The name of the variable.
     pub name: StringValue,
-    /// The text, or the part of it that doesn't count.
+    /// The text, or the part of it that doesn't count: of a header its name, and `..` in place of a
+    /// URL with an `@` and of a long text.
     pub value: StringValue,
     /// What counts instead.
     pub instead: Instead,

@@ -1,6 +1,6 @@
 //! An exporter over the pipes of a folder, which are files here.
 use crate::batches::{root, scope};
-use crate::http_texts::environment;
+use crate::http_texts::{by_hand, environment};
 use otel_otlp::pipe_exporter;
 use otel_sdk::EnvConfig;
 use otel_sdk_base::Exporter;
@@ -124,14 +124,30 @@ fn a_refused_configuration_is_named(rt: HostRuntime) -> Result<(), Fail> {
         ("http://h", "a=1,Host=x", "header not allowed: Host"),
     ];
     for (endpoint, headers, wanted) in rows {
-        let env = given(alloc, endpoint, headers)?;
-        match pipe_exporter(alloc, rt, "/tmp", &env.otlp_traces) {
+        let otlp = by_hand(alloc, endpoint, headers)?;
+        match pipe_exporter(alloc, rt, "/tmp", &otlp) {
             Ok(_) => assert!(rt; false, "{endpoint} {headers}"),
             Err(error) => {
                 let text = format!(in alloc; "{error}")?;
                 assert_eq!(rt; text.as_str(), wanted);
             }
         }
+    }
+    Ok(())
+}
+
+#[test]
+fn no_variable_refuses_the_exporter(rt: HostRuntime) -> Result<(), Fail> {
+    let alloc = rt.alloc();
+    for (endpoint, headers) in [
+        ("a:4318", "api-key=%zz"),
+        ("grpc://a:1", "api-key=%20a"),
+        ("http://user:pw@a", "Host=x"),
+        ("http://", "content-type=x,=1,b"),
+    ] {
+        let env = given(alloc, endpoint, headers)?;
+        assert!(rt; env.warnings.len() >= 2, "{endpoint} {headers}");
+        drop(pipe_exporter(alloc, rt, "/tmp", &env.otlp_traces)?);
     }
     Ok(())
 }

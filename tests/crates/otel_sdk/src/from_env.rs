@@ -1,4 +1,5 @@
 //! The configuration from the environment of a process: what is read, and what is told.
+use crate::env_otlp::UNSUPPORTED;
 use opentelemetry::Value;
 use otel_sdk::EnvConfig;
 use otel_sdk::env::EnvPropagator;
@@ -75,8 +76,8 @@ fn process<'a>(alloc: Global, vars: &'a [(&'a str, &'a [u8])]) -> (Process<'a>, 
     (process, alloc)
 }
 
-/// The names of the variables of the help, a line each.
-fn names_of_help(alloc: Global) -> Result<String, Fail> {
+/// The names of the variables of the help, and of those that aren't supported, a line each.
+fn names(alloc: Global) -> Result<String, Fail> {
     let mut names = String::new(alloc);
     for line in EnvConfig::HELP.lines() {
         if let Some((name, _)) = line.split_once(' ')
@@ -86,15 +87,19 @@ fn names_of_help(alloc: Global) -> Result<String, Fail> {
             names.push_str("\n")?;
         }
     }
+    for name in UNSUPPORTED {
+        names.push_str(name)?;
+        names.push_str("\n")?;
+    }
     Ok(names)
 }
 
 #[test]
-fn each_variable_of_the_help_is_read_once(rt: HostRuntime) -> Result<(), Fail> {
+fn each_variable_is_read_once(rt: HostRuntime) -> Result<(), Fail> {
     let alloc = rt.alloc();
     let (process, alloc) = process(alloc, &[]);
     let unset = EnvConfig::from_env(&(&process, alloc))?;
-    assert!(rt; are(&process.read, names_of_help(alloc)?.as_str()));
+    assert!(rt; are(&process.read, names(alloc)?.as_str()));
     assert!(rt; unset.warnings.is_empty() && are(&process.told, ""));
     Ok(())
 }

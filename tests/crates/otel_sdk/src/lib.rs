@@ -9,6 +9,7 @@ mod builders;
 mod calls;
 mod disabled;
 mod env;
+mod env_otlp;
 mod errors;
 mod exporter;
 mod exports;

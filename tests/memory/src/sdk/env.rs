@@ -47,7 +47,9 @@ fn vars(alloc: Global) -> Result<Vec<(String, String)>, AllocError> {
         ("OTEL_RESOURCE_ATTRIBUTES", "a=b%2Cc"),
         ("OTEL_PROPAGATORS", "b3,none,zipkin"),
         ("OTEL_EXPORTER_OTLP_ENDPOINT", "http://h"),
-        ("OTEL_EXPORTER_OTLP_HEADERS", "a=1,b c=2"),
+        ("OTEL_EXPORTER_OTLP_TRACES_ENDPOINT", "grpc://h"),
+        ("OTEL_EXPORTER_OTLP_HEADERS", "a=1,b c=2,x-d=%20"),
+        ("OTEL_LOG_LEVEL", "debug"),
     ] {
         vars.push((
             String::from_str(alloc, name)?,

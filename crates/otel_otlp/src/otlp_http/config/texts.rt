@@ -116,7 +116,7 @@ impl OtlpHttpConfig {
     }
 
     /// Reads the configuration that the environment gives for a signal, as `EnvConfig::from_vars`
-    /// of `otel_sdk` reads it.
+    /// of `otel_sdk` reads it. That warns of faults, and leaves them out, so that none is left here.
     ///
     /// ```
     /// let config = OtlpHttpConfig::from_env(alloc, &env.otlp_traces)?;

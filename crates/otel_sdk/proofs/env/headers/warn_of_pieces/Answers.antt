@@ -13,7 +13,7 @@ loop-piece-preserved c =
     let road = YieldsList-at c.into_iter-piece-iterator.ensures.into_iter_gives (YieldsList-from_str_split 44 text (lit< tt) c.split-piece-items.ensures.text c.split-piece-items.ensures.has_more c.split-piece-items.ensures.pattern) in
     let turn = YieldsList-turn road c.loop-piece.yielded _ c.loop-piece.yielded_by _ _ c.in-Some.piece c.in-Some.is c.next.ensures.steps in
     let step : c.warn.new.warnings.items ≡ c.loop-piece.warnings.items ++ spec.piece_warnings c.args.name.now c.in-Some.piece.now =
-    rw (← c.cut_blanks-piece.ensures, ← c.is_header-understood.ensures) c.in_ok-warn.ensures in
+    rw (← c.cut_blanks-piece.ensures, ← c.in_ok-understood.ensures, ← c.shown.ensures) c.in_ok-warn.ensures in
     warned_more (spec.piece_warnings c.args.name.now) (pieces text) (length c.loop-piece.yielded) _ c.in-Some.piece.now c.args.warnings.now.items c.loop-piece.warnings.items _ (length_push c.loop-piece.yielded c.in-Some.piece) turn step c.loop-piece.invariant
 
 pub returns : goal.returns
