@@ -64,6 +64,9 @@ number_unless_zero number v = if v == 0 then [] else (number, varint v) ∷ []
 abbrev pub fixed64_unless_zero : ℕ → ℕ → List Field
 fixed64_unless_zero number v = if v == 0 then [] else (number, fixed64 v) ∷ []
 
+abbrev pub fixed32_unless_zero : ℕ → ℕ → List Field
+fixed32_unless_zero number v = if v == 0 then [] else (number, fixed32 v) ∷ []
+
 -- ---- worked rows
 small_example : varint_bytes 127 ≡ 0x7f ∷ []
 unfolding varint_bytes

@@ -89,6 +89,20 @@ pub fn put_fixed32(out: &mut Output, number: u32, value: u32) -> Result<(), Allo
     put_tag(out, number, FIXED32)
 }
 
+/// Puts 4 bytes, the lowest first, unless the number is 0 (the protocol's `fixed32`).
+///
+/// # Errors
+///
+/// `AllocError` if the bytes don't fit the output, which may then hold some of them.
+pub fn put_fixed32_unless_zero(out: &mut Output, number: u32, value: u32) -> Result<(), AllocError>
+    ensures { Puts result out.old out.new (spec.fixed32_unless_zero number value) }
+{
+    if value == 0 {
+        return Ok(());
+    }
+    put_fixed32(out, number, value)
+}
+
 /// Puts a boolean.
 pub(crate) fn put_boolean(out: &mut Output, number: u32, value: bool) -> Result<(), AllocError>
     ensures { Puts result out.old out.new (spec.boolean number value ∷ []) }

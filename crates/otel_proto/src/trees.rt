@@ -17,15 +17,15 @@ use otel_base::{AnyValue, Key};
 use std::alloc::{AllocError, Global};
 use std::collections::BTreeMap;
 
-/// The maximum number of lists and maps within each other that are written. Readers take 100
-/// messages within each other, and a map within a map is three.
-pub const MAX_LEVELS: u32 = 30;
+/// The maximum number of lists and maps within each other that are written, as in the JSON form.
+/// Readers take 100 messages within each other, and a map within a map is three.
+pub const MAX_LEVELS: u32 = 29;
 
 /// Puts the value of the tree (the protocol's `AnyValue`), with the string `..` for each list and
 /// map within `levels` others.
 #[cycle(tree)]
 fn tree_value(out: &mut Output, value: &AnyValue, levels: u32) -> Result<(), AllocError>
-    ensures { Puts result out.old out.new (spec.tree_value levels (tree value.now)) }
+    ensures { Puts result out.old out.new (spec.tree_value (spec.cut levels (tree value.now))) }
 {
     match value {
         AnyValue::Int(n) => integer_value(out, *n),
@@ -41,7 +41,7 @@ fn tree_value(out: &mut Output, value: &AnyValue, levels: u32) -> Result<(), All
 #[cycle(tree)]
 fn list_value(out: &mut Output, items: &Vec<AnyValue>, levels: u32) -> Result<(), AllocError>
     ensures { Puts result out.old out.new
-        (spec.tree_value levels (any.list (trees_view items.now.items))) }
+        (spec.tree_value (spec.cut levels (any.list (trees_view items.now.items)))) }
 {
     if levels == 0 {
         return text_value(out, "..");
@@ -59,7 +59,7 @@ fn map_value(
     levels: u32,
 ) -> Result<(), AllocError>
     ensures { Puts result out.old out.new
-        (spec.tree_value levels (any.map (entries_view entries.now.entries))) }
+        (spec.tree_value (spec.cut levels (any.map (entries_view entries.now.entries)))) }
 {
     if levels == 0 {
         return text_value(out, "..");
@@ -72,7 +72,8 @@ fn map_value(
 /// Puts the value of each tree (the protocol's `ArrayValue`).
 #[cycle(tree)]
 fn list_values(out: &mut Output, items: &Vec<AnyValue>, levels: u32) -> Result<(), AllocError>
-    ensures { Puts result out.old out.new (spec.list_values levels (trees_view items.now.items)) }
+    ensures { Puts result out.old out.new
+        (spec.list_values (spec.cut_trees levels (trees_view items.now.items))) }
 {
     for item in items.iter().rev() {
         let end = out.count();
@@ -90,7 +91,7 @@ fn map_values(
     levels: u32,
 ) -> Result<(), AllocError>
     ensures { Puts result out.old out.new
-        (spec.map_values levels (entries_view entries.now.entries)) }
+        (spec.map_values (spec.cut_entries levels (entries_view entries.now.entries))) }
 {
     for (key, value) in entries.iter().rev() {
         let end = out.count();
@@ -104,7 +105,7 @@ fn map_values(
 #[cycle(tree)]
 fn put_pair(out: &mut Output, key: &Key, value: &AnyValue, levels: u32) -> Result<(), AllocError>
     ensures { Puts result out.old out.new
-        (common.pair key.now (spec.tree_value levels (tree value.now))) }
+        (common.pair key.now (spec.tree_value (spec.cut levels (tree value.now)))) }
 {
     let end = out.count();
     tree_value(out, value, levels)?;
@@ -112,19 +113,19 @@ fn put_pair(out: &mut Output, key: &Key, value: &AnyValue, levels: u32) -> Resul
     put_bytes_unless_empty(out, 1, key.as_str().as_bytes())
 }
 
-/// Puts the fields of a value (the protocol's `AnyValue`). Each list or map inside 30 others is the
+/// Puts the fields of a value (the protocol's `AnyValue`). Each list or map inside 29 others is the
 /// string `..`.
 ///
 /// # Errors
 ///
 /// `AllocError` if the bytes don't fit the output, which may then hold some of them.
 pub fn put_value(out: &mut Output, value: &AnyValue) -> Result<(), AllocError>
-    ensures { Puts result out.old out.new (spec.tree_value spec.max_levels (tree value.now)) }
+    ensures { Puts result out.old out.new (spec.cut_value (tree value.now)) }
 {
     tree_value(out, value, MAX_LEVELS)
 }
 
-/// Puts the fields of a key with its value (the protocol's `KeyValue`). Each list or map inside 30
+/// Puts the fields of a key with its value (the protocol's `KeyValue`). Each list or map inside 29
 /// others is the string `..`.
 ///
 /// # Errors
@@ -132,14 +133,14 @@ pub fn put_value(out: &mut Output, value: &AnyValue) -> Result<(), AllocError>
 /// `AllocError` if the bytes don't fit the output, which may then hold some of them.
 pub fn put_entry(out: &mut Output, key: &Key, value: &AnyValue) -> Result<(), AllocError>
     ensures { Puts result out.old out.new
-        (common.pair key.now (spec.tree_value spec.max_levels (tree value.now))) }
+        (common.pair key.now (spec.cut_value (tree value.now))) }
 {
     put_pair(out, key, value, MAX_LEVELS)
 }
 
 /// Returns a value as the bytes of the protocol's `AnyValue`.
 ///
-/// Each list or map inside 30 others is the string `..`. The bytes are counted first, and their
+/// Each list or map inside 29 others is the string `..`. The bytes are counted first, and their
 /// buffer is allocated once.
 ///
 /// # Errors
@@ -147,11 +148,11 @@ pub fn put_entry(out: &mut Output, key: &Key, value: &AnyValue) -> Result<(), Al
 /// `AllocError` if out of memory.
 pub fn any_value_bytes(alloc: Global, value: &AnyValue) -> Result<Vec<u8>, AllocError>
     ensures bytes { IfOk result (λ v.
-        v.items ≡ bytes_of (spec.tree_value spec.max_levels (tree value.now))) }
+        v.items ≡ bytes_of (spec.cut_value (tree value.now))) }
     // An integer of a value has 64 bits, so that it is a field.
     ensures reads { IfOk result (λ v.
-        All IsField (spec.tree_value spec.max_levels (tree value.now))
-        → read v.items ≡ Some (spec.tree_value spec.max_levels (tree value.now))) }
+        All IsField (spec.cut_value (tree value.now))
+        → read v.items ≡ Some (spec.cut_value (tree value.now))) }
 {
     let mut counted = Output::counting();
     tree_value(&mut counted, value, MAX_LEVELS)?;

@@ -3,7 +3,11 @@ pub mod Scopes
 pub mod SortedEntries
 pub mod Sorting
 pub mod TraceStates
+pub mod LogFields
+pub mod CutParts
 pub mod Pieces
 pub mod SameAttributes
+pub mod SameTrees
 pub mod SameSpans
+pub mod SameRecords
 pub mod SameBatches

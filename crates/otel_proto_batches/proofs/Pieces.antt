@@ -1,6 +1,6 @@
 -- The fields of a message as pieces, each a number with its contents: fields that are equal have
 -- equal contents under each number.
-use Rattle.std.proofs.Common.{◌≡◌, ℕ, ◌+◌, ◌<◌, ◌^◌, ◌==◌, List, [], ◌∷◌, ◌++◌, length, map, Bool, true, false, if◌then◌else◌, true≢false, refl, sym, ap, ◌∙◌, subst, append_assoc, append-nil, length-append, arith}
+use Rattle.std.proofs.Common.{◌≡◌, ℕ, ◌+◌, ◌<◌, ◌^◌, ◌==◌, List, [], ◌∷◌, ◌++◌, length, map, Option, Some, None, Bool, true, false, if◌then◌else◌, true≢false, refl, sym, ap, ◌∙◌, subst, append_assoc, append-nil, length-append, eq-eqb, arith}
 use Rattle.std.specs.Prelude.{⊤}
 use Rattle.std.specs.List.{All}
 use Rattle.std.proofs.lemmas.Grind.{common_steps}
@@ -9,6 +9,8 @@ use Rattle.std.proofs.lemmas.List.Elements.{All-nil, All-cons, All-append, All-h
 use Rattle.otel_proto.specs.Laws.{IsField, FitsType, AreShort}
 use Rattle.otel_proto.specs.Wire.{Field, Content, varint, fixed64, bytes, fixed32, is_number}
 use Rattle.otel_proto.proofs.shared.ReadBack.{equal_bytes}
+use Rattle.otel_proto_batches.specs.Common.{text_if_given}
+use Rattle.otel_proto_batches.specs.Facts.{told_text}
 use Rattle.otel_proto.specs.Written.{bytes_of, field_bytes, content_bytes, head, bytes_unless_empty, number_unless_zero, fixed64_unless_zero, message, messages}
 
 -- ---- contents
@@ -116,6 +118,11 @@ text s = if length s == 0 then [] else bytes s ∷ []
 pub text_piece : (n : ℕ) (s : List ℕ) → IsPiece (bytes_unless_empty n s) (n, text s)
 text_piece n s = if_piece (length s == 0) n (bytes s)
 
+-- one that may not be there
+pub given_piece : (n : ℕ) (t : Option (List ℕ)) → IsPiece (text_if_given n t) (n, text (told_text t))
+given_piece n None = record { is = refl }
+given_piece n (Some t) = text_piece n t
+
 abbrev pub number : ℕ → List Content
 number v = if v == 0 then [] else varint v ∷ []
 
@@ -182,6 +189,32 @@ time_again v = by (v == 0) refl
     by true e = sym (zero_is v e)
     by false e = refl
 
+-- ---- the contents of all fields
+abbrev pub contents_of : List Field → List Content
+contents_of fs = map (λ f. f.1) fs
+
+abbrev pub first_number : List Field → ℕ
+first_number [] = 0
+first_number (f ∷ fs) = f.0
+
+-- fields whose first numbers differ
+pub differ : (fs gs : List Field) → (first_number fs == first_number gs) ≡ false → fs ≡ gs → ⊥
+differ fs gs d e = true≢false (sym (eq-eqb (first_number fs) (first_number gs) (ap first_number e)) ∙ d)
+
+-- the varint of a boolean
+abbrev pub bit : Bool → ℕ
+bit b = if b then 1 else 0
+
+pub same_boolean : (a b : Bool) → bit a ≡ bit b → a ≡ b
+same_boolean true true e = refl
+same_boolean true false e = absurd (omega (arith, e))
+same_boolean false true e = absurd (omega (arith, e))
+same_boolean false false e = refl
+
+pub boolean_small : (b : Bool) → bit b < 2 ^ 64
+boolean_small true = omega arith
+boolean_small false = omega arith
+
 -- contents that are the same but for an empty end
 pub same_ends : (cs ds : List Content) → cs ++ [] ≡ ds ++ [] → cs ≡ ds
 same_ends cs ds e = sym (append-nil cs) ∙ e ∙ append-nil ds
@@ -215,6 +248,9 @@ both_fit {ps = ps} {qs = qs} h k =
 -- fields whose pieces fit
 pub all_fields : {fs : List Field} {ps : List Piece} → IsOf fs ps → Fit ps → All IsField fs
 all_fields e h = subst (All IsField) (sym e.is) h.all
+
+pub none_fits : FitTypes []
+none_fits = record { all = All-nil FitsType }
 
 pub one_fits : (c : Content) → FitsType c → FitTypes (c ∷ [])
 one_fits c h = record { all = All-cons FitsType c [] h (All-nil FitsType) }
@@ -267,6 +303,9 @@ contents_short n (f ∷ fs) h =
 pub first_short : (f : Field) (fs : List Field) → AreShort (f ∷ fs) → IsShort f.1
 first_short f fs h = content_short f.0 f.1 (omega (arith, h, bytes_more f fs))
 
+pub rest_short : (f : Field) (fs : List Field) → AreShort (f ∷ fs) → AreShort fs
+rest_short f fs h = omega (arith, h, bytes_more f fs)
+
 -- the contents under a number of short fields are short
 pub short_at : {fs : List Field} {ps : List Piece} → IsOf fs ps → AreShort fs → (n : ℕ) → All IsShort (at n ps)
 short_at {fs = fs} {ps = ps} e h n = subst (All IsShort) (ap (contents n) e.is ∙ contents_at n ps) (contents_short n fs h)
@@ -278,13 +317,13 @@ pub short_ends : (cs : List Content) → All IsShort (cs ++ []) → All IsShort 
 short_ends cs h = subst (All IsShort) (append-nil cs) h
 
 -- ---- messages that are the same
-abbrev is_none : {A : Type 0} → List A → Bool
+abbrev pub is_none : {A : Type 0} → List A → Bool
 is_none [] = true
 is_none (x ∷ xs) = false
 
-abbrev others : List Content → List Content
+abbrev pub others : {A : Type 0} → List A → List A
 others [] = []
-others (c ∷ cs) = cs
+others (x ∷ xs) = xs
 
 -- the fields of one message
 pub one_same : (fs gs : List Field) → All IsField fs → All IsField gs → AreShort fs → one (bytes (bytes_of fs)) ≡ one (bytes (bytes_of gs)) → fs ≡ gs

@@ -1,5 +1,5 @@
 -- Attributes whose messages have the same bytes.
-use Rattle.std.proofs.Common.{◌≡◌, ℕ, ℤ, ◌<◌, ◌^◌, ◌==◌, List, [], ◌∷◌, ◌++◌, map, Bool, true, false, if◌then◌else◌, true≢false, refl, sym, ap, ◌∙◌, subst, eq-eqb, arith}
+use Rattle.std.proofs.Common.{◌≡◌, ℕ, ℤ, ◌<◌, ◌^◌, List, [], ◌∷◌, ◌++◌, map, Bool, false, refl, sym, ap, ◌∙◌, subst, arith}
 use Rattle.std.specs.Prelude.{⊤}
 use Rattle.std.specs.List.{All}
 use Rattle.std.specs.Int.{w64, cast_unsigned, cast_signed}
@@ -12,13 +12,13 @@ use Rattle.otel_base.specs.Value as value
 use Rattle.otel_base.specs.Value.{AttributeValue}
 use Rattle.otel_proto.specs.Common.{any_value, array_values, key_value}
 use Rattle.otel_proto.specs.Laws.{IsField, AreShort}
-use Rattle.otel_proto.specs.Wire.{Field, Content, bytes}
+use Rattle.otel_proto.specs.Wire.{bytes}
 use Rattle.otel_proto.specs.Written.{bytes_of, message, messages}
 use Rattle.otel_proto.proofs.shared.ReadBack.{equal_bytes}
 use Rattle.otel_proto.proofs.shared.Readable.{messages_are_fields}
 use Rattle.otel_proto_batches.specs.Facts.{told_array, told_value, told_attribute, told}
 use Rattle.otel_proto_batches.specs.InRange.{IsInteger, IsArrayInRange, IsValueInRange, AreInRange}
-use Rattle.otel_proto_batches.proofs.Pieces.{Piece, IsOf, last_of, more_of, one_piece, same_at, one, text, text_piece, each, each_piece, text_in, number_in, text_again, same_ends, fits, none_fit, all_fields, one_fits, text_fits, IsShort, first_short, short_at, short_one, short_ends, one_same, each_same}
+use Rattle.otel_proto_batches.proofs.Pieces.{Piece, IsOf, last_of, more_of, one_piece, same_at, one, text, text_piece, each, each_piece, text_in, number_in, text_again, same_ends, fits, none_fit, all_fields, one_fits, text_fits, IsShort, first_short, short_at, short_one, short_ends, one_same, each_same, contents_of, differ, same_boolean, boolean_small}
 
 -- ---- one value
 abbrev IsScalar : AttributeValue → Type 0
@@ -27,11 +27,7 @@ IsScalar (value.integer z) = IsInteger z
 IsScalar (value.text s) = ⊤
 IsScalar (value.array xs) = ⊥
 
-boolean_small : (b : Bool) → (if b then 1 else 0) < 2 ^ 64
-boolean_small true = omega arith
-boolean_small false = omega arith
-
-integer_small : (z : ℤ) → IsInteger z → cast_unsigned w64 z < 2 ^ 64
+pub integer_small : (z : ℤ) → IsInteger z → cast_unsigned w64 z < 2 ^ 64
 integer_small z h = let fits = Fits-of_z {w = w64} {z = z} h in omega (arith, fits)
 
 scalar_fits : (v : AttributeValue) → IsScalar v → All IsField (any_value v)
@@ -45,25 +41,6 @@ value_fits (value.boolean b) h = scalar_fits (value.boolean b) tt
 value_fits (value.integer z) h = scalar_fits (value.integer z) h
 value_fits (value.text s) h = scalar_fits (value.text s) tt
 value_fits (value.array xs) h = All-cons IsField _ [] (record { number = refl; content = tt }) (All-nil IsField)
-
-abbrev first_number : List Field → ℕ
-first_number [] = 0
-first_number (f ∷ fs) = f.0
-
-abbrev contents_of : List Field → List Content
-contents_of fs = map (λ f. f.1) fs
-
-differ : (fs gs : List Field) → (first_number fs == first_number gs) ≡ false → fs ≡ gs → ⊥
-differ fs gs d e = true≢false (sym (eq-eqb (first_number fs) (first_number gs) (ap first_number e)) ∙ d)
-
-abbrev bit : Bool → ℕ
-bit b = if b then 1 else 0
-
-same_boolean : (a b : Bool) → bit a ≡ bit b → a ≡ b
-same_boolean true true e = refl
-same_boolean true false e = absurd (omega (arith, e))
-same_boolean false true e = absurd (omega (arith, e))
-same_boolean false false e = refl
 
 same_scalar : (v w : AttributeValue) → IsScalar v → IsScalar w → any_value v ≡ any_value w → v ≡ w
 same_scalar (value.boolean a) (value.boolean b) p q e = ap value.boolean (same_boolean a b (ap (λ fs. number_in (contents_of fs)) e))

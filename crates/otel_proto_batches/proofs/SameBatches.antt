@@ -1,4 +1,4 @@
--- Batches of spans with the same bytes.
+-- Batches with the same bytes.
 use Rattle.std.proofs.Common.{◌≡◌, ℕ, List, [], ◌∷◌, ◌++◌, map, Option, Some, None, Bool, true, false, if◌then◌else◌, slice_set, refl, sym, ap, ◌∙◌}
 use Rattle.std.specs.List.{All, list_any}
 use Rattle.std.specs.Option.{option_map_or}
@@ -7,7 +7,6 @@ use Rattle.otel_base.specs.InstrumentationScope.{Scope}
 use Rattle.otel_base.specs.KeyValue.{Attribute}
 use Rattle.otel_sdk_base.specs.Resource.{Parts}
 use Rattle.otel_sdk_base.specs.Attributes as given
-use Rattle.otel_sdk_span.specs.SpanData.{SpanRecord}
 use Rattle.otel_proto.specs.Common.{key_value}
 use Rattle.otel_proto.specs.Laws.{IsField, AreShort}
 use Rattle.otel_proto.specs.Wire.{Field, Content, bytes}
@@ -16,17 +15,17 @@ use Rattle.otel_proto.proofs.shared.ReadBack.{equal_bytes}
 use Rattle.otel_proto.proofs.shared.Readable.{messages_are_fields}
 use Rattle.otel_proto_batches.specs.Common.{resource, scope, unique, text_if_given}
 use Rattle.otel_proto_batches.specs.Facts.{told, told_text, span_facts, scope_facts, resource_facts, group_facts, batch_facts}
-use Rattle.otel_proto_batches.specs.Groups.{is_of, items_of, new_scope, first_scopes, scope_group}
+use Rattle.otel_proto_batches.specs.Groups.{Form, is_of, items_of, new_scope, first_scopes, scope_group, request}
 use Rattle.otel_proto_batches.specs.InRange.{IsValueInRange, AreInRange, IsInRange}
-use Rattle.otel_proto_batches.specs.Laws.{EqualTracesSaySame}
-use Rattle.otel_proto_batches.specs.Traces.{span, scope_of, form, request}
-use Rattle.otel_proto_batches.proofs.Pieces.{Piece, IsPiece, IsOf, last_of, more_of, one_piece, same_at, one, text, text_piece, each, each_piece, text_in, text_again, same_ends, fits, none_fit, all_fields, one_fits, text_fits, each_fits, first_short, short_at, short_one, short_ends, one_same, each_same}
+use Rattle.otel_proto_batches.specs.Laws.{EqualBatchesSaySame, EqualTracesSaySame, EqualLogsSaySame}
+use Rattle.otel_proto_batches.specs.LogFacts.{record_facts}
+use Rattle.otel_proto_batches.specs.Logs as logs
+use Rattle.otel_proto_batches.specs.LogsInRange.{IsEntryInRange}
+use Rattle.otel_proto_batches.specs.Traces as traces
+use Rattle.otel_proto_batches.proofs.Pieces.{Piece, IsOf, last_of, more_of, one_piece, same_at, one, text, text_piece, each, each_piece, given_piece, text_in, text_again, same_ends, fits, none_fit, all_fields, one_fits, text_fits, each_fits, first_short, short_at, short_one, short_ends, one_same, each_same}
 use Rattle.otel_proto_batches.proofs.SameAttributes.{same_attributes}
+use Rattle.otel_proto_batches.proofs.SameRecords.{record_fits, same_record}
 use Rattle.otel_proto_batches.proofs.SameSpans.{span_fits, same_span}
-
-given_piece : (n : ℕ) (t : Option (List ℕ)) → IsPiece (text_if_given n t) (n, text (told_text t))
-given_piece n None = record { is = refl }
-given_piece n (Some t) = text_piece n t
 
 same_given : (a b : Option (List ℕ)) → text (told_text a) ++ [] ≡ text (told_text b) ++ [] → Some (told_text a) ≡ Some (told_text b)
 same_given a b e = ap Some (sym (text_again (told_text a)) ∙ ap text_in e ∙ text_again (told_text b))
@@ -71,80 +70,12 @@ same_scope a b p q short e url =
     same_attributes (unique a.attributes) (unique b.attributes) (unique_in_range a p) (unique_in_range b q) (short_ends (each key_value (unique a.attributes)) (shorts 3)) (same_ends (each key_value (unique a.attributes)) (each key_value (unique b.attributes)) (same 3)) in
     λ i. record { name = name i; version = version i; schema_url = url i; attributes = values i }
 
--- ---- groups
-abbrev spans_of : List SpanRecord → Scope → List SpanRecord
-spans_of = items_of scope_of
-
-abbrev group_pieces : List SpanRecord → Scope → List Piece
-group_pieces ss a =
-    (1, one (bytes (bytes_of (scope a)))) ∷ (2, each span (spans_of ss a)) ∷ (3, text (told_text a.schema_url)) ∷ []
-
-group_is : (ss : List SpanRecord) (a : Scope) → IsOf (scope_group form ss a) (group_pieces ss a)
-group_is ss a =
-    more_of (one_piece 1 (bytes (bytes_of (scope a)))) (more_of (each_piece 2 span (spans_of ss a)) (last_of (given_piece 3 a.schema_url)))
-
-group_fits : (ss : List SpanRecord) (a : Scope) → All IsField (scope_group form ss a)
-group_fits ss a =
-    all_fields (group_is ss a)
-    (fits 1 refl (one_fits (bytes (bytes_of (scope a))) tt) (fits 2 refl (each_fits span (spans_of ss a)) (fits 3 refl (text_fits (told_text a.schema_url)) none_fit)))
-
-same_group : (ss ts : List SpanRecord) → All IsInRange ss → All IsInRange ts → (a b : Scope) → ScopeInRange a → ScopeInRange b
-    → AreShort (scope_group form ss a) → scope_group form ss a ≡ scope_group form ts b → group_facts ss a ≡ group_facts ts b
-same_group ss ts in_ss in_ts a b p q short e =
-    let same = same_at (group_is ss a) (group_is ts b) e in
-    let shorts = short_at (group_is ss a) short in
-    let inner : AreShort (scope a) = short_one (bytes_of (scope a)) (shorts 1) in
-    let scopes : scope a ≡ scope b = one_same (scope a) (scope b) (scope_fits a) (scope_fits b) inner (same 1) in
-    let whole = same_scope a b p q inner scopes (same_given a.schema_url b.schema_url (same 3)) in
-    let spans : map span_facts (spans_of ss a) ≡ map span_facts (spans_of ts b) =
-    each_same span span span_facts span_facts IsInRange IsInRange span_fits span_fits same_span (spans_of ss a) (spans_of ts b)
-    (All-filter (is_of scope_of a) IsInRange ss in_ss) (All-filter (is_of scope_of b) IsInRange ts in_ts)
-    (short_ends (each span (spans_of ss a)) (shorts 2)) (same_ends (each span (spans_of ss a)) (each span (spans_of ts b)) (same 2)) in
-    λ i. record { scope = whole i; spans = spans i }
-
--- ---- batches
-abbrev scopes : List SpanRecord → List Scope
-scopes = first_scopes scope_of []
-
-new_in_range : (before : List SpanRecord) (s : SpanRecord) → IsInRange s → All ScopeInRange (new_scope scope_of before s)
-new_in_range before s h = by (list_any (is_of scope_of (scope_of s)) before)
-  where
-    by : (b : Bool) → All ScopeInRange (if b then [] else scope_of s ∷ [])
-    by true = All-nil ScopeInRange
-    by false = All-cons ScopeInRange (scope_of s) [] h.scope (All-nil ScopeInRange)
-
-scopes_in_range : (before ss : List SpanRecord) → All IsInRange ss → All ScopeInRange (first_scopes scope_of before ss)
-scopes_in_range before [] h = All-nil ScopeInRange
-scopes_in_range before (s ∷ ss) h =
-    All-append ScopeInRange (new_scope scope_of before s) (first_scopes scope_of (before ++ s ∷ []) ss)
-    (new_in_range before s (All-head IsInRange s ss h)) (scopes_in_range (before ++ s ∷ []) ss (All-tail IsInRange s ss h))
-
+-- ---- resources
 resource_is : (r : Parts) → IsOf (resource r) ((1, each key_value r.attributes) ∷ [])
 resource_is r = last_of (each_piece 1 key_value r.attributes)
 
 resource_fits : (r : Parts) → All IsField (resource r)
 resource_fits r = messages_are_fields 1 key_value r.attributes refl
-
-abbrev groups_of : List SpanRecord → List Content
-groups_of ss = each (scope_group form ss) (scopes ss)
-
-abbrev batch_pieces : Parts → List SpanRecord → List Piece
-batch_pieces r ss =
-    (1, one (bytes (bytes_of (resource r)))) ∷ (2, groups_of ss) ∷ (3, text (told_text r.schema_url)) ∷ []
-
--- the fields of the one message in a request
-abbrev inside : Parts → List SpanRecord → List Field
-inside r ss =
-    message 1 (resource r) ∷ (messages 2 (scope_group form ss) (scopes ss) ++ text_if_given 3 r.schema_url)
-
-inside_is : (r : Parts) (ss : List SpanRecord) → IsOf (inside r ss) (batch_pieces r ss)
-inside_is r ss =
-    more_of (one_piece 1 (bytes (bytes_of (resource r)))) (more_of (each_piece 2 (scope_group form ss) (scopes ss)) (last_of (given_piece 3 r.schema_url)))
-
-inside_fits : (r : Parts) (ss : List SpanRecord) → All IsField (inside r ss)
-inside_fits r ss =
-    all_fields (inside_is r ss)
-    (fits 1 refl (one_fits (bytes (bytes_of (resource r))) tt) (fits 2 refl (each_fits (scope_group form ss) (scopes ss)) (fits 3 refl (text_fits (told_text r.schema_url)) none_fit)))
 
 same_resource : (r q : Parts) → AreInRange r.attributes → AreInRange q.attributes → AreShort (resource r) → resource r ≡ resource q → Some (told_text r.schema_url) ≡ Some (told_text q.schema_url) → resource_facts r ≡ resource_facts q
 same_resource r q in_r in_q short e url =
@@ -152,25 +83,103 @@ same_resource r q in_r in_q short e url =
     same_attributes r.attributes q.attributes in_r in_q (short_ends (each key_value r.attributes) (short_at (resource_is r) short 1)) (same_ends (each key_value r.attributes) (each key_value q.attributes) (same_at (resource_is r) (resource_is q) e 1)) in
     λ i. record { attributes = values i; schema_url = url i }
 
-same_inside : (r q : Parts) (ss ts : List SpanRecord) → AreInRange r.attributes → AreInRange q.attributes → All IsInRange ss → All IsInRange ts
-    → AreShort (inside r ss) → inside r ss ≡ inside q ts → batch_facts r ss ≡ batch_facts q ts
-same_inside r q ss ts in_r in_q in_ss in_ts short e =
-    let same = same_at (inside_is r ss) (inside_is q ts) e in
-    let shorts = short_at (inside_is r ss) short in
-    let inner : AreShort (resource r) = short_one (bytes_of (resource r)) (shorts 1) in
-    let resources : resource r ≡ resource q = one_same (resource r) (resource q) (resource_fits r) (resource_fits q) inner (same 1) in
-    let whole = same_resource r q in_r in_q inner resources (same_given r.schema_url q.schema_url (same 3)) in
-    let groups : map (group_facts ss) (scopes ss) ≡ map (group_facts ts) (scopes ts) =
-    each_same (scope_group form ss) (scope_group form ts) (group_facts ss) (group_facts ts) ScopeInRange ScopeInRange
-    (λ a h. group_fits ss a) (λ b h. group_fits ts b) (same_group ss ts in_ss in_ts) (scopes ss) (scopes ts)
-    (scopes_in_range [] ss in_ss) (scopes_in_range [] ts in_ts) (short_ends (groups_of ss) (shorts 2)) (same_ends (groups_of ss) (groups_of ts) (same 2)) in
-    λ i. record { resource = whole i; groups = groups i }
+-- ---- batches of a form
+-- items whose messages have the same bytes have the same facts
+module _ {R F : Type 0} (form : Form R) (facts : R → F) (InRange : R → Type 0) (scope_range : (r : R) → InRange r → ScopeInRange (form.scope_of r))
+    (item_fits : (r : R) → InRange r → All IsField (form.fields_of r))
+    (same_item : (r s : R) → InRange r → InRange s → AreShort (form.fields_of r) → form.fields_of r ≡ form.fields_of s → facts r ≡ facts s) where
+  abbrev items : List R → Scope → List R
+  items = items_of form.scope_of
+
+  abbrev group_pieces : List R → Scope → List Piece
+  group_pieces xs a =
+      (1, one (bytes (bytes_of (scope a)))) ∷ (2, each form.fields_of (items xs a)) ∷ (3, text (told_text a.schema_url)) ∷ []
+
+  group_is : (xs : List R) (a : Scope) → IsOf (scope_group form xs a) (group_pieces xs a)
+  group_is xs a =
+      more_of (one_piece 1 (bytes (bytes_of (scope a)))) (more_of (each_piece 2 form.fields_of (items xs a)) (last_of (given_piece 3 a.schema_url)))
+
+  group_fits : (xs : List R) (a : Scope) → All IsField (scope_group form xs a)
+  group_fits xs a =
+      all_fields (group_is xs a)
+      (fits 1 refl (one_fits (bytes (bytes_of (scope a))) tt) (fits 2 refl (each_fits form.fields_of (items xs a)) (fits 3 refl (text_fits (told_text a.schema_url)) none_fit)))
+
+  same_group : (xs ys : List R) → All InRange xs → All InRange ys → (a b : Scope) → ScopeInRange a → ScopeInRange b
+      → AreShort (scope_group form xs a) → scope_group form xs a ≡ scope_group form ys b → group_facts form.scope_of facts xs a ≡ group_facts form.scope_of facts ys b
+  same_group xs ys in_xs in_ys a b p q short e =
+      let same = same_at (group_is xs a) (group_is ys b) e in
+      let shorts = short_at (group_is xs a) short in
+      let inner : AreShort (scope a) = short_one (bytes_of (scope a)) (shorts 1) in
+      let scopes : scope a ≡ scope b = one_same (scope a) (scope b) (scope_fits a) (scope_fits b) inner (same 1) in
+      let whole = same_scope a b p q inner scopes (same_given a.schema_url b.schema_url (same 3)) in
+      let told_items : map facts (items xs a) ≡ map facts (items ys b) =
+      each_same form.fields_of form.fields_of facts facts InRange InRange item_fits item_fits same_item (items xs a) (items ys b)
+      (All-filter (is_of form.scope_of a) InRange xs in_xs) (All-filter (is_of form.scope_of b) InRange ys in_ys)
+      (short_ends (each form.fields_of (items xs a)) (shorts 2)) (same_ends (each form.fields_of (items xs a)) (each form.fields_of (items ys b)) (same 2)) in
+      λ i. record { scope = whole i; items = told_items i }
+
+  abbrev scopes : List R → List Scope
+  scopes = first_scopes form.scope_of []
+
+  new_in_range : (before : List R) (r : R) → InRange r → All ScopeInRange (new_scope form.scope_of before r)
+  new_in_range before r h = by (list_any (is_of form.scope_of (form.scope_of r)) before)
+    where
+      by : (b : Bool) → All ScopeInRange (if b then [] else form.scope_of r ∷ [])
+      by true = All-nil ScopeInRange
+      by false = All-cons ScopeInRange (form.scope_of r) [] (scope_range r h) (All-nil ScopeInRange)
+
+  scopes_in_range : (before xs : List R) → All InRange xs → All ScopeInRange (first_scopes form.scope_of before xs)
+  scopes_in_range before [] h = All-nil ScopeInRange
+  scopes_in_range before (x ∷ xs) h =
+      All-append ScopeInRange (new_scope form.scope_of before x) (first_scopes form.scope_of (before ++ x ∷ []) xs)
+      (new_in_range before x (All-head InRange x xs h)) (scopes_in_range (before ++ x ∷ []) xs (All-tail InRange x xs h))
+
+  abbrev groups_of : List R → List Content
+  groups_of xs = each (scope_group form xs) (scopes xs)
+
+  abbrev batch_pieces : Parts → List R → List Piece
+  batch_pieces r xs =
+      (1, one (bytes (bytes_of (resource r)))) ∷ (2, groups_of xs) ∷ (3, text (told_text r.schema_url)) ∷ []
+
+  -- the fields of the one message in a request
+  abbrev inside : Parts → List R → List Field
+  inside r xs =
+      message 1 (resource r) ∷ (messages 2 (scope_group form xs) (scopes xs) ++ text_if_given 3 r.schema_url)
+
+  inside_is : (r : Parts) (xs : List R) → IsOf (inside r xs) (batch_pieces r xs)
+  inside_is r xs =
+      more_of (one_piece 1 (bytes (bytes_of (resource r)))) (more_of (each_piece 2 (scope_group form xs) (scopes xs)) (last_of (given_piece 3 r.schema_url)))
+
+  inside_fits : (r : Parts) (xs : List R) → All IsField (inside r xs)
+  inside_fits r xs =
+      all_fields (inside_is r xs)
+      (fits 1 refl (one_fits (bytes (bytes_of (resource r))) tt) (fits 2 refl (each_fits (scope_group form xs) (scopes xs)) (fits 3 refl (text_fits (told_text r.schema_url)) none_fit)))
+
+  same_inside : (r q : Parts) (xs ys : List R) → AreInRange r.attributes → AreInRange q.attributes → All InRange xs → All InRange ys
+      → AreShort (inside r xs) → inside r xs ≡ inside q ys → batch_facts form.scope_of facts r xs ≡ batch_facts form.scope_of facts q ys
+  same_inside r q xs ys in_r in_q in_xs in_ys short e =
+      let same = same_at (inside_is r xs) (inside_is q ys) e in
+      let shorts = short_at (inside_is r xs) short in
+      let inner : AreShort (resource r) = short_one (bytes_of (resource r)) (shorts 1) in
+      let resources : resource r ≡ resource q = one_same (resource r) (resource q) (resource_fits r) (resource_fits q) inner (same 1) in
+      let whole = same_resource r q in_r in_q inner resources (same_given r.schema_url q.schema_url (same 3)) in
+      let groups : map (group_facts form.scope_of facts xs) (scopes xs) ≡ map (group_facts form.scope_of facts ys) (scopes ys) =
+      each_same (scope_group form xs) (scope_group form ys) (group_facts form.scope_of facts xs) (group_facts form.scope_of facts ys) ScopeInRange ScopeInRange
+      (λ a h. group_fits xs a) (λ b h. group_fits ys b) (same_group xs ys in_xs in_ys) (scopes xs) (scopes ys)
+      (scopes_in_range [] xs in_xs) (scopes_in_range [] ys in_ys) (short_ends (groups_of xs) (shorts 2)) (same_ends (groups_of xs) (groups_of ys) (same 2)) in
+      λ i. record { resource = whole i; groups = groups i }
+
+  equal_batches : EqualBatchesSaySame form facts InRange
+  equal_batches r q xs ys in_r in_q in_xs in_ys short e =
+      let fields : request form r xs ≡ request form q ys =
+      equal_bytes (request form r xs) (request form q ys)
+      (messages_are_fields 1 (λ (fs : List Field). fs) (inside r xs ∷ []) refl) (messages_are_fields 1 (λ (fs : List Field). fs) (inside q ys ∷ []) refl) short e in
+      let inner : AreShort (inside r xs) = first_short (message 1 (inside r xs)) [] short in
+      same_inside r q xs ys in_r in_q in_xs in_ys inner
+      (one_same (inside r xs) (inside q ys) (inside_fits r xs) (inside_fits q ys) inner (ap (λ (fs : List Field). map (λ f. f.1) fs) fields))
 
 pub equal_traces : EqualTracesSaySame
-equal_traces r q ss ts in_r in_q in_ss in_ts short e =
-    let fields : request r ss ≡ request q ts =
-    equal_bytes (request r ss) (request q ts)
-    (messages_are_fields 1 (λ (fs : List Field). fs) (inside r ss ∷ []) refl) (messages_are_fields 1 (λ (fs : List Field). fs) (inside q ts ∷ []) refl) short e in
-    let inner : AreShort (inside r ss) = first_short (message 1 (inside r ss)) [] short in
-    same_inside r q ss ts in_r in_q in_ss in_ts inner
-    (one_same (inside r ss) (inside q ts) (inside_fits r ss) (inside_fits q ts) inner (ap (λ (fs : List Field). map (λ f. f.1) fs) fields))
+equal_traces = equal_batches traces.form span_facts IsInRange (λ s h. h.scope) span_fits same_span
+
+pub equal_logs : EqualLogsSaySame
+equal_logs = equal_batches logs.form record_facts IsEntryInRange (λ e h. h.scope) record_fits same_record

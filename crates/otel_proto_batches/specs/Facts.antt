@@ -1,4 +1,4 @@
--- The facts about a batch of spans that its bytes show.
+-- The facts about a batch, and about a span, that their bytes show.
 use Rattle.std.specs.Prelude.{ℕ, List, [], ◌∷◌, map, Bool, Option, Some, None}
 use Rattle.otel_base.specs.Array.{ArrayValue, booleans, integers, texts}
 use Rattle.otel_base.specs.InstrumentationScope.{Scope}
@@ -14,7 +14,6 @@ use Rattle.otel_sdk_base.specs.Resource.{Parts}
 use Rattle.otel_sdk_span.specs.SpanData.{SpanRecord}
 use Rattle.otel_proto_batches.specs.Common.{unique}
 use Rattle.otel_proto_batches.specs.Groups.{items_of, first_scopes}
-use Rattle.otel_proto_batches.specs.Traces.{scope_of}
 
 -- ---- attributes
 -- the array, with one type for all arrays without items, since the bytes don't show their type
@@ -131,25 +130,27 @@ resource_facts r = record {
   schema_url = Some (told_text r.schema_url);
 }
 
--- a scope with its spans
-pub record GroupFacts : Type 0 where
+-- a scope with the facts about its items
+pub record GroupFacts (F : Type 0) : Type 0 where
   pub scope : Scope
-  pub spans : List SpanFacts
-
-abbrev pub group_facts : List SpanRecord → Scope → GroupFacts
-group_facts spans of = record {
-  scope = scope_facts of;
-  spans = map span_facts (items_of scope_of spans of);
-}
+  pub items : List F
 
 -- a resource with its groups
-pub record BatchFacts : Type 0 where
+pub record BatchFacts (F : Type 0) : Type 0 where
   pub resource : Parts
-  pub groups : List GroupFacts
+  pub groups : List (GroupFacts F)
 
--- the scopes in the order in which they first appear
-abbrev pub batch_facts : Parts → List SpanRecord → BatchFacts
-batch_facts of spans = record {
-  resource = resource_facts of;
-  groups = map (group_facts spans) (first_scopes scope_of [] spans);
-}
+-- `scope_of` gives the scope of an item, and `facts` the facts about it
+module _ {R F : Type 0} (scope_of : R → Scope) (facts : R → F) where
+  abbrev pub group_facts : List R → Scope → GroupFacts F
+  group_facts items of = record {
+    scope = scope_facts of;
+    items = map facts (items_of scope_of items of);
+  }
+
+  -- the scopes in the order in which they first appear
+  abbrev pub batch_facts : Parts → List R → BatchFacts F
+  batch_facts of items = record {
+    resource = resource_facts of;
+    groups = map (group_facts items) (first_scopes scope_of [] items);
+  }

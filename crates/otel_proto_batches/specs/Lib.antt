@@ -1,9 +1,13 @@
 pub mod Common
+pub mod Cuts
 pub mod Facts
 pub mod GroupView
 pub mod Groups
 pub mod InRange
 pub mod Laws
+pub mod LogFacts
+pub mod Logs
+pub mod LogsInRange
 pub mod Sorted
 pub mod SortedView
 pub mod Traces

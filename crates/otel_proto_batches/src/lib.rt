@@ -3,8 +3,11 @@
 #![tactic(auto)]
 
 mod common;
+mod cuts;
 mod groups;
 pub mod laws;
+mod logs;
 mod traces;
 
+pub use logs::logs_bytes;
 pub use traces::traces_bytes;

@@ -129,16 +129,16 @@ fn maps(alloc: Global, levels: usize, inner: &[u8]) -> Result<Vec<u8>, AllocErro
 }
 
 #[test]
-fn a_map_within_30_others_is_cut(rt: HostRuntime) -> Result<(), Fail> {
+fn a_map_within_29_others_is_cut(rt: HostRuntime) -> Result<(), Fail> {
     let alloc = rt.alloc();
-    let whole = in_maps(alloc, 30, AnyValue::Int(7))?;
-    assert_bytes(&rt, alloc, whole, maps(alloc, 30, b"\x18\x07")?.as_slice())?;
-    let deeper = in_maps(alloc, 31, AnyValue::Int(7))?;
+    let whole = in_maps(alloc, 29, AnyValue::Int(7))?;
+    assert_bytes(&rt, alloc, whole, maps(alloc, 29, b"\x18\x07")?.as_slice())?;
+    let deeper = in_maps(alloc, 30, AnyValue::Int(7))?;
     assert_bytes(
         &rt,
         alloc,
         deeper,
-        maps(alloc, 30, b"\x0a\x02..")?.as_slice(),
+        maps(alloc, 29, b"\x0a\x02..")?.as_slice(),
     )?;
     Ok(())
 }

@@ -2,5 +2,6 @@
 // Depends on: hex test_support
 #![tactic(auto)]
 
+mod logs;
 mod rows;
 mod traces;

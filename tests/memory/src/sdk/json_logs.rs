@@ -47,7 +47,7 @@ fn body(alloc: Global) -> Result<AnyValue, AllocError> {
 }
 
 /// A record with every part.
-fn full(alloc: Global) -> Result<LogData, AllocError> {
+pub fn full(alloc: Global) -> Result<LogData, AllocError> {
     let mut record = SdkLogRecord::new(alloc);
     record.set_event_name("e");
     record.set_target(StringValue::from("t"));

@@ -3,8 +3,9 @@ use crate::lines::Lines;
 use otel_base::{AnyValue, Key, KeyValue, Value};
 use otel_proto::{
     Output, any_value_bytes, key_value_list_bytes, put_attributes, put_bytes,
-    put_bytes_unless_empty, put_entry, put_fixed32, put_fixed64_unless_zero, put_head, put_number,
-    put_number_unless_zero, put_text_unless_empty, put_value,
+    put_bytes_unless_empty, put_entry, put_fixed32, put_fixed32_unless_zero,
+    put_fixed64_unless_zero, put_head, put_number, put_number_unless_zero, put_text_unless_empty,
+    put_value,
 };
 use otel_proto_answers::{read_partial, read_status};
 use std::alloc::{AllocError, Global};
@@ -56,7 +57,7 @@ fn attributes<R: Print>(alloc: Global, lines: &Lines<'_, R>) -> Result<(), Alloc
 
 /// Fields before each other in one buffer, which is allocated first.
 fn output<R: Print>(alloc: Global, lines: &Lines<'_, R>) -> Result<(), AllocError> {
-    let mut out = Output::with_size(alloc, 49)?;
+    let mut out = Output::with_size(alloc, 54)?;
     let given = [KeyValue::new(Key::from("k"), Value::from(7))];
     let value = AnyValue::Int(7);
     lines.free_ok("put_number", put_number(&mut out, 1, 300));
@@ -65,6 +66,8 @@ fn output<R: Print>(alloc: Global, lines: &Lines<'_, R>) -> Result<(), AllocErro
     let time = put_fixed64_unless_zero(&mut out, 3, 1);
     lines.free_ok("put_fixed64_unless_zero", time);
     lines.free_ok("put_fixed32", put_fixed32(&mut out, 4, 1));
+    let flags = put_fixed32_unless_zero(&mut out, 4, 1);
+    lines.free_ok("put_fixed32_unless_zero", flags);
     lines.free_ok("put_bytes", put_bytes(&mut out, 5, b"a"));
     let some = put_bytes_unless_empty(&mut out, 6, b"a");
     lines.free_ok("put_bytes_unless_empty", some);

@@ -1,38 +1,48 @@
 use Rattle.std.proofs.Common.{◌≡◌, ◌-◌, Bool, List, ℕ, [], ◌∷◌, ◌++◌, codes, if◌then◌else◌, OnOk, append-nil, sym, ap, ◌∙◌, subst}
 use Rattle.std.proofs.lemmas.Bool.{ne_eqb}
+use Rattle.otel_base.specs.AnyValue as any
 use Rattle.otel_base.specs.View.{tree, trees_view, entries_view}
 use Rattle.otel_base.specs.declared.any_value.AnyValue.{AnyValue}
-use Rattle.otel_proto.specs.Common.{text_value}
+use Rattle.otel_base.proofs.shared.Views.{tree-Map}
 use Rattle.otel_proto.specs.Output.{Output, put, put_head, Puts}
-use Rattle.otel_proto.specs.Trees.{tree_value, list_values, map_values}
+use Rattle.otel_proto.specs.Trees.{cut, cut_trees, cut_entries, tree_value, list_values, map_values}
 use Rattle.otel_proto.specs.Wire.{Field}
 use Rattle.otel_proto.specs.Written.{message, messages, bytes_unless_empty}
 use Rattle.otel_proto.proofs.shared.Outputs.{put_none, put_more, put_both, put_message, one_less, all_done}
 use Rattle.otel_proto.proofs.TreeFields.{Entry, value_fields, entry_fields, list_view, map_view}
 use Rattle.otel_proto.proofs.trees.+tree.Goals as goal
 
+pub tree_value-returns-in-Map : goal.tree_value-returns-in-Map
+tree_value-returns-in-Map t c =
+    let same : any.map (entries_view c.deref-in-Map.result.now.entries) ≡ tree c.args.value.now =
+    ap (λ m. any.map (entries_view m.entries)) c.deref-in-Map.ensures
+    ∙ sym (tree-Map c.in-Map.entries) ∙ ap tree (sym c.in-Map.is) in
+    subst (λ (d : any.Tree). Puts c.map_value.result c.args.out.now c.map_value.new.out (tree_value (cut c.args.levels d))) same c.map_value.ensures
+
 pub list_value-returns : goal.list_value-returns
 list_value-returns t c =
-    let fields = list_values (c.args.levels - 1) (trees_view c.args.items.now.items) in
+    let inside = cut_trees (c.args.levels - 1) (trees_view c.args.items.now.items) in
+    let fields = list_values inside in
     let end = c.count-end.result in
     let o = c.args.out.now in
     let written : Puts c.put_head.result o c.put_head.new.out (message 5 fields ∷ []) =
     subst (λ (p : Output). OnOk c.put_head.result (c.put_head.new.out ≡ p))
     (ap (put_head 5 end) c.in_ok-list_values.ensures ∙ put_message 5 end fields o c.count-end.ensures)
     c.put_head.ensures in
-    subst (λ (b : Bool). Puts c.put_head.result o c.put_head.new.out (if b then text_value (codes "..") else message 5 fields ∷ []))
+    subst (λ (b : Bool). Puts c.put_head.result o c.put_head.new.out (tree_value (if b then any.text (codes "..") else any.list inside)))
     (sym (ne_eqb c.args.levels 0 c.if-levels-eq0.false)) written
 
 pub map_value-returns : goal.map_value-returns
 map_value-returns t c =
-    let fields = map_values (c.args.levels - 1) (entries_view c.args.entries.now.entries) in
+    let inside = cut_entries (c.args.levels - 1) (entries_view c.args.entries.now.entries) in
+    let fields = map_values inside in
     let end = c.count-end.result in
     let o = c.args.out.now in
     let written : Puts c.put_head.result o c.put_head.new.out (message 6 fields ∷ []) =
     subst (λ (p : Output). OnOk c.put_head.result (c.put_head.new.out ≡ p))
     (ap (put_head 6 end) c.in_ok-map_values.ensures ∙ put_message 6 end fields o c.count-end.ensures)
     c.put_head.ensures in
-    subst (λ (b : Bool). Puts c.put_head.result o c.put_head.new.out (if b then text_value (codes "..") else message 6 fields ∷ []))
+    subst (λ (b : Bool). Puts c.put_head.result o c.put_head.new.out (tree_value (if b then any.text (codes "..") else any.map inside)))
     (sym (ne_eqb c.args.levels 0 c.if-levels-eq0.false)) written
 
 pub list_values-loop-item-init : goal.list_values-loop-item-init
@@ -89,7 +99,7 @@ map_values-returns t c =
 pub put_pair-returns : goal.put_pair-returns
 put_pair-returns t c =
     let key = c.args.key.now in
-    let fields = tree_value c.args.levels (tree c.args.value.now) in
+    let fields = tree_value (cut c.args.levels (tree c.args.value.now)) in
     let end = c.count-end.result in
     let o = c.args.out.now in
     let value : c.put_head.new.out ≡ put (message 2 fields ∷ []) o =
