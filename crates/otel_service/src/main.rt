@@ -9,11 +9,24 @@ use clap::{ArgGroup, ArgMatches, Command, arg};
 use opentelemetry::logs::Logger;
 use otel_otlp::{AppendFile, OtlpJsonSpanExporter, pipe_exporter};
 use otel_sdk::EnvConfig;
-use otel_sdk::trace::{Build, SpanExporter, TracingBuilder, WithExporter};
+use otel_sdk::trace::{
+    BatchConfig, BatchConfigBuilder, Build, SpanExporter, TracingBuilder, WithExporter,
+};
 use otel_waterfall::WaterfallExporter;
 use service::{Call, NAME, logger, serve};
 use std::alloc::{AllocError, Global};
 use std::process::ExitCode;
+
+/// Returns the sizes of the exporter's queue and batches. Pictures are of all queued spans, so that
+/// none has only a part of a trace.
+fn batches(env: &EnvConfig, is_picture: bool) -> BatchConfig {
+    if !is_picture {
+        return env.span_batches.config();
+    }
+    let size = env.span_batches.max_queue_size as usize;
+    let builder = BatchConfigBuilder::default().with_max_queue_size(size);
+    builder.with_max_export_batch_size(size).build()
+}
 
 /// Answers the requests, and hands their spans to the exporter.
 fn run<E: SpanExporter, L: Logger>(
@@ -22,6 +35,7 @@ fn run<E: SpanExporter, L: Logger>(
     to: E,
 ) -> Result<ExitCode> {
     let spans = TracingBuilder::new(call.rt).with_env(call.rt.alloc(), call.env)?;
+    let spans = spans.with_batch_config(batches(call.env, matches.get_flag("waterfall")));
     if matches.get_flag("fixed") {
         // A millisecond from one reading of the clock to the next.
         let spans = spans.counted(1_000_000).with_exporter(to);
