@@ -14,7 +14,7 @@ use otel_otlp::OtlpJsonLogExporter;
 use otel_sdk::env::{ConfiguredPropagator, EnvConfig};
 use otel_sdk::error::OTelSdkResult;
 use otel_sdk::logs::{SimpleLogProcessor, SimpleLogger};
-use otel_sdk::trace::{ExportSchedule, Exports, SystemClock, finish};
+use otel_sdk::trace::{ExportSchedule, Exports, SpanProcessor, SystemClock, finish};
 use std::alloc::AllocError;
 use std::io::{self, Read, Stderr, Write};
 use std::process::ExitCode;
