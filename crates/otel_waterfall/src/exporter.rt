@@ -216,7 +216,8 @@ fn write_picture<W: WriterCalls>(
         return Ok(());
     }
     let text = picture_of(alloc, style, batch)?;
-    write_all(alloc, output, text.as_bytes())
+    write_all(alloc, output, text.as_bytes())?;
+    Ok(())
 }
 
 /// Flushes the writer.
