@@ -197,7 +197,7 @@ fn headers_that_no_variable_gives_may_be_refused(rt: HostRuntime) -> Result<(), 
     Ok(())
 }
 
-/// Texts of an endpoint, and the target of spans.
+/// Texts of an endpoint, and the path of the target of spans.
 const ENDPOINTS: [(&str, &str); 10] = [
     ("a:4318", "/v1/traces"),
     ("/b", "/v1/traces"),
@@ -221,7 +221,7 @@ fn no_endpoint_of_the_environment_is_refused(rt: HostRuntime) -> Result<(), Fail
     }
     let own = "OTEL_EXPORTER_OTLP_TRACES_ENDPOINT";
     for (text, target) in [
-        ("http://a?b", "/?b"),
+        ("http://a?b", "/"),
         ("http://a#b", "/"),
         ("a", "/v1/traces"),
     ] {

@@ -89,7 +89,7 @@ fn help_names_each_variable(rt: HostRuntime) -> Result<(), Fail> {
             assert!(rt; line.starts_with("    "));
         }
     }
-    assert_eq!(rt; named, 33);
+    assert_eq!(rt; named, 38);
     // Whatever is read from a faulty text is in the help.
     for name in [
         "OTEL_PROPAGATORS",
