@@ -105,7 +105,7 @@ fn export<R: Print>(alloc: Global, lines: &Lines<'_, R>) -> Result<(), AllocErro
 pub fn told(answer: OTelSdkResult) -> &'static str {
     match answer {
         Ok(()) => "ok",
-        Err(OTelSdkError::InternalFailure(_)) => "refused",
+        Err(OTelSdkError::InternalFailure(_) | OTelSdkError::Io(_)) => "refused",
         Err(OTelSdkError::Memory(_)) => "no memory",
         Err(_) => "another error",
     }
