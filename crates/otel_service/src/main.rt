@@ -62,14 +62,15 @@ fn command<'a>(alloc: Global) -> Result<Command<'a>, AllocError> {
 }
 
 /// Returns where the arguments send the spans.
-fn outlet<'a>(matches: &'a ArgMatches<'_>) -> &'a str {
+fn outlet(alloc: Global, matches: &ArgMatches<'_>) -> Result<String, AllocError> {
     if matches.get_flag("waterfall") {
-        return "standard error";
+        return String::from_str(alloc, "standard error");
     }
-    match matches.get_str("otlp") {
-        Some(folder) => folder,
-        None => matches.get_str("FILE").unwrap_or("/dev/null"),
+    if let Some(folder) = matches.get_str("otlp") {
+        return String::from_str(alloc, folder);
     }
+    let path = matches.get_str("FILE").unwrap_or("/dev/null");
+    String::from_str(alloc, path)
 }
 
 /// Answers the requests with the exporter that the arguments name.
@@ -89,13 +90,14 @@ fn export<L: Logger>(call: &Call<L>, matches: &ArgMatches<'_>) -> Result<ExitCod
 
 /// Answers the requests as the configuration and the arguments say.
 fn answer(rt: HostRuntime, env: &EnvConfig, matches: &ArgMatches<'_>) -> Result<ExitCode> {
+    let to = outlet(rt.alloc(), matches)?;
     let call = Call {
         rt,
         env,
         propagator: &env.propagator(rt.alloc())?,
         log: &logger(rt, env)?,
         is_lines: matches.get_flag("headers"),
-        to: outlet(matches),
+        to: to.as_str(),
     };
     export(&call, matches)
 }
